@@ -20,11 +20,11 @@ use Rattle.ts_core.proofs.lists.Comparisons.{lt_not}
 use Rattle.ts_core.proofs.lists.Places.{both_of, less_of}
 use Rattle.ts_core.specs.lists.Changes.{or_else}
 use Rattle.std.specs.Bool.{OnTrue, OnFalse}
-use Rattle.ts_cells.specs.Grids.{Lane, lane_of, cell_at, RowOf, held, cell_in, entries_of, RowsRise, cells_of_bucket, HasLost}
+use Rattle.ts_cells.specs.Grids.{RollupSeries, rollup_series_of, cell_at, RowOf, held, cell_in, entries_of, RowsRise, cells_of_bucket, HasLost}
 use Rattle.ts_cells.specs.Expiry.{HasEmptyFront, LosesOne, RemovesOne, IsAbove}
 use Rattle.ts_cells.specs.RowChanges.{NoWider}
 use Rattle.ts_cells.proofs.Searches.{find_below}
-use Rattle.ts_cells.proofs.GridLemmas.{get_at, get_none, same_grid, has_lane}
+use Rattle.ts_cells.proofs.GridLemmas.{get_at, get_none, same_grid, has_rollup_series}
 use Rattle.ts_cells.proofs.GridMoves.{RowPut, same_in, false_none, row_set, cells_here, all_at, all_set}
 
 int_less : (x y : ℤ) → int_cmp x y ≡ Less → x <ℤ y
@@ -148,29 +148,29 @@ module _ {P : Type 0} (rows : List (RowOf P)) (n : ℕ) (d r : RowOf P) (s : Row
 pub loses : {P : Type 0} (low : ℤ) (rows before after : List (RowOf P)) (i : ℤ) (cs : List (Option P)) → ((p : ℤ) (q : ℕ) → held (cells_of_bucket before p) q ≡ held (cells_of_bucket rows p) q) → i <ℤ low → RowPut before after i cs → HasLost (cells_of_bucket before i) cs → LosesOne low rows after
 loses low rows before after i cs same b moved l = record {
   index = i;
-  lane = l.lane;
+  series = l.series;
   below = b;
-  was = λ e. l.was (same i l.lane ∙ e);
+  was = λ e. l.was (same i l.series ∙ e);
   cells = λ p q.
       ap (λ xs. held xs q) (moved.cells p)
-      ∙ elim (eq_by_cmp int_cmp p i) as (λ x. eq_by_cmp int_cmp p i ≡ x → held (cond x cs (cells_of_bucket before p)) q ≡ cond (x && (q == l.lane)) None (held (cells_of_bucket rows p) q)) [
-        | true ↦ λ e. let h : p ≡ i = exact_signed p i (equal_of (int_cmp p i) e) in l.cells q ∙ ap (λ z. cond (q == l.lane) None z) (ap (λ z. held (cells_of_bucket before z) q) (sym h) ∙ same p q)
+      ∙ elim (eq_by_cmp int_cmp p i) as (λ x. eq_by_cmp int_cmp p i ≡ x → held (cond x cs (cells_of_bucket before p)) q ≡ cond (x && (q == l.series)) None (held (cells_of_bucket rows p) q)) [
+        | true ↦ λ e. let h : p ≡ i = exact_signed p i (equal_of (int_cmp p i) e) in l.cells q ∙ ap (λ z. cond (q == l.series) None z) (ap (λ z. held (cells_of_bucket before z) q) (sym h) ∙ same p q)
         | false ↦ λ e. same p q
       ] refl;
 }
 
 -- so the map lost that cell
-pub removes : {P : Type 0} (low : ℤ) (ls : List Lane) (rows after : List (RowOf P)) → AllDistinct ls → RowsRise rows → RowsRise after → ((i : ℤ) (j : ℕ) → held (cells_of_bucket rows i) j ≢ None → j < length ls) → LosesOne low rows after
+pub removes : {P : Type 0} (low : ℤ) (ls : List RollupSeries) (rows after : List (RowOf P)) → AllDistinct ls → RowsRise rows → RowsRise after → ((i : ℤ) (j : ℕ) → held (cells_of_bucket rows i) j ≢ None → j < length ls) → LosesOne low rows after
     → RemovesOne low (from_entries {R = cell_cmp} (entries_of ls rows)) (from_entries {R = cell_cmp} (entries_of ls after))
 removes low ls rows after d s t inside l =
-    let k : Cell = cell_in ls l.index l.lane in
-    let within : l.lane < length ls = inside l.index l.lane l.was in (
+    let k : Cell = cell_in ls l.index l.series in
+    let within : l.series < length ls = inside l.index l.series l.was in (
       k,
       l.below,
-      λ e. l.was (sym (get_at ls rows l.index l.lane d s within) ∙ e),
+      λ e. l.was (sym (get_at ls rows l.index l.series d s within) ∙ e),
       same_grid ls after (finmap.remove (from_entries {R = cell_cmp} (entries_of ls rows)) k) d t
-          (λ i j h. get-remove cells_total (from_entries (entries_of ls rows)) k (cell_in ls i j) ∙ ap₂ (λ b o. cond b None o) (same_in ls i l.index j l.lane d h within) (get_at ls rows i j d s h) ∙ sym (l.cells i j))
-          (λ q n. get-remove cells_total (from_entries (entries_of ls rows)) k q ∙ ap₂ (λ b o. cond b None o) (false_none ls l.index l.lane q within n) (get_none q ls rows n)),
+          (λ i j h. get-remove cells_total (from_entries (entries_of ls rows)) k (cell_in ls i j) ∙ ap₂ (λ b o. cond b None o) (same_in ls i l.index j l.series d h within) (get_at ls rows i j d s h) ∙ sym (l.cells i j))
+          (λ q n. get-remove cells_total (from_entries (entries_of ls rows)) k q ∙ ap₂ (λ b o. cond b None o) (false_none ls l.index l.series q within n) (get_none q ls rows n)),
     )
 
 held_within : {P : Type 0} (cs : List (Option P)) (j : ℕ) → held cs j ≢ None → j < length cs
@@ -194,8 +194,8 @@ pub on_false : {A B : Type 0} (b : Bool) → (A → B) → OnFalse b A → OnFal
 on_false true f a = tt
 on_false false f a = f a
 
-pub above_all : {P : Type 0} (low : ℤ) (ls : List Lane) (rows : List (RowOf P)) → AllDistinct ls → RowsRise rows → ((i : ℤ) (j : ℕ) → held (cells_of_bucket rows i) j ≢ None → low ≤ℤ i) → IsAbove low (from_entries {R = cell_cmp} (entries_of ls rows))
+pub above_all : {P : Type 0} (low : ℤ) (ls : List RollupSeries) (rows : List (RowOf P)) → AllDistinct ls → RowsRise rows → ((i : ℤ) (j : ℕ) → held (cells_of_bucket rows i) j ≢ None → low ≤ℤ i) → IsAbove low (from_entries {R = cell_cmp} (entries_of ls rows))
 above_all low ls rows d s h k n =
     ⊎_elim {C = low ≤ℤ k.index}
-    (λ p. h k.index p.0 (λ e. n (ap (λ (l : Lane). finmap.get (from_entries {R = cell_cmp} (entries_of ls rows)) (cell_at k.index l)) (sym p.2) ∙ get_at ls rows k.index p.0 d s p.1 ∙ e)))
-    (λ q. absurd (n (get_none k ls rows q))) (has_lane (lane_of k) ls)
+    (λ p. h k.index p.0 (λ e. n (ap (λ (l : RollupSeries). finmap.get (from_entries {R = cell_cmp} (entries_of ls rows)) (cell_at k.index l)) (sym p.2) ∙ get_at ls rows k.index p.0 d s p.1 ∙ e)))
+    (λ q. absurd (n (get_none k ls rows q))) (has_rollup_series (rollup_series_of k) ls)

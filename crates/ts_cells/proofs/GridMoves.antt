@@ -16,8 +16,8 @@ use Rattle.ts_core.proofs.plans.PieceCells.{cells_total, same_cell-eq, same_cell
 use Rattle.ts_core.proofs.lists.Places.{put_at, put_between, found_at}
 use Rattle.ts_core.proofs.lists.Comparisons.{same_bool}
 use Rattle.ts_core.specs.lists.Changes.{or_else, changed, with_change}
-use Rattle.ts_cells.specs.CellChanges.{roomy, with_room}
-use Rattle.ts_cells.specs.Grids.{Lane, no_lane, lane_of, cell_in, RowOf, held, entries_of, RowsRise, cells_of_bucket}
+use Rattle.ts_cells.specs.CellChanges.{inserted_if_absent, inserted_unless}
+use Rattle.ts_cells.specs.Grids.{RollupSeries, no_rollup_series, rollup_series_of, cell_in, RowOf, held, entries_of, RowsRise, cells_of_bucket}
 use Rattle.ts_cells.proofs.Searches.{missing}
 use Rattle.ts_cells.proofs.GridLemmas.{get_among, get_none, get_at, same_grid}
 
@@ -34,9 +34,9 @@ module _ {X : Type 0} where
         | Some x ↦ λ e. get-insert cells_total m k (f x) q
       ] refl
 
-  pub get-roomy : (m : FinMap cell_cmp X) (k : Cell) (x : X) (q : Cell) → get (roomy m k x) q ≡ cond (same_cell q k) (Some (or_else x (get m k))) (get m q)
-  get-roomy m k x q =
-      elim (get m k) as (λ o. get m k ≡ o → get (with_room m k x o) q ≡ cond (same_cell q k) (Some (or_else x o)) (get m q)) [
+  pub get-inserted_if_absent : (m : FinMap cell_cmp X) (k : Cell) (x : X) (q : Cell) → get (inserted_if_absent m k x) q ≡ cond (same_cell q k) (Some (or_else x (get m k))) (get m q)
+  get-inserted_if_absent m k x q =
+      elim (get m k) as (λ o. get m k ≡ o → get (inserted_unless m k x o) q ≡ cond (same_cell q k) (Some (or_else x o)) (get m q)) [
         | None ↦ λ e. get-insert cells_total m k x q
         | Some y ↦ λ e. elim (same_cell q k) as (λ b. same_cell q k ≡ b → get m q ≡ cond b (Some y) (get m q)) [
           | true ↦ λ h. ap (get m) (same_cell-eq q k h) ∙ e
@@ -104,9 +104,9 @@ module _ {P : Type 0} where
     ] refl;
   }
 
--- ---- cells of different buckets or lanes differ
+-- ---- cells of different buckets or rollup series differ
 
-distinct_at : (ls : List Lane) (j k : ℕ) → AllDistinct ls → j < length ls → k < length ls → get_or ls j no_lane ≡ get_or ls k no_lane → j ≡ k
+distinct_at : (ls : List RollupSeries) (j k : ℕ) → AllDistinct ls → j < length ls → k < length ls → get_or ls j no_rollup_series ≡ get_or ls k no_rollup_series → j ≡ k
 distinct_at [] j k d h i e = absurd (omega arith)
 distinct_at (l ∷ ls) zero zero d h i e = refl
 distinct_at (l ∷ ls) zero (suc k) d h i e = absurd (d.0 (subst (λ x. Among x ls) (sym e) (get_among ls k (omega arith))))
@@ -119,23 +119,23 @@ eqb_true j k e = grind arith
 eqb_from : (j k : ℕ) → (j == k) ≡ true → j ≡ k
 eqb_from j k e = grind arith
 
-pub same_in : (ls : List Lane) (p i : ℤ) (q j : ℕ) → AllDistinct ls → q < length ls → j < length ls → same_cell (cell_in ls p q) (cell_in ls i j) ≡ eq_by_cmp int_cmp p i && (q == j)
+pub same_in : (ls : List RollupSeries) (p i : ℤ) (q j : ℕ) → AllDistinct ls → q < length ls → j < length ls → same_cell (cell_in ls p q) (cell_in ls i j) ≡ eq_by_cmp int_cmp p i && (q == j)
 same_in ls p i q j d h k =
     same_bool (same_cell (cell_in ls p q) (cell_in ls i j)) (eq_by_cmp int_cmp p i && (q == j))
     (λ e. let c : cell_in ls p q ≡ cell_in ls i j = same_cell-eq (cell_in ls p q) (cell_in ls i j) e in
-    ap₂ (λ x y. x && y) (ap (λ x. eq_by_cmp int_cmp x i) (ap (λ (z : Cell). z.index) c) ∙ ap is_eq (tied_itself int_cmp_total i)) (eqb_true q j (distinct_at ls q j d h k (ap lane_of c))))
+    ap₂ (λ x y. x && y) (ap (λ x. eq_by_cmp int_cmp x i) (ap (λ (z : Cell). z.index) c) ∙ ap is_eq (tied_itself int_cmp_total i)) (eqb_true q j (distinct_at ls q j d h k (ap rollup_series_of c))))
     (λ e. let b = and_parts (eq_by_cmp int_cmp p i) (q == j) e in
     ap (λ z. same_cell z (cell_in ls i j)) (ap₂ (cell_in ls) (exact_signed p i (equal_of (int_cmp p i) b.0)) (eqb_from q j b.1)) ∙ same_cell-refl (cell_in ls i j))
 
-pub false_none : (ls : List Lane) (i : ℤ) (j : ℕ) (k : Cell) → j < length ls → (Among (lane_of k) ls → ⊥) → same_cell k (cell_in ls i j) ≡ false
+pub false_none : (ls : List RollupSeries) (i : ℤ) (j : ℕ) (k : Cell) → j < length ls → (Among (rollup_series_of k) ls → ⊥) → same_cell k (cell_in ls i j) ≡ false
 false_none ls i j k h n =
     elim (same_cell k (cell_in ls i j)) as (λ b. same_cell k (cell_in ls i j) ≡ b → b ≡ false) [
-      | true ↦ λ e. absurd (n (subst (λ l. Among l ls) (sym (ap lane_of (same_cell-eq k (cell_in ls i j) e))) (get_among ls j h)))
+      | true ↦ λ e. absurd (n (subst (λ l. Among l ls) (sym (ap rollup_series_of (same_cell-eq k (cell_in ls i j) e))) (get_among ls j h)))
       | false ↦ λ e. refl
     ] refl
 
--- one lane's cell put in one row
-pub grid_put : {P : Type 0} (ls : List Lane) (rows after : List (RowOf P)) (i : ℤ) (j : ℕ) (cs : List (Option P)) (v : Option P) (m : FinMap cell_cmp P) → AllDistinct ls → RowsRise rows → j < length ls → RowPut rows after i cs
+-- one rollup series' cell put in one row
+pub grid_put : {P : Type 0} (ls : List RollupSeries) (rows after : List (RowOf P)) (i : ℤ) (j : ℕ) (cs : List (Option P)) (v : Option P) (m : FinMap cell_cmp P) → AllDistinct ls → RowsRise rows → j < length ls → RowPut rows after i cs
     → ((q : ℕ) → held cs q ≡ cond (q == j) v (held (cells_of_bucket rows i) q)) → ((k : Cell) → get m k ≡ cond (same_cell k (cell_in ls i j)) v (get (from_entries {R = cell_cmp} (entries_of ls rows)) k))
     → from_entries {R = cell_cmp} (entries_of ls after) ≡ m
 grid_put ls rows after i j cs v m d s h moved here law =
@@ -149,7 +149,7 @@ grid_put ls rows after i j cs v m d s h moved here law =
     (λ k n. law k ∙ ap₂ (λ b o. cond b v o) (false_none ls i j k h n) (get_none k ls rows n))
 
 -- the same rows again, or an empty one more
-pub grid_kept : {P : Type 0} (ls : List Lane) (rows after : List (RowOf P)) → AllDistinct ls → RowsRise rows → RowsRise after → ((i : ℤ) (j : ℕ) → held (cells_of_bucket after i) j ≡ held (cells_of_bucket rows i) j)
+pub grid_kept : {P : Type 0} (ls : List RollupSeries) (rows after : List (RowOf P)) → AllDistinct ls → RowsRise rows → RowsRise after → ((i : ℤ) (j : ℕ) → held (cells_of_bucket after i) j ≡ held (cells_of_bucket rows i) j)
     → from_entries {R = cell_cmp} (entries_of ls after) ≡ from_entries {R = cell_cmp} (entries_of ls rows)
 grid_kept ls rows after d s t same = same_grid ls after (from_entries {R = cell_cmp} (entries_of ls rows)) d t (λ i j l. get_at ls rows i j d s l ∙ sym (same i j)) (λ k n. get_none k ls rows n)
 
@@ -162,8 +162,8 @@ row_unseen rows after i none moved q =
       | false ↦ λ e. refl
     ] refl
 
--- rows with the same cells at each bucket, but for empty lanes
-pub grid_same : {P : Type 0} (ls : List Lane) (rows after : List (RowOf P)) → AllDistinct ls → RowsRise rows → RowsRise after → ((i : ℤ) → cells_of_bucket after i ≡ cells_of_bucket rows i)
+-- rows with the same cells at each bucket, but for empty rollup series
+pub grid_same : {P : Type 0} (ls : List RollupSeries) (rows after : List (RowOf P)) → AllDistinct ls → RowsRise rows → RowsRise after → ((i : ℤ) → cells_of_bucket after i ≡ cells_of_bucket rows i)
     → from_entries {R = cell_cmp} (entries_of ls after) ≡ from_entries {R = cell_cmp} (entries_of ls rows)
 grid_same ls rows after d s t same = grid_kept ls rows after d s t (λ i j. ap (λ cs. held cs j) (same i))
 
@@ -176,5 +176,5 @@ row_kept rows after i cs moved same q j =
       | false ↦ λ e. refl
     ] refl
 
-pub least_of : (len before lane n : ℕ) → len ≤ max before (lane + 1) → before ≤ n → lane < n → len ≤ n
-least_of len before lane n h b w = omega arith
+pub least_of : (len before series n : ℕ) → len ≤ max before (series + 1) → before ≤ n → series < n → len ≤ n
+least_of len before series n h b w = omega arith

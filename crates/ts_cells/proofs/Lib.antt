@@ -2,12 +2,12 @@
 pub mod GridMoves
 pub mod GridLemmas
 pub mod Searches
--- Lanes: their indices in order
-pub mod LaneOrder
-pub mod LaneLemmas
--- Rows: cells by the positions of their lanes
+-- Rollup series: their indices in order
+pub mod RollupSeriesOrder
+pub mod RollupSeriesLemmas
+-- Rows: cells by the positions of their rollup series
 pub mod RowLemmas
-pub mod PlaceLemmas
+pub mod SlotLemmas
 -- Expiry: removal of cells
 pub mod Sweeps
 pub mod ExpiryLemmas

@@ -1,4 +1,4 @@
--- Cells in creation order, by the positions of their lanes.
+-- Cells in creation order, by the positions of their rollup series.
 use Rattle.std.proofs.Common.{◌≡◌, ◌≢◌, ℕ, zero, suc, ◌<◌, ◌≤◌, ◌+◌, ◌==◌, true, false, cond, List, [], ◌∷◌, ◌++◌, length, length-append, get_or, set, take, refl, sym, ◌∙◌, ap, subst, Option, Some, None, option_map, ⊎_elim, true≢false, arith}
 use Rattle.std.specs.List.{slice_get}
 use Rattle.std.proofs.lemmas.Option.{slice_get_past, slice_get-get_or}
@@ -7,7 +7,7 @@ use Rattle.std.proofs.lemmas.Bool.{cases_lt}
 use Rattle.std.proofs.Math.Seq.{get_or-append_seam}
 use Rattle.ts_core.specs.lists.Changes.{or_else}
 use Rattle.ts_cells.specs.Grids.{held, HasLost}
-use Rattle.ts_cells.specs.Rows.{no_place, place_of, by_lane, IsPlaced}
+use Rattle.ts_cells.specs.Rows.{no_slot, slot_of, by_series, IsSlotMap}
 
 same_number : (j k : ℕ) → (j == k) ≡ true → j ≡ k
 same_number j k e = grind arith
@@ -53,115 +53,115 @@ module _ {P : Type 0} where
   no_part (x ∷ xs) zero h e = let f : Some x ≡ None = e in cc
   no_part (x ∷ xs) (suc q) h e = no_part xs q (omega arith) e
 
-  -- the part of a lane is at its place
-  pub held_at : (parts : List P) (places : List ℕ) (j : ℕ) → length parts ≤ no_place → held (by_lane parts places) j ≡ slice_get parts (place_of places j)
-  held_at parts [] j h = sym (slice_get_past parts no_place h)
+  -- the part of a rollup series is at its place
+  pub held_at : (parts : List P) (slots : List ℕ) (j : ℕ) → length parts ≤ no_slot → held (by_series parts slots) j ≡ slice_get parts (slot_of slots j)
+  held_at parts [] j h = sym (slice_get_past parts no_slot h)
   held_at parts (p ∷ ps) zero h = refl
   held_at parts (p ∷ ps) (suc j) h = held_at parts ps j h
 
 -- ---- places
 
--- a lane more, that had no cell
-module _ (places lanes after : List ℕ) (lane count : ℕ) (is : IsPlaced places lanes count) (absent : count ≤ place_of places lane) (room : count < no_place) (put : (j : ℕ) → place_of after j ≡ cond (j == lane) count (place_of places j)) where
-  made_there : (n : ℕ) → n < count + 1 → place_of after (get_or (lanes ++ lane ∷ []) n 0) ≡ n
+-- a rollup series more, that had no cell
+module _ (slots series_list after : List ℕ) (series count : ℕ) (is : IsSlotMap slots series_list count) (absent : count ≤ slot_of slots series) (spare : count < no_slot) (put : (j : ℕ) → slot_of after j ≡ cond (j == series) count (slot_of slots j)) where
+  made_there : (n : ℕ) → n < count + 1 → slot_of after (get_or (series_list ++ series ∷ []) n 0) ≡ n
   made_there n h =
-      ⊎_elim {C = place_of after (get_or (lanes ++ lane ∷ []) n 0) ≡ n}
+      ⊎_elim {C = slot_of after (get_or (series_list ++ series ∷ []) n 0) ≡ n}
       (λ (l : n < count).
-      let old : place_of places (get_or lanes n 0) ≡ n = is.there n l in
-      let at : get_or (lanes ++ lane ∷ []) n 0 ≡ get_or lanes n 0 = get_or_append_left lanes (lane ∷ []) 0 n (let m = is.as_many in omega arith) in
-      ap (place_of after) at
-      ∙ put (get_or lanes n 0)
-      ∙ elim (get_or lanes n 0 == lane) as (λ b. (get_or lanes n 0 == lane) ≡ b → cond b count (place_of places (get_or lanes n 0)) ≡ n) [
-        | true ↦ λ e. absurd (let q : place_of places lane ≡ n = sym (ap (place_of places) (same_number (get_or lanes n 0) lane e)) ∙ old in omega arith)
+      let old : slot_of slots (get_or series_list n 0) ≡ n = is.there n l in
+      let at : get_or (series_list ++ series ∷ []) n 0 ≡ get_or series_list n 0 = get_or_append_left series_list (series ∷ []) 0 n (let m = is.as_many in omega arith) in
+      ap (slot_of after) at
+      ∙ put (get_or series_list n 0)
+      ∙ elim (get_or series_list n 0 == series) as (λ b. (get_or series_list n 0 == series) ≡ b → cond b count (slot_of slots (get_or series_list n 0)) ≡ n) [
+        | true ↦ λ e. absurd (let q : slot_of slots series ≡ n = sym (ap (slot_of slots) (same_number (get_or series_list n 0) series e)) ∙ old in omega arith)
         | false ↦ λ e. old
       ] refl)
       (λ (g : count ≤ n).
-      let here : n ≡ length lanes = let m = is.as_many in omega arith in
-      let at : get_or (lanes ++ lane ∷ []) n 0 ≡ lane = ap (λ k. get_or (lanes ++ lane ∷ []) k 0) here ∙ get_or-append_seam lanes lane [] 0 in
-      ap (place_of after) at ∙ put lane ∙ ap (λ b. cond b count (place_of places lane)) (number_itself lane lane refl) ∙ sym is.as_many ∙ sym here)
+      let here : n ≡ length series_list = let m = is.as_many in omega arith in
+      let at : get_or (series_list ++ series ∷ []) n 0 ≡ series = ap (λ k. get_or (series_list ++ series ∷ []) k 0) here ∙ get_or-append_seam series_list series [] 0 in
+      ap (slot_of after) at ∙ put series ∙ ap (λ b. cond b count (slot_of slots series)) (number_itself series series refl) ∙ sym is.as_many ∙ sym here)
       (cases_lt n count)
 
-  made_back : (j : ℕ) → place_of after j < count + 1 → get_or (lanes ++ lane ∷ []) (place_of after j) 0 ≡ j
+  made_back : (j : ℕ) → slot_of after j < count + 1 → get_or (series_list ++ series ∷ []) (slot_of after j) 0 ≡ j
   made_back j h =
-      elim (j == lane) as (λ b. (j == lane) ≡ b → get_or (lanes ++ lane ∷ []) (place_of after j) 0 ≡ j) [
-        | true ↦ λ e. ap (λ k. get_or (lanes ++ lane ∷ []) k 0) (put j ∙ ap (λ b. cond b count (place_of places j)) e ∙ sym is.as_many) ∙ get_or-append_seam lanes lane [] 0 ∙ sym (same_number j lane e)
+      elim (j == series) as (λ b. (j == series) ≡ b → get_or (series_list ++ series ∷ []) (slot_of after j) 0 ≡ j) [
+        | true ↦ λ e. ap (λ k. get_or (series_list ++ series ∷ []) k 0) (put j ∙ ap (λ b. cond b count (slot_of slots j)) e ∙ sym is.as_many) ∙ get_or-append_seam series_list series [] 0 ∙ sym (same_number j series e)
         | false ↦ λ e.
-            let at : place_of after j ≡ place_of places j = put j ∙ ap (λ b. cond b count (place_of places j)) e in
-            let few : place_of places j < count =
-            ⊎_elim {C = place_of places j < count} (λ l. l) (λ (g : count ≤ place_of places j). let n = is.none j g in absurd (omega arith)) (cases_lt (place_of places j) count) in
-            ap (λ k. get_or (lanes ++ lane ∷ []) k 0) at ∙ get_or_append_left lanes (lane ∷ []) 0 (place_of places j) (let m = is.as_many in omega arith) ∙ is.back j few
+            let at : slot_of after j ≡ slot_of slots j = put j ∙ ap (λ b. cond b count (slot_of slots j)) e in
+            let few : slot_of slots j < count =
+            ⊎_elim {C = slot_of slots j < count} (λ l. l) (λ (g : count ≤ slot_of slots j). let n = is.none j g in absurd (omega arith)) (cases_lt (slot_of slots j) count) in
+            ap (λ k. get_or (series_list ++ series ∷ []) k 0) at ∙ get_or_append_left series_list (series ∷ []) 0 (slot_of slots j) (let m = is.as_many in omega arith) ∙ is.back j few
       ] refl
 
-  made_none : (j : ℕ) → count + 1 ≤ place_of after j → place_of after j ≡ no_place
+  made_none : (j : ℕ) → count + 1 ≤ slot_of after j → slot_of after j ≡ no_slot
   made_none j h =
-      elim (j == lane) as (λ b. (j == lane) ≡ b → place_of after j ≡ no_place) [
-        | true ↦ λ e. absurd (let at : place_of after j ≡ count = put j ∙ ap (λ b. cond b count (place_of places j)) e in omega arith)
+      elim (j == series) as (λ b. (j == series) ≡ b → slot_of after j ≡ no_slot) [
+        | true ↦ λ e. absurd (let at : slot_of after j ≡ count = put j ∙ ap (λ b. cond b count (slot_of slots j)) e in omega arith)
         | false ↦ λ e.
-            let at : place_of after j ≡ place_of places j = put j ∙ ap (λ b. cond b count (place_of places j)) e in
+            let at : slot_of after j ≡ slot_of slots j = put j ∙ ap (λ b. cond b count (slot_of slots j)) e in
             at ∙ is.none j (omega arith)
       ] refl
 
-  pub made_placed : IsPlaced after (lanes ++ lane ∷ []) (count + 1)
-  made_placed = record {
+  pub made_mapped : IsSlotMap after (series_list ++ series ∷ []) (count + 1)
+  made_mapped = record {
     few = omega arith;
-    as_many = length-append lanes (lane ∷ []) ∙ ap (λ n. n + 1) is.as_many;
+    as_many = length-append series_list (series ∷ []) ∙ ap (λ n. n + 1) is.as_many;
     there = made_there;
     back = made_back;
     none = made_none;
   }
 
--- the lane of the last cell, without it
-module _ (places lanes front : List ℕ) (lane count : ℕ) (is : IsPlaced places lanes count) (last : lanes ≡ front ++ lane ∷ []) where
+-- the rollup series of the last cell, without it
+module _ (slots series_list front : List ℕ) (series count : ℕ) (is : IsSlotMap slots series_list count) (last : series_list ≡ front ++ series ∷ []) where
   one_more : count ≡ length front + 1
-  one_more = sym is.as_many ∙ ap length last ∙ length-append front (lane ∷ [])
+  one_more = sym is.as_many ∙ ap length last ∙ length-append front (series ∷ [])
 
-  last_place : place_of places lane ≡ length front
-  last_place = ap (place_of places) (sym (ap (λ ls. get_or ls (length front) 0) last ∙ get_or-append_seam front lane [] 0)) ∙ is.there (length front) (let m = one_more in omega arith)
+  last_slot : slot_of slots series ≡ length front
+  last_slot = ap (slot_of slots) (sym (ap (λ ls. get_or ls (length front) 0) last ∙ get_or-append_seam front series [] 0)) ∙ is.there (length front) (let m = one_more in omega arith)
 
-  -- no other lane has that place
-  last_alone : (j : ℕ) → place_of places j ≡ length front → j ≡ lane
+  -- no other rollup series has that place
+  last_alone : (j : ℕ) → slot_of slots j ≡ length front → j ≡ series
   last_alone j e =
-      sym (is.back j (let m = one_more in omega arith)) ∙ ap (λ k. get_or lanes k 0) e ∙ ap (λ ls. get_or ls (length front) 0) last ∙ get_or-append_seam front lane [] 0
+      sym (is.back j (let m = one_more in omega arith)) ∙ ap (λ k. get_or series_list k 0) e ∙ ap (λ ls. get_or ls (length front) 0) last ∙ get_or-append_seam front series [] 0
 
-  pub gone_few : (j : ℕ) → (j == lane) ≡ false → place_of places j < count → place_of places j < length front
+  pub gone_few : (j : ℕ) → (j == series) ≡ false → slot_of slots j < count → slot_of slots j < length front
   gone_few j e h =
-      ⊎_elim {C = place_of places j < length front} (λ l. l)
-      (λ (g : length front ≤ place_of places j). absurd (other_number j lane e (last_alone j (let m = one_more in omega arith)))) (cases_lt (place_of places j) (length front))
+      ⊎_elim {C = slot_of slots j < length front} (λ l. l)
+      (λ (g : length front ≤ slot_of slots j). absurd (other_number j series e (last_alone j (let m = one_more in omega arith)))) (cases_lt (slot_of slots j) (length front))
 
-  module _ (after : List ℕ) (gone : (j : ℕ) → place_of after j ≡ cond (j == lane) no_place (place_of places j)) where
-    gone_there : (n : ℕ) → n < length front → place_of after (get_or front n 0) ≡ n
+  module _ (after : List ℕ) (gone : (j : ℕ) → slot_of after j ≡ cond (j == series) no_slot (slot_of slots j)) where
+    gone_there : (n : ℕ) → n < length front → slot_of after (get_or front n 0) ≡ n
     gone_there n h =
-        let at : get_or lanes n 0 ≡ get_or front n 0 = ap (λ ls. get_or ls n 0) last ∙ get_or_append_left front (lane ∷ []) 0 n h in
-        let old : place_of places (get_or front n 0) ≡ n = ap (place_of places) (sym at) ∙ is.there n (let m = one_more in omega arith) in
+        let at : get_or series_list n 0 ≡ get_or front n 0 = ap (λ ls. get_or ls n 0) last ∙ get_or_append_left front (series ∷ []) 0 n h in
+        let old : slot_of slots (get_or front n 0) ≡ n = ap (slot_of slots) (sym at) ∙ is.there n (let m = one_more in omega arith) in
         gone (get_or front n 0)
-        ∙ elim (get_or front n 0 == lane) as (λ b. (get_or front n 0 == lane) ≡ b → cond b no_place (place_of places (get_or front n 0)) ≡ n) [
-          | true ↦ λ e. absurd (let q : place_of places lane ≡ n = sym (ap (place_of places) (same_number (get_or front n 0) lane e)) ∙ old in let p = last_place in omega arith)
+        ∙ elim (get_or front n 0 == series) as (λ b. (get_or front n 0 == series) ≡ b → cond b no_slot (slot_of slots (get_or front n 0)) ≡ n) [
+          | true ↦ λ e. absurd (let q : slot_of slots series ≡ n = sym (ap (slot_of slots) (same_number (get_or front n 0) series e)) ∙ old in let p = last_slot in omega arith)
           | false ↦ λ e. old
         ] refl
 
-    gone_back : (j : ℕ) → place_of after j < length front → get_or front (place_of after j) 0 ≡ j
+    gone_back : (j : ℕ) → slot_of after j < length front → get_or front (slot_of after j) 0 ≡ j
     gone_back j h =
-        elim (j == lane) as (λ b. (j == lane) ≡ b → get_or front (place_of after j) 0 ≡ j) [
-          | true ↦ λ e. absurd (let at : place_of after j ≡ no_place = gone j ∙ ap (λ b. cond b no_place (place_of places j)) e in let f = is.few in let m = one_more in omega arith)
+        elim (j == series) as (λ b. (j == series) ≡ b → get_or front (slot_of after j) 0 ≡ j) [
+          | true ↦ λ e. absurd (let at : slot_of after j ≡ no_slot = gone j ∙ ap (λ b. cond b no_slot (slot_of slots j)) e in let f = is.few in let m = one_more in omega arith)
           | false ↦ λ e.
-              let at : place_of after j ≡ place_of places j = gone j ∙ ap (λ b. cond b no_place (place_of places j)) e in
-              let few : place_of places j < length front = omega arith in
-              ap (λ k. get_or front k 0) at ∙ sym (ap (λ ls. get_or ls (place_of places j) 0) last ∙ get_or_append_left front (lane ∷ []) 0 (place_of places j) few) ∙ is.back j (let m = one_more in omega arith)
+              let at : slot_of after j ≡ slot_of slots j = gone j ∙ ap (λ b. cond b no_slot (slot_of slots j)) e in
+              let few : slot_of slots j < length front = omega arith in
+              ap (λ k. get_or front k 0) at ∙ sym (ap (λ ls. get_or ls (slot_of slots j) 0) last ∙ get_or_append_left front (series ∷ []) 0 (slot_of slots j) few) ∙ is.back j (let m = one_more in omega arith)
         ] refl
 
-    gone_none : (j : ℕ) → length front ≤ place_of after j → place_of after j ≡ no_place
+    gone_none : (j : ℕ) → length front ≤ slot_of after j → slot_of after j ≡ no_slot
     gone_none j h =
-        elim (j == lane) as (λ b. (j == lane) ≡ b → place_of after j ≡ no_place) [
-          | true ↦ λ e. gone j ∙ ap (λ b. cond b no_place (place_of places j)) e
+        elim (j == series) as (λ b. (j == series) ≡ b → slot_of after j ≡ no_slot) [
+          | true ↦ λ e. gone j ∙ ap (λ b. cond b no_slot (slot_of slots j)) e
           | false ↦ λ e.
-              let at : place_of after j ≡ place_of places j = gone j ∙ ap (λ b. cond b no_place (place_of places j)) e in
-              at ∙ ⊎_elim {C = place_of places j ≡ no_place} (λ (l : place_of places j < count). absurd (let g = gone_few j e l in omega arith)) (λ g. is.none j g) (cases_lt (place_of places j) count)
+              let at : slot_of after j ≡ slot_of slots j = gone j ∙ ap (λ b. cond b no_slot (slot_of slots j)) e in
+              at ∙ ⊎_elim {C = slot_of slots j ≡ no_slot} (λ (l : slot_of slots j < count). absurd (let g = gone_few j e l in omega arith)) (λ g. is.none j g) (cases_lt (slot_of slots j) count)
         ] refl
 
-    pub gone_placed : (n : ℕ) → n + 1 ≡ count → IsPlaced after front n
-    gone_placed n e =
+    pub gone_mapped : (n : ℕ) → n + 1 ≡ count → IsSlotMap after front n
+    gone_mapped n e =
         let m : n ≡ length front = let o = one_more in omega arith in
-        subst (IsPlaced after front) (sym m) (record {
+        subst (IsSlotMap after front) (sym m) (record {
           few = let f = is.few in let o = one_more in omega arith;
           as_many = refl;
           there = gone_there;
@@ -172,84 +172,84 @@ module _ (places lanes front : List ℕ) (lane count : ℕ) (is : IsPlaced place
 -- ---- the parts afterwards
 
 module _ {P : Type 0} where
-  -- a lane without a place has no cell
-  pub none_held : (parts : List P) (places : List ℕ) (lane : ℕ) → length parts ≤ no_place → length parts ≤ place_of places lane → held (by_lane parts places) lane ≡ None
-  none_held parts places lane f h = held_at parts places lane f ∙ slice_get_past parts (place_of places lane) h
+  -- a rollup series without a place has no cell
+  pub none_held : (parts : List P) (slots : List ℕ) (series : ℕ) → length parts ≤ no_slot → length parts ≤ slot_of slots series → held (by_series parts slots) series ≡ None
+  none_held parts slots series f h = held_at parts slots series f ∙ slice_get_past parts (slot_of slots series) h
 
   -- nothing changes where there is no cell
-  pub none_put : (cs : List (Option P)) (lane j : ℕ) (f : P → P) → held cs lane ≡ None → held cs j ≡ cond (j == lane) (option_map f (held cs lane)) (held cs j)
-  none_put cs lane j f h =
-      elim (j == lane) as (λ b. (j == lane) ≡ b → held cs j ≡ cond b (option_map f (held cs lane)) (held cs j)) [
-        | true ↦ λ e. ap (held cs) (same_number j lane e) ∙ h ∙ ap (option_map f) (sym h)
+  pub none_put : (cs : List (Option P)) (series j : ℕ) (f : P → P) → held cs series ≡ None → held cs j ≡ cond (j == series) (option_map f (held cs series)) (held cs j)
+  none_put cs series j f h =
+      elim (j == series) as (λ b. (j == series) ≡ b → held cs j ≡ cond b (option_map f (held cs series)) (held cs j)) [
+        | true ↦ λ e. ap (held cs) (same_number j series e) ∙ h ∙ ap (option_map f) (sym h)
         | false ↦ λ e. refl
       ] refl
 
-  stays : (cs : List (Option P)) (lane j : ℕ) (x y : P) → held cs lane ≡ Some y → held cs j ≡ cond (j == lane) (Some (or_else x (held cs lane))) (held cs j)
-  stays cs lane j x y h =
-      elim (j == lane) as (λ b. (j == lane) ≡ b → held cs j ≡ cond b (Some (or_else x (held cs lane))) (held cs j)) [
-        | true ↦ λ e. ap (held cs) (same_number j lane e) ∙ h ∙ ap (λ o. Some (or_else x o)) (sym h)
+  stays : (cs : List (Option P)) (series j : ℕ) (x y : P) → held cs series ≡ Some y → held cs j ≡ cond (j == series) (Some (or_else x (held cs series))) (held cs j)
+  stays cs series j x y h =
+      elim (j == series) as (λ b. (j == series) ≡ b → held cs j ≡ cond b (Some (or_else x (held cs series))) (held cs j)) [
+        | true ↦ λ e. ap (held cs) (same_number j series e) ∙ h ∙ ap (λ o. Some (or_else x o)) (sym h)
         | false ↦ λ e. refl
       ] refl
 
   -- a cell that is there stays where room is made
-  pub some_kept : (parts : List P) (places : List ℕ) (lane j : ℕ) (x : P) → length parts ≤ no_place → place_of places lane < length parts
-      → held (by_lane parts places) j ≡ cond (j == lane) (Some (or_else x (held (by_lane parts places) lane))) (held (by_lane parts places) j)
-  some_kept parts places lane j x f h =
-      stays (by_lane parts places) lane j x (get_or parts (place_of places lane) x) (held_at parts places lane f ∙ slice_get-get_or parts (place_of places lane) x h)
+  pub some_kept : (parts : List P) (slots : List ℕ) (series j : ℕ) (x : P) → length parts ≤ no_slot → slot_of slots series < length parts
+      → held (by_series parts slots) j ≡ cond (j == series) (Some (or_else x (held (by_series parts slots) series))) (held (by_series parts slots) j)
+  some_kept parts slots series j x f h =
+      stays (by_series parts slots) series j x (get_or parts (slot_of slots series) x) (held_at parts slots series f ∙ slice_get-get_or parts (slot_of slots series) x h)
 
-  -- the same places, for more lanes
-  pub same_held : (parts : List P) (places after : List ℕ) (j : ℕ) → length parts ≤ no_place → ((j : ℕ) → place_of after j ≡ place_of places j) → held (by_lane parts after) j ≡ held (by_lane parts places) j
-  same_held parts places after j f same = held_at parts after j f ∙ ap (slice_get parts) (same j) ∙ sym (held_at parts places j f)
+  -- the same places, for more rollup series
+  pub same_held : (parts : List P) (slots after : List ℕ) (j : ℕ) → length parts ≤ no_slot → ((j : ℕ) → slot_of after j ≡ slot_of slots j) → held (by_series parts after) j ≡ held (by_series parts slots) j
+  same_held parts slots after j f same = held_at parts after j f ∙ ap (slice_get parts) (same j) ∙ sym (held_at parts slots j f)
 
   -- one cell has another part
-  pub part_put : (parts : List P) (places lanes : List ℕ) (lane p : ℕ) (v : P) → IsPlaced places lanes (length parts) → p ≡ place_of places lane → p < length parts → (j : ℕ)
-      → held (by_lane (set parts p v) places) j ≡ cond (j == lane) (Some v) (held (by_lane parts places) j)
-  part_put parts places lanes lane p v is at h j =
-      held_at (set parts p v) places j (let f = is.few in let l = length-set parts p v in omega arith)
-      ∙ elim (j == lane) as (λ b. (j == lane) ≡ b → slice_get (set parts p v) (place_of places j) ≡ cond b (Some v) (held (by_lane parts places) j)) [
-        | true ↦ λ e. ap (slice_get (set parts p v)) (ap (place_of places) (same_number j lane e) ∙ sym at) ∙ this_part parts p v h
+  pub part_put : (parts : List P) (slots series_list : List ℕ) (series p : ℕ) (v : P) → IsSlotMap slots series_list (length parts) → p ≡ slot_of slots series → p < length parts → (j : ℕ)
+      → held (by_series (set parts p v) slots) j ≡ cond (j == series) (Some v) (held (by_series parts slots) j)
+  part_put parts slots series_list series p v is at h j =
+      held_at (set parts p v) slots j (let f = is.few in let l = length-set parts p v in omega arith)
+      ∙ elim (j == series) as (λ b. (j == series) ≡ b → slice_get (set parts p v) (slot_of slots j) ≡ cond b (Some v) (held (by_series parts slots) j)) [
+        | true ↦ λ e. ap (slice_get (set parts p v)) (ap (slot_of slots) (same_number j series e) ∙ sym at) ∙ this_part parts p v h
         | false ↦ λ e.
-            other_part parts p (place_of places j) v (λ q. other_number j lane e (sym (is.back j (omega arith)) ∙ ap (λ k. get_or lanes k 0) (q ∙ at) ∙ is.back lane (omega arith)))
-            ∙ sym (held_at parts places j is.few)
+            other_part parts p (slot_of slots j) v (λ q. other_number j series e (sym (is.back j (omega arith)) ∙ ap (λ k. get_or series_list k 0) (q ∙ at) ∙ is.back series (omega arith)))
+            ∙ sym (held_at parts slots j is.few)
       ] refl
 
   -- one cell is made
-  pub part_made : (parts : List P) (places lanes after : List ℕ) (lane : ℕ) (x : P) → IsPlaced places lanes (length parts) → length parts ≤ place_of places lane → length parts < no_place
-      → ((j : ℕ) → place_of after j ≡ cond (j == lane) (length parts) (place_of places j)) → (j : ℕ) → held (by_lane (parts ++ x ∷ []) after) j ≡ cond (j == lane) (Some x) (held (by_lane parts places) j)
-  part_made parts places lanes after lane x is absent room put j =
+  pub part_made : (parts : List P) (slots series_list after : List ℕ) (series : ℕ) (x : P) → IsSlotMap slots series_list (length parts) → length parts ≤ slot_of slots series → length parts < no_slot
+      → ((j : ℕ) → slot_of after j ≡ cond (j == series) (length parts) (slot_of slots j)) → (j : ℕ) → held (by_series (parts ++ x ∷ []) after) j ≡ cond (j == series) (Some x) (held (by_series parts slots) j)
+  part_made parts slots series_list after series x is absent spare put j =
       let long : length (parts ++ x ∷ []) ≡ length parts + 1 = length-append parts (x ∷ []) in
       held_at (parts ++ x ∷ []) after j (omega arith)
       ∙ ap (slice_get (parts ++ x ∷ [])) (put j)
-      ∙ elim (j == lane) as (λ b. slice_get (parts ++ x ∷ []) (cond b (length parts) (place_of places j)) ≡ cond b (Some x) (held (by_lane parts places) j)) [
+      ∙ elim (j == series) as (λ b. slice_get (parts ++ x ∷ []) (cond b (length parts) (slot_of slots j)) ≡ cond b (Some x) (held (by_series parts slots) j)) [
         | true ↦ last_part parts x
         | false ↦
-            ⊎_elim {C = slice_get (parts ++ x ∷ []) (place_of places j) ≡ held (by_lane parts places) j}
-            (λ (l : place_of places j < length parts). part_before parts (x ∷ []) (place_of places j) l ∙ sym (held_at parts places j is.few))
-            (λ (g : length parts ≤ place_of places j). slice_get_past (parts ++ x ∷ []) (place_of places j) (let n = is.none j g in omega arith) ∙ sym (none_held parts places j is.few g))
-            (cases_lt (place_of places j) (length parts))
+            ⊎_elim {C = slice_get (parts ++ x ∷ []) (slot_of slots j) ≡ held (by_series parts slots) j}
+            (λ (l : slot_of slots j < length parts). part_before parts (x ∷ []) (slot_of slots j) l ∙ sym (held_at parts slots j is.few))
+            (λ (g : length parts ≤ slot_of slots j). slice_get_past (parts ++ x ∷ []) (slot_of slots j) (let n = is.none j g in omega arith) ∙ sym (none_held parts slots j is.few g))
+            (cases_lt (slot_of slots j) (length parts))
       ]
 
   -- the last cell is removed
-  pub part_lost : (parts : List P) (places lanes front after : List ℕ) (lane n : ℕ) → IsPlaced places lanes (length parts) → lanes ≡ front ++ lane ∷ [] → n + 1 ≡ length parts
-      → ((j : ℕ) → place_of after j ≡ cond (j == lane) no_place (place_of places j)) → HasLost (by_lane parts places) (by_lane (take n parts) after)
-  part_lost parts places lanes front after lane n is last e gone =
-      let many : length parts ≡ length front + 1 = one_more places lanes front lane (length parts) is last in
+  pub part_lost : (parts : List P) (slots series_list front after : List ℕ) (series n : ℕ) → IsSlotMap slots series_list (length parts) → series_list ≡ front ++ series ∷ [] → n + 1 ≡ length parts
+      → ((j : ℕ) → slot_of after j ≡ cond (j == series) no_slot (slot_of slots j)) → HasLost (by_series parts slots) (by_series (take n parts) after)
+  part_lost parts slots series_list front after series n is last e gone =
+      let many : length parts ≡ length front + 1 = one_more slots series_list front series (length parts) is last in
       let short : length (take n parts) ≡ n = length-take-le n parts (omega arith) in
       record {
-        lane = lane;
+        series = series;
         was = λ none.
-            let here : place_of places lane ≡ length front = last_place places lanes front lane (length parts) is last in
-            let some : slice_get parts (place_of places lane) ≡ None = sym (held_at parts places lane is.few) ∙ none in
-            no_part parts (place_of places lane) (omega arith) some;
+            let here : slot_of slots series ≡ length front = last_slot slots series_list front series (length parts) is last in
+            let some : slice_get parts (slot_of slots series) ≡ None = sym (held_at parts slots series is.few) ∙ none in
+            no_part parts (slot_of slots series) (omega arith) some;
         cells = λ j.
             held_at (take n parts) after j (let f = is.few in omega arith)
             ∙ ap (slice_get (take n parts)) (gone j)
-            ∙ elim (j == lane) as (λ b. (j == lane) ≡ b → slice_get (take n parts) (cond b no_place (place_of places j)) ≡ cond b None (held (by_lane parts places) j)) [
-              | true ↦ λ h. slice_get_past (take n parts) no_place (let f = is.few in omega arith)
+            ∙ elim (j == series) as (λ b. (j == series) ≡ b → slice_get (take n parts) (cond b no_slot (slot_of slots j)) ≡ cond b None (held (by_series parts slots) j)) [
+              | true ↦ λ h. slice_get_past (take n parts) no_slot (let f = is.few in omega arith)
               | false ↦ λ h.
-                  ⊎_elim {C = slice_get (take n parts) (place_of places j) ≡ held (by_lane parts places) j}
-                  (λ (l : place_of places j < length parts). part_kept parts n (place_of places j) (let g = gone_few places lanes front lane (length parts) is last j h l in omega arith) ∙ sym (held_at parts places j is.few))
-                  (λ (g : length parts ≤ place_of places j). slice_get_past (take n parts) (place_of places j) (omega arith) ∙ sym (none_held parts places j is.few g))
-                  (cases_lt (place_of places j) (length parts))
+                  ⊎_elim {C = slice_get (take n parts) (slot_of slots j) ≡ held (by_series parts slots) j}
+                  (λ (l : slot_of slots j < length parts). part_kept parts n (slot_of slots j) (let g = gone_few slots series_list front series (length parts) is last j h l in omega arith) ∙ sym (held_at parts slots j is.few))
+                  (λ (g : length parts ≤ slot_of slots j). slice_get_past (take n parts) (slot_of slots j) (omega arith) ∙ sym (none_held parts slots j is.few g))
+                  (cases_lt (slot_of slots j) (length parts))
             ] refl;
       }

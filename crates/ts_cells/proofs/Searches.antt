@@ -8,10 +8,10 @@ use Rattle.std.specs.FinMap.{find}
 use Rattle.std.specs.List.Sorted.{IsPartitionPoint, IsBinarySearchResult, IsNonDecreasingBy}
 
 -- a place, or one between those before and those after
-pub place_found : {X : Type 0} (ord : X → Ordering) (xs : List X) (r : Result ℕ ℕ) → IsNonDecreasingBy (λ y. ordering_index (ord y)) xs → IsBinarySearchResult ord xs r
+pub slot_found : {X : Type 0} (ord : X → Ordering) (xs : List X) (r : Result ℕ ℕ) → IsNonDecreasingBy (λ y. ordering_index (ord y)) xs → IsBinarySearchResult ord xs r
     → MatchResult r (HoldsAt (λ y. ord y ≡ Equal) xs) (IsPartitionPoint (λ y. ord y ≡ Less) (λ y. ord y ≡ Greater) xs)
-place_found ord xs (Ok i) up h = h
-place_found ord xs (Err i) up h = h up
+slot_found ord xs (Ok i) up h = h
+slot_found ord xs (Err i) up h = h up
 
 -- nothing below all entries is found
 pub find_below : {K X : Type 0} (R : K → K → Ordering) (k : K) (es : List (K × X)) → T (below_all R k es) → find R k es ≡ None

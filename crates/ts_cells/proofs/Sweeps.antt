@@ -1,6 +1,6 @@
 -- Expiry in progress: cells are removed one by one, and the rows that are emptied are removed together.
 use Rattle.std.proofs.Common.{◌≡◌, ◌≢◌, ◌<◌, ◌≤◌, ◌≤ℤ◌, ◌+◌, ℕ, ℤ, List, length, drop, sym, ◌∙◌, subst, add-one, refl, None, arith}
-use Rattle.ts_cells.specs.Grids.{Lane, RowOf, held, cells_of_bucket, RowsRise, IsGrid, grid_of}
+use Rattle.ts_cells.specs.Grids.{RollupSeries, RowOf, held, cells_of_bucket, RowsRise, IsGrid, grid_of}
 use Rattle.ts_cells.specs.Expiry.{HasEmptyFront, LosesOne, Removes, LosesBelow}
 use Rattle.ts_cells.specs.RowChanges.{NoWider, IsSweptTo}
 use Rattle.ts_cells.proofs.GridMoves.{grid_kept}
@@ -11,15 +11,15 @@ pub record IsSwept {P : Type 0} (low : ℤ) (before : List (RowOf P)) (removed e
   pub rising : RowsRise rows
   pub front : HasEmptyFront emptied rows
   pub few : removed ≤ 256
-  pub grid : (ls : List Lane) → IsGrid ls before → IsGrid ls rows
-  pub cells : (ls : List Lane) → IsGrid ls before → Removes low removed (grid_of ls before).cells (grid_of ls rows).cells
+  pub grid : (ls : List RollupSeries) → IsGrid ls before → IsGrid ls rows
+  pub cells : (ls : List RollupSeries) → IsGrid ls before → Removes low removed (grid_of ls before).cells (grid_of ls rows).cells
 
 -- none was removed yet
 pub no_sweep : {P : Type 0} (low : ℤ) (rows : List (RowOf P)) → RowsRise rows → IsSwept low rows 0 0 rows
 no_sweep low rows s = record { rising = s; front = no_front rows; few = omega arith; grid = λ ls g. g; cells = λ ls g. refl }
 
 module _ {P : Type 0} (low : ℤ) (before rows after : List (RowOf P)) where
-  grid_after : RowsRise after → NoWider rows after → (ls : List Lane) → IsGrid ls rows → IsGrid ls after
+  grid_after : RowsRise after → NoWider rows after → (ls : List RollupSeries) → IsGrid ls rows → IsGrid ls after
   grid_after t w ls g = record { once = g.once; rising = t; narrow = w (length ls) g.narrow }
 
   -- one cell more
@@ -49,16 +49,16 @@ module _ {P : Type 0} (low : ℤ) (before rows after : List (RowOf P)) where
 
 module _ {P : Type 0} (low : ℤ) (before rows : List (RowOf P)) (n e : ℕ) (s : IsSwept low before n e rows) where
   -- the empty rows go
-  pub swept_grid : (ls : List Lane) → IsGrid ls before → IsGrid ls (drop e rows)
+  pub swept_grid : (ls : List RollupSeries) → IsGrid ls before → IsGrid ls (drop e rows)
   swept_grid ls g =
       let h : IsGrid ls rows = s.grid ls g in record { once = h.once; rising = rising_drop e rows s.rising; narrow = all_drop (λ (r : RowOf P). length r.1 ≤ length ls) e rows h.narrow }
 
-  swept_cells : (ls : List Lane) → IsGrid ls before → Removes low n (grid_of ls before).cells (grid_of ls (drop e rows)).cells
+  swept_cells : (ls : List RollupSeries) → IsGrid ls before → Removes low n (grid_of ls before).cells (grid_of ls (drop e rows)).cells
   swept_cells ls g =
       let h : IsGrid ls rows = s.grid ls g in
       subst (Removes low n (grid_of ls before).cells) (sym (grid_kept ls rows (drop e rows) h.once s.rising (rising_drop e rows s.rising) (cells_drop e rows s.rising s.front))) (s.cells ls g)
 
-  pub swept_out : (n < 256 → (i : ℤ) (j : ℕ) → held (cells_of_bucket rows i) j ≢ None → low ≤ℤ i) → (ls : List Lane) → IsGrid ls before → LosesBelow low n (grid_of ls before).cells (grid_of ls (drop e rows)).cells
+  pub swept_out : (n < 256 → (i : ℤ) (j : ℕ) → held (cells_of_bucket rows i) j ≢ None → low ≤ℤ i) → (ls : List RollupSeries) → IsGrid ls before → LosesBelow low n (grid_of ls before).cells (grid_of ls (drop e rows)).cells
   swept_out above ls g =
       let h : IsGrid ls rows = s.grid ls g in record {
         few = s.few;

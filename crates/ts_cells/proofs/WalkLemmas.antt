@@ -19,35 +19,35 @@ use Rattle.ts_core.proofs.facts.Ids.{equal_of}
 use Rattle.ts_core.proofs.plans.PieceCells.{cells_total, exact_cells, same_cell-eq}
 use Rattle.ts_core.proofs.lists.Places.{both_of, less_of}
 use Rattle.ts_core.specs.lists.Numbered.{IsAt}
-use Rattle.ts_cells.specs.Grids.{Lane, no_lane, lane_of, cell_at, cell_in, RowOf, held, entries_of, RowsRise, cells_of_bucket}
-use Rattle.ts_cells.specs.Lanes.{lane_cmp, lanes_numbered, AreInside, IsOrdered}
+use Rattle.ts_cells.specs.Grids.{RollupSeries, no_rollup_series, rollup_series_of, cell_at, cell_in, RowOf, held, entries_of, RowsRise, cells_of_bucket}
+use Rattle.ts_cells.specs.RollupSeriesTable.{rollup_series_cmp, series_numbered, AreInside, IsOrdered}
 use Rattle.ts_cells.specs.Walks.{CellWithPart, entry_of, with_entry, row_left, walk_left, entries_within}
 use Rattle.ts_cells.proofs.Searches.{find_below}
 use Rattle.ts_cells.proofs.GridLemmas.{first_of, first_none, find-both, get_among, same_grid}
-use Rattle.ts_cells.proofs.LaneOrder.{exact_lanes}
+use Rattle.ts_cells.proofs.RollupSeriesOrder.{exact_series_list}
 
 together : (a b : Bool) → T a → T b → T (a && b)
 together true b p q = q
 together false b p q = p
 
--- cells of one bucket are in the order of their lanes
-same_bucket : (i : ℤ) (a b : Lane) → cell_cmp (cell_at i a) (cell_at i b) ≡ lane_cmp a b
-same_bucket i a b = ap (λ o. ordering_then o (lane_cmp a b)) (tied_itself int_cmp_total i)
+-- cells of one bucket are in the order of their rollup series
+same_bucket : (i : ℤ) (a b : RollupSeries) → cell_cmp (cell_at i a) (cell_at i b) ≡ rollup_series_cmp a b
+same_bucket i a b = ap (λ o. ordering_then o (rollup_series_cmp a b)) (tied_itself int_cmp_total i)
 
-earlier_bucket : (i j : ℤ) (a b : Lane) → int_cmp i j ≡ Less → cell_cmp (cell_at i a) (cell_at j b) ≡ Less
-earlier_bucket i j a b h = ap (λ o. ordering_then o (lane_cmp a b)) h
+earlier_bucket : (i j : ℤ) (a b : RollupSeries) → int_cmp i j ≡ Less → cell_cmp (cell_at i a) (cell_at j b) ≡ Less
+earlier_bucket i j a b h = ap (λ o. ordering_then o (rollup_series_cmp a b)) h
 
--- a lane that isn't there has no number
-absent_lane : (ls : List Lane) (l : Lane) (order : List ℕ) → AreInside ls order → (Among l ls → ⊥) → find lane_cmp l (lanes_numbered ls order) ≡ None
-absent_lane ls l [] a n = refl
-absent_lane ls l (m ∷ ms) a n =
-    elim (eq_by_cmp lane_cmp l (get_or ls m no_lane)) as (λ b. eq_by_cmp lane_cmp l (get_or ls m no_lane) ≡ b → cond b (Some m) (find lane_cmp l (lanes_numbered ls ms)) ≡ None) [
-      | true ↦ λ e. absurd (n (subst (λ (x : Lane). Among x ls) (sym (exact_lanes l (get_or ls m no_lane) (equal_of (lane_cmp l (get_or ls m no_lane)) e))) (get_among ls m a.0)))
-      | false ↦ λ e. absent_lane ls l ms a.1 n
+-- a rollup series that isn't there has no number
+absent_rollup_series : (ls : List RollupSeries) (l : RollupSeries) (order : List ℕ) → AreInside ls order → (Among l ls → ⊥) → find rollup_series_cmp l (series_numbered ls order) ≡ None
+absent_rollup_series ls l [] a n = refl
+absent_rollup_series ls l (m ∷ ms) a n =
+    elim (eq_by_cmp rollup_series_cmp l (get_or ls m no_rollup_series)) as (λ b. eq_by_cmp rollup_series_cmp l (get_or ls m no_rollup_series) ≡ b → cond b (Some m) (find rollup_series_cmp l (series_numbered ls ms)) ≡ None) [
+      | true ↦ λ e. absurd (n (subst (λ (x : RollupSeries). Among x ls) (sym (exact_series_list l (get_or ls m no_rollup_series) (equal_of (rollup_series_cmp l (get_or ls m no_rollup_series)) e))) (get_among ls m a.0)))
+      | false ↦ λ e. absent_rollup_series ls l ms a.1 n
     ] refl
 
 module _ {P : Type 0} where
-  -- the part of a lane, where it has a number
+  -- the part of a rollup series, where it has a number
   abbrev then_held : Option ℕ → List (Option P) → Option P
   then_held None cs = None
   then_held (Some n) cs = held cs n
@@ -56,27 +56,27 @@ module _ {P : Type 0} where
   then_none None = refl
   then_none (Some n) = refl
 
-module _ {P : Type 0} (ls : List Lane) where
+module _ {P : Type 0} (ls : List RollupSeries) where
   -- ---- the found cell
 
-  row_find : (i : ℤ) (l : Lane) (cs : List (Option P)) (order : List ℕ) → T (is_sorted lane_cmp (lanes_numbered ls order))
-      → find cell_cmp (cell_at i l) (map entry_of (row_left ls i cs order)) ≡ then_held (find lane_cmp l (lanes_numbered ls order)) cs
+  row_find : (i : ℤ) (l : RollupSeries) (cs : List (Option P)) (order : List ℕ) → T (is_sorted rollup_series_cmp (series_numbered ls order))
+      → find cell_cmp (cell_at i l) (map entry_of (row_left ls i cs order)) ≡ then_held (find rollup_series_cmp l (series_numbered ls order)) cs
   row_find i l cs [] s = refl
   row_find i l cs (n ∷ ns) s =
-      let m : Lane = get_or ls n no_lane in
+      let m : RollupSeries = get_or ls n no_rollup_series in
       let p = both_of _ _ s in
       let rest = row_find i l cs ns p.1 in
       let left : List (CellWithPart P) = row_left ls i cs ns in
-      elim (eq_by_cmp lane_cmp l m) as (λ b. eq_by_cmp lane_cmp l m ≡ b → find cell_cmp (cell_at i l) (map entry_of (with_entry (held cs n) n (cell_at i m) left)) ≡ then_held (cond b (Some n) (find lane_cmp l (lanes_numbered ls ns))) cs) [
+      elim (eq_by_cmp rollup_series_cmp l m) as (λ b. eq_by_cmp rollup_series_cmp l m ≡ b → find cell_cmp (cell_at i l) (map entry_of (with_entry (held cs n) n (cell_at i m) left)) ≡ then_held (cond b (Some n) (find rollup_series_cmp l (series_numbered ls ns))) cs) [
         | true ↦ λ e.
-            let same : l ≡ m = exact_lanes l m (equal_of (lane_cmp l m) e) in
-            let none : find lane_cmp l (lanes_numbered ls ns) ≡ None = find_below lane_cmp l (lanes_numbered ls ns) (subst (λ (x : Lane). T (below_all lane_cmp x (lanes_numbered ls ns))) (sym same) p.0) in
+            let same : l ≡ m = exact_series_list l m (equal_of (rollup_series_cmp l m) e) in
+            let none : find rollup_series_cmp l (series_numbered ls ns) ≡ None = find_below rollup_series_cmp l (series_numbered ls ns) (subst (λ (x : RollupSeries). T (below_all rollup_series_cmp x (series_numbered ls ns))) (sym same) p.0) in
             elim (held cs n) as (λ o. find cell_cmp (cell_at i l) (map entry_of (with_entry o n (cell_at i m) left)) ≡ o) [
               | None ↦ rest ∙ ap (λ o. then_held o cs) none
               | Some x ↦ ap (λ b. cond b (Some x) (find cell_cmp (cell_at i l) (map entry_of left))) (ap is_eq (same_bucket i l m) ∙ e)
             ]
         | false ↦ λ e.
-            elim (held cs n) as (λ o. find cell_cmp (cell_at i l) (map entry_of (with_entry o n (cell_at i m) left)) ≡ then_held (find lane_cmp l (lanes_numbered ls ns)) cs) [
+            elim (held cs n) as (λ o. find cell_cmp (cell_at i l) (map entry_of (with_entry o n (cell_at i m) left)) ≡ then_held (find rollup_series_cmp l (series_numbered ls ns)) cs) [
               | None ↦ rest
               | Some x ↦ ap (λ b. cond b (Some x) (find cell_cmp (cell_at i l) (map entry_of left))) (ap is_eq (same_bucket i l m) ∙ e) ∙ rest
             ]
@@ -95,13 +95,13 @@ module _ {P : Type 0} (ls : List Lane) where
         ] refl
       ]
 
-  walk_find : (k : Cell) (order : List ℕ) (rows : List (RowOf P)) → T (is_sorted lane_cmp (lanes_numbered ls order)) → RowsRise rows
-      → find cell_cmp k (map entry_of (walk_left ls order rows order)) ≡ then_held (find lane_cmp (lane_of k) (lanes_numbered ls order)) (cells_of_bucket rows k.index)
-  walk_find k order [] s t = sym (then_none (find lane_cmp (lane_of k) (lanes_numbered ls order)))
+  walk_find : (k : Cell) (order : List ℕ) (rows : List (RowOf P)) → T (is_sorted rollup_series_cmp (series_numbered ls order)) → RowsRise rows
+      → find cell_cmp k (map entry_of (walk_left ls order rows order)) ≡ then_held (find rollup_series_cmp (rollup_series_of k) (series_numbered ls order)) (cells_of_bucket rows k.index)
+  walk_find k order [] s t = sym (then_none (find rollup_series_cmp (rollup_series_of k) (series_numbered ls order)))
   walk_find k order (r ∷ rs) s t =
       let row : List (CellWithPart P) = row_left ls r.0 r.1 order in
       let left : List (CellWithPart P) = walk_left ls order rs order in
-      let number : Option ℕ = find lane_cmp (lane_of k) (lanes_numbered ls order) in
+      let number : Option ℕ = find rollup_series_cmp (rollup_series_of k) (series_numbered ls order) in
       let rest : find cell_cmp k (map entry_of left) ≡ then_held number (cells_of_bucket rs k.index) = walk_find k order rs s (both_of _ _ t).1 in
       ap (find cell_cmp k) (map-append entry_of row left) ∙ find-both k (map entry_of row) (map entry_of left)
       ∙ elim (eq_by_cmp int_cmp k.index r.0) as (λ b. eq_by_cmp int_cmp k.index r.0 ≡ b → first_of (find cell_cmp k (map entry_of row)) (find cell_cmp k (map entry_of left)) ≡ then_held number (or_else [] (cond b (Some r.1) (find int_cmp k.index rs)))) [
@@ -110,14 +110,14 @@ module _ {P : Type 0} (ls : List Lane) where
             let gone : find int_cmp k.index rs ≡ None = find_below int_cmp k.index rs (subst (λ x. T (below_all int_cmp x rs)) (sym same) (both_of _ _ t).0) in
             let none : find cell_cmp k (map entry_of left) ≡ None = rest ∙ ap (λ o. then_held number (or_else [] o)) gone ∙ then_none number in
             ap (first_of (find cell_cmp k (map entry_of row))) none ∙ first_none (find cell_cmp k (map entry_of row))
-            ∙ subst (λ i. find cell_cmp (cell_at i (lane_of k)) (map entry_of row) ≡ then_held number r.1) (sym same) (row_find r.0 (lane_of k) r.1 order s)
+            ∙ subst (λ i. find cell_cmp (cell_at i (rollup_series_of k)) (map entry_of row) ≡ then_held number r.1) (sym same) (row_find r.0 (rollup_series_of k) r.1 order s)
         | false ↦ λ e.
             ap (λ o. first_of o (find cell_cmp k (map entry_of left))) (row_other k r.0 r.1 order (λ q. true≢false (sym (ap (λ x. eq_by_cmp int_cmp x r.0) q ∙ ap is_eq (tied_itself int_cmp_total r.0)) ∙ e))) ∙ rest
       ] refl
 
   -- ---- the order
 
-  row_below : (i : ℤ) (l : Lane) (cs : List (Option P)) (order : List ℕ) (ys : List (Cell × P)) → T (below_all lane_cmp l (lanes_numbered ls order)) → T (below_all cell_cmp (cell_at i l) ys)
+  row_below : (i : ℤ) (l : RollupSeries) (cs : List (Option P)) (order : List ℕ) (ys : List (Cell × P)) → T (below_all rollup_series_cmp l (series_numbered ls order)) → T (below_all cell_cmp (cell_at i l) ys)
       → T (below_all cell_cmp (cell_at i l) (map entry_of (row_left ls i cs order) ++ ys))
   row_below i l cs [] ys h k = k
   row_below i l cs (n ∷ ns) ys h k =
@@ -125,27 +125,27 @@ module _ {P : Type 0} (ls : List Lane) where
       let rest = row_below i l cs ns ys b.1 k in
       elim (held cs n) as (λ o. T (below_all cell_cmp (cell_at i l) (map entry_of (with_entry o n (cell_in ls i n) (row_left ls i cs ns)) ++ ys))) [
         | None ↦ rest
-        | Some x ↦ together _ _ (subst (λ o. T (is_lt o)) (sym (same_bucket i l (get_or ls n no_lane))) b.0) rest
+        | Some x ↦ together _ _ (subst (λ o. T (is_lt o)) (sym (same_bucket i l (get_or ls n no_rollup_series))) b.0) rest
       ]
 
-  later_below : (i j : ℤ) (l : Lane) (cs : List (Option P)) (order : List ℕ) (ys : List (Cell × P)) → int_cmp i j ≡ Less → T (below_all cell_cmp (cell_at i l) ys)
+  later_below : (i j : ℤ) (l : RollupSeries) (cs : List (Option P)) (order : List ℕ) (ys : List (Cell × P)) → int_cmp i j ≡ Less → T (below_all cell_cmp (cell_at i l) ys)
       → T (below_all cell_cmp (cell_at i l) (map entry_of (row_left ls j cs order) ++ ys))
   later_below i j l cs [] ys h k = k
   later_below i j l cs (n ∷ ns) ys h k =
       let rest = later_below i j l cs ns ys h k in
       elim (held cs n) as (λ o. T (below_all cell_cmp (cell_at i l) (map entry_of (with_entry o n (cell_in ls j n) (row_left ls j cs ns)) ++ ys))) [
         | None ↦ rest
-        | Some x ↦ together _ _ (subst (λ o. T (is_lt o)) (sym (earlier_bucket i j l (get_or ls n no_lane) h)) tt) rest
+        | Some x ↦ together _ _ (subst (λ o. T (is_lt o)) (sym (earlier_bucket i j l (get_or ls n no_rollup_series) h)) tt) rest
       ]
 
-  rows_below : (i : ℤ) (l : Lane) (order : List ℕ) (rows : List (RowOf P)) → T (below_all int_cmp i rows) → T (below_all cell_cmp (cell_at i l) (map entry_of (walk_left ls order rows order)))
+  rows_below : (i : ℤ) (l : RollupSeries) (order : List ℕ) (rows : List (RowOf P)) → T (below_all int_cmp i rows) → T (below_all cell_cmp (cell_at i l) (map entry_of (walk_left ls order rows order)))
   rows_below i l order [] h = tt
   rows_below i l order (r ∷ rs) h =
       let b = both_of _ _ h in
       subst (λ es. T (below_all cell_cmp (cell_at i l) es)) (sym (map-append entry_of (row_left ls r.0 r.1 order) (walk_left ls order rs order)))
       (later_below i r.0 l r.1 order (map entry_of (walk_left ls order rs order)) (less_of _ b.0) (rows_below i l order rs b.1))
 
-  row_sorted : (i : ℤ) (cs : List (Option P)) (order : List ℕ) (ys : List (Cell × P)) → T (is_sorted lane_cmp (lanes_numbered ls order)) → T (is_sorted cell_cmp ys) → ((l : Lane) → T (below_all cell_cmp (cell_at i l) ys))
+  row_sorted : (i : ℤ) (cs : List (Option P)) (order : List ℕ) (ys : List (Cell × P)) → T (is_sorted rollup_series_cmp (series_numbered ls order)) → T (is_sorted cell_cmp ys) → ((l : RollupSeries) → T (below_all cell_cmp (cell_at i l) ys))
       → T (is_sorted cell_cmp (map entry_of (row_left ls i cs order) ++ ys))
   row_sorted i cs [] ys s t b = t
   row_sorted i cs (n ∷ ns) ys s t b =
@@ -153,10 +153,10 @@ module _ {P : Type 0} (ls : List Lane) where
       let rest = row_sorted i cs ns ys p.1 t b in
       elim (held cs n) as (λ o. T (is_sorted cell_cmp (map entry_of (with_entry o n (cell_in ls i n) (row_left ls i cs ns)) ++ ys))) [
         | None ↦ rest
-        | Some x ↦ together _ _ (row_below i (get_or ls n no_lane) cs ns ys p.0 (b (get_or ls n no_lane))) rest
+        | Some x ↦ together _ _ (row_below i (get_or ls n no_rollup_series) cs ns ys p.0 (b (get_or ls n no_rollup_series))) rest
       ]
 
-  walk_sorted : (order : List ℕ) (rows : List (RowOf P)) → T (is_sorted lane_cmp (lanes_numbered ls order)) → RowsRise rows → T (is_sorted cell_cmp (map entry_of (walk_left ls order rows order)))
+  walk_sorted : (order : List ℕ) (rows : List (RowOf P)) → T (is_sorted rollup_series_cmp (series_numbered ls order)) → RowsRise rows → T (is_sorted cell_cmp (map entry_of (walk_left ls order rows order)))
   walk_sorted order [] s t = tt
   walk_sorted order (r ∷ rs) s t =
       let p = both_of _ _ t in
@@ -203,29 +203,29 @@ module _ {P : Type 0} (ls : List Lane) where
         | false ↦ λ e. ap₂ (λ xs ys. xs ++ ys) (row_fails q r.0 r.1 order e) rest
       ] refl
 
-  -- ---- lanes
+  -- ---- rollup series
 
-  row_lanes : (i : ℤ) (cs : List (Option P)) (order : List ℕ) (ys : List (CellWithPart P)) → AreInside ls order → AllByRecursion (λ (k : CellWithPart P). IsAt ls k.lane (lane_of k.cell)) ys
-      → AllByRecursion (λ (k : CellWithPart P). IsAt ls k.lane (lane_of k.cell)) (row_left ls i cs order ++ ys)
-  row_lanes i cs [] ys a h = h
-  row_lanes i cs (n ∷ ns) ys a h =
-      let rest = row_lanes i cs ns ys a.1 h in
-      elim (held cs n) as (λ o. AllByRecursion (λ (k : CellWithPart P). IsAt ls k.lane (lane_of k.cell)) (with_entry o n (cell_in ls i n) (row_left ls i cs ns) ++ ys)) [
+  row_series : (i : ℤ) (cs : List (Option P)) (order : List ℕ) (ys : List (CellWithPart P)) → AreInside ls order → AllByRecursion (λ (k : CellWithPart P). IsAt ls k.series (rollup_series_of k.cell)) ys
+      → AllByRecursion (λ (k : CellWithPart P). IsAt ls k.series (rollup_series_of k.cell)) (row_left ls i cs order ++ ys)
+  row_series i cs [] ys a h = h
+  row_series i cs (n ∷ ns) ys a h =
+      let rest = row_series i cs ns ys a.1 h in
+      elim (held cs n) as (λ o. AllByRecursion (λ (k : CellWithPart P). IsAt ls k.series (rollup_series_of k.cell)) (with_entry o n (cell_in ls i n) (row_left ls i cs ns) ++ ys)) [
         | None ↦ rest
-        | Some x ↦ (slice_get-get_or ls n no_lane a.0, rest)
+        | Some x ↦ (slice_get-get_or ls n no_rollup_series a.0, rest)
       ]
 
-  pub walk_lanes : (order : List ℕ) (rows : List (RowOf P)) → AreInside ls order → AllByRecursion (λ (k : CellWithPart P). IsAt ls k.lane (lane_of k.cell)) (walk_left ls order rows order)
-  walk_lanes order [] a = tt
-  walk_lanes order (r ∷ rs) a = row_lanes r.0 r.1 order (walk_left ls order rs order) a (walk_lanes order rs a)
+  pub walk_series : (order : List ℕ) (rows : List (RowOf P)) → AreInside ls order → AllByRecursion (λ (k : CellWithPart P). IsAt ls k.series (rollup_series_of k.cell)) (walk_left ls order rows order)
+  walk_series order [] a = tt
+  walk_series order (r ∷ rs) a = row_series r.0 r.1 order (walk_left ls order rs order) a (walk_series order rs a)
 
-module _ {P : Type 0} (ls : List Lane) (order : List ℕ) (rows : List (RowOf P)) (d : AllDistinct ls) (t : RowsRise rows) (is : IsOrdered ls order) where
+module _ {P : Type 0} (ls : List RollupSeries) (order : List ℕ) (rows : List (RowOf P)) (d : AllDistinct ls) (t : RowsRise rows) (is : IsOrdered ls order) where
   walk_map : from_entries {R = cell_cmp} (entries_of ls rows) ≡ from_entries {R = cell_cmp} (map entry_of (walk_left ls order rows order))
   walk_map =
       let es : List (Cell × P) = map entry_of (walk_left ls order rows order) in
       same_grid ls rows (from_entries {R = cell_cmp} es) d t
       (λ i j h. get-from_entries cells_total es (cell_in ls i j) ∙ walk_find ls (cell_in ls i j) order rows is.rising t ∙ ap (λ o. then_held o (cells_of_bucket rows i)) (is.all j h))
-      (λ k n. get-from_entries cells_total es k ∙ walk_find ls k order rows is.rising t ∙ ap (λ o. then_held o (cells_of_bucket rows k.index)) (absent_lane ls (lane_of k) order is.inside n))
+      (λ k n. get-from_entries cells_total es k ∙ walk_find ls k order rows is.rising t ∙ ap (λ o. then_held o (cells_of_bucket rows k.index)) (absent_rollup_series ls (rollup_series_of k) order is.inside n))
 
   walk_whole : finmap.entries (from_entries {R = cell_cmp} (entries_of ls rows)) ≡ map entry_of (walk_left ls order rows order)
   walk_whole =

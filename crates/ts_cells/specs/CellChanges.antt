@@ -7,13 +7,13 @@ use Rattle.ts_core.specs.store.TwoParts.{PartsOf, in_frozen, in_live, with_live}
 use Rattle.ts_cells.specs.declared.parts.Change.{Change}
 use Rattle.ts_cells.specs.declared.parts.Change.TheVariants.{Freeze, Add, Correct}
 
-abbrev pub with_room : {K X : Type 0} {R : K → K → Ordering} → FinMap R X → K → X → Option X → FinMap R X
-with_room m k x None = insert m k x
-with_room m k x (Some y) = m
+abbrev pub inserted_unless : {K X : Type 0} {R : K → K → Ordering} → FinMap R X → K → X → Option X → FinMap R X
+inserted_unless m k x None = insert m k x
+inserted_unless m k x (Some y) = m
 
 -- sets the value of a key unless it has one
-abbrev pub roomy : {K X : Type 0} {R : K → K → Ordering} → FinMap R X → K → X → FinMap R X
-roomy m k x = with_room m k x (get m k)
+abbrev pub inserted_if_absent : {K X : Type 0} {R : K → K → Ordering} → FinMap R X → K → X → FinMap R X
+inserted_if_absent m k x = inserted_unless m k x (get m k)
 
 -- the parts of a cell after a change
 abbrev pub parts_after : {P : Type 0} → (P → ℕ) → (P → P → P) → Change P → PartsOf P → PartsOf P

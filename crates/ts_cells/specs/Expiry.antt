@@ -12,13 +12,13 @@ pub record HasEmptyFront {P : Type 0} (count : ℕ) (rows : List (RowOf P)) : Ty
   pub bound : count ≤ length rows
   pub empty : AllWithin (λ (r : RowOf P). (j : ℕ) → held r.1 j ≡ None) rows 0 count
 
--- the rows lost the cell of one lane in one bucket below an index, and no other
+-- the rows lost the cell of one rollup series in one bucket below an index, and no other
 pub record LosesOne {P : Type 0} (low : ℤ) (before after : List (RowOf P)) : Type 0 where
   pub index : ℤ
-  pub lane : ℕ
+  pub series : ℕ
   pub below : index <ℤ low
-  pub was : held (cells_of_bucket before index) lane ≢ None
-  pub cells : (i : ℤ) (j : ℕ) → held (cells_of_bucket after i) j ≡ (if eq_by_cmp int_cmp i index && (j == lane) then None else held (cells_of_bucket before i) j)
+  pub was : held (cells_of_bucket before index) series ≢ None
+  pub cells : (i : ℤ) (j : ℕ) → held (cells_of_bucket after i) j ≡ (if eq_by_cmp int_cmp i index && (j == series) then None else held (cells_of_bucket before i) j)
 
 -- no cell is below the index, and none was removed
 pub record HasNoneBelow {P : Type 0} (low : ℤ) (before after : List (RowOf P)) : Type 0 where

@@ -4,6 +4,6 @@ pub mod CellChanges
 pub mod Expiry
 pub mod Walks
 -- used only by models and proofs of the code
-pub mod Lanes
+pub mod RollupSeriesTable
 pub mod Rows
 pub mod RowChanges

@@ -19,7 +19,7 @@ pub record KeepsBuckets {P : Type 0} (before after : List (RowOf P)) : Type 0 wh
 -- the row with this index has the bucket
 pub record IsRowAt {P : Type 0} (index : ℤ) (rows : List (RowOf P)) (at : ℕ) : Type 0 where
   pub inside : at < length rows
-  pub place : HoldsAt (λ (r : RowOf P). int_cmp r.0 index ≡ Equal) rows at
+  pub slot : HoldsAt (λ (r : RowOf P). int_cmp r.0 index ≡ Equal) rows at
 
 -- rows after removals, of which the first `emptied` are empty
 pub record IsSweptTo {P : Type 0} (emptied : ℕ) (before after : List (RowOf P)) : Type 0 where

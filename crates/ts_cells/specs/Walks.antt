@@ -6,11 +6,11 @@ use Rattle.std.specs.Coded.{Coded, code_by, coded×, coded_ℕ}
 use Rattle.ts_core.specs.facts.Facts.{is_within}
 use Rattle.ts_core.specs.store.Cells.{Cell, cell_cmp}
 use Rattle.ts_core.specs.store.StoreCodes.{coded_cell}
-use Rattle.ts_cells.specs.Grids.{Lane, cell_in, RowOf, held}
+use Rattle.ts_cells.specs.Grids.{RollupSeries, cell_in, RowOf, held}
 
--- a cell with its part and the index of its lane
+-- a cell with its part and the index of its rollup series
 pub record CellWithPart (P : Type 0) : Type 0 where
-  pub lane : ℕ
+  pub series : ℕ
   pub cell : Cell
   pub part : P
 
@@ -26,19 +26,19 @@ entries_within {P} from to m = filter (λ (e : Cell × P). is_within from to e.0
 -- prepends a cell, if it exists
 abbrev pub with_entry : {P : Type 0} → Option P → ℕ → Cell → List (CellWithPart P) → List (CellWithPart P)
 with_entry None n k rest = rest
-with_entry (Some p) n k rest = record { lane = n; cell = k; part = p } ∷ rest
+with_entry (Some p) n k rest = record { series = n; cell = k; part = p } ∷ rest
 
--- the cells of a bucket in the lanes with these indices
-abbrev pub row_left : {P : Type 0} → List Lane → ℤ → List (Option P) → List ℕ → List (CellWithPart P)
-row_left lanes i cs [] = []
-row_left lanes i cs (n ∷ ns) = with_entry (held cs n) n (cell_in lanes i n) (row_left lanes i cs ns)
+-- the cells of a bucket in the rollup series with these indices
+abbrev pub row_left : {P : Type 0} → List RollupSeries → ℤ → List (Option P) → List ℕ → List (CellWithPart P)
+row_left series_list i cs [] = []
+row_left series_list i cs (n ∷ ns) = with_entry (held cs n) n (cell_in series_list i n) (row_left series_list i cs ns)
 
--- the cells of the first row in the remaining lanes, and those of the other rows in all lanes
-abbrev pub walk_left : {P : Type 0} → List Lane → List ℕ → List (RowOf P) → List ℕ → List (CellWithPart P)
-walk_left lanes order [] left = []
-walk_left lanes order (r ∷ rs) left = row_left lanes r.0 r.1 left ++ walk_left lanes order rs order
+-- the cells of the first row in the remaining rollup series, and those of the other rows in all rollup series
+abbrev pub walk_left : {P : Type 0} → List RollupSeries → List ℕ → List (RowOf P) → List ℕ → List (CellWithPart P)
+walk_left series_list order [] left = []
+walk_left series_list order (r ∷ rs) left = row_left series_list r.0 r.1 left ++ walk_left series_list order rs order
 
 -- ---- codes
 
 abbrev pub coded_cell_with_part : {P : Type 0} → Coded P → Coded (CellWithPart P)
-coded_cell_with_part {P} c = code_by (ℕ × (Cell × P)) (coded× coded_ℕ (coded× coded_cell c)) (λ k. (k.lane, (k.cell, k.part))) (λ p. record { lane = p.0; cell = p.1.0; part = p.1.1 }) (λ _. refl)
+coded_cell_with_part {P} c = code_by (ℕ × (Cell × P)) (coded× coded_ℕ (coded× coded_cell c)) (λ k. (k.series, (k.cell, k.part))) (λ p. record { series = p.0; cell = p.1.0; part = p.1.1 }) (λ _. refl)

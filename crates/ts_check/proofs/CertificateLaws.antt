@@ -6,7 +6,7 @@ use Rattle.std.proofs.Math.Seq.{take-append_seam}
 use Rattle.ts_core.specs.facts.Facts.{Text}
 use Rattle.ts_core.specs.plans.Pieces.{Source, Raw, Rollup, Piece}
 use Rattle.ts_check.specs.CertificateTexts.{HasSpelling, EachHasSpelling, source_text, range_text, piece_text, piece_line, certificate_text, IsCertificate, Beginning, NoLine, Open, Closed, beginning_pieces, beginning_text, BeginsWell, IsFirstBadLine, IsReadingOf, IsReadAs, IsOneCertificate}
-use Rattle.ts_check.specs.CertificateLines.{Lacks, IsPiece, HasPiece, Stops, IsReadingIfRoom}
+use Rattle.ts_check.specs.CertificateLines.{Lacks, IsPiece, HasPiece, Stops, IsReadingIfMemory}
 use Rattle.ts_check.specs.declared.certificate_fault.ReadCertificateError.{ReadCertificateError}
 use Rattle.ts_check.specs.declared.certificate_fault.ReadCertificateError.TheVariants as errors
 use Rattle.ts_check.proofs.CertificateTokens.{lacks_test, not_cut, cut_same, piece_lacks, same_piece}
@@ -217,17 +217,17 @@ stop_fits text front rest at b s = omega (arith, stop_within rest at s, ap lengt
 
 -- ---- answers
 
-pub reading : (text : Text) (r : Result (List Piece) ReadCertificateError) → (ps : List Piece) × IsCertificate text ps → IsReadingIfRoom text r → IsReadingOf text r
+pub reading : (text : Text) (r : Result (List Piece) ReadCertificateError) → (ps : List Piece) × IsCertificate text ps → IsReadingIfMemory text r → IsReadingOf text r
 reading text (Ok ps) some h = h
 reading text (Err (errors.Fault fault)) some h = h
 reading text (Err errors.OutOfMemory) some h = some
 
-pub read_as : (text : Text) (r : Result (List Piece) ReadCertificateError) → IsReadingIfRoom text r → (ps : List Piece) → IsCertificate text ps → IsReadAs ps r
+pub read_as : (text : Text) (r : Result (List Piece) ReadCertificateError) → IsReadingIfMemory text r → (ps : List Piece) → IsCertificate text ps → IsReadAs ps r
 read_as text (Ok qs) h ps w = same_certificate text qs ps h w
 read_as text (Err (errors.Fault fault)) h ps w = absurd (h.none ps w)
 read_as text (Err errors.OutOfMemory) h ps w = refl
 
 -- each result has a spelling
-pub read_spelled : (text : Text) (r : Result (List Piece) ReadCertificateError) → IsReadingIfRoom text r → IfOk r EachHasSpelling
+pub read_spelled : (text : Text) (r : Result (List Piece) ReadCertificateError) → IsReadingIfMemory text r → IfOk r EachHasSpelling
 read_spelled text (Ok ps) h = h.each
 read_spelled text (Err e) h = tt

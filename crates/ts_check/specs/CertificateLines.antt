@@ -56,7 +56,7 @@ abbrev pub Stops : Text → Text → Type 0
 Stops text at = (IsOff text × (at ≡ text)) ⊎ ((text ≡ codes "end\n" ++ at) × (0 < length at))
 
 -- the reading of a text, except that memory may run out for any text
-abbrev pub IsReadingIfRoom : Text → Result (List Piece) ReadCertificateError → Type 0
-IsReadingIfRoom text (Ok ps) = IsCertificate text ps
-IsReadingIfRoom text (Err (errors.Fault fault)) = IsFirstBadLine text fault.at
-IsReadingIfRoom text (Err errors.OutOfMemory) = Unit {0}
+abbrev pub IsReadingIfMemory : Text → Result (List Piece) ReadCertificateError → Type 0
+IsReadingIfMemory text (Ok ps) = IsCertificate text ps
+IsReadingIfMemory text (Err (errors.Fault fault)) = IsFirstBadLine text fault.at
+IsReadingIfMemory text (Err errors.OutOfMemory) = Unit {0}

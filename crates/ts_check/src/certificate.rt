@@ -17,12 +17,12 @@ pub enum PieceSource {
 
 impl PieceSource {
     /// Returns a copy of the source.
-    fn copied(&self) -> PieceSource
+    fn clone(&self) -> PieceSource
         ensures { source_of result ≡ source_of self.now }
     {
         match self {
             PieceSource::Raw => PieceSource::Raw,
-            PieceSource::Rollup(name) => PieceSource::Rollup(name.copied()),
+            PieceSource::Rollup(name) => PieceSource::Rollup(name.clone()),
         }
     }
 }
@@ -49,11 +49,11 @@ impl Model for Piece {
 
 impl Piece {
     /// Returns a copy of the piece.
-    pub fn copied(&self) -> Piece
+    pub fn clone(&self) -> Piece
         ensures { result ≡ self.now }
     {
         Piece {
-            source: self.source.copied(),
+            source: self.source.clone(),
             from: self.from,
             to: self.to,
         }

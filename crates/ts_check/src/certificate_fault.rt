@@ -6,7 +6,7 @@ ghost use Rattle.ts_check.specs.declared.certificate_fault.ReadCertificateError.
 
 use std::alloc::{AllocError, AllocFailed, Allocator};
 use thiserror::Error;
-use ts_core::{FaultCode, FaultDetail, append_words};
+use ts_core::{FaultCode, FaultDetail, push_all};
 
 /// Malformed certificate.
 #[derive(Clone, Copy, Debug, PartialEq, Eq, Error)]
@@ -79,7 +79,7 @@ impl ReadCertificateError {
     {
         match self {
             ReadCertificateError::Fault(fault) => fault.text_to(text),
-            ReadCertificateError::OutOfMemory => append_words(text, &["fault memory"]),
+            ReadCertificateError::OutOfMemory => push_all(text, &["fault memory"]),
         }
     }
 }

@@ -64,12 +64,12 @@ impl<A: Allocator> Checked<A> {
 }
 
 /// Copies pieces.
-fn copied<A: Allocator>(alloc: A, pieces: &[Piece]) -> Result<Vec<Piece, A>, AllocError>
+fn try_clone<A: Allocator>(alloc: A, pieces: &[Piece]) -> Result<Vec<Piece, A>, AllocError>
     ensures { IfOk result (λ v. v.items ≡ pieces.now) }
 {
     let mut all = Vec::new(alloc);
     for piece in pieces {
-        all.push(piece.copied())?;
+        all.push(piece.clone())?;
     }
     Ok(all)
 }
@@ -91,9 +91,9 @@ pub fn check<A: Allocator + Copy>(
         return Err(CheckError::Fault(CheckFault { kind, piece }));
     }
     Ok(Checked {
-        settings: settings.copied(alloc)?,
-        marks: marks.copied(alloc)?,
-        query: query.copied(alloc)?,
-        pieces: copied(alloc, certificate.pieces())?,
+        settings: settings.try_clone(alloc)?,
+        marks: marks.try_clone(alloc)?,
+        query: query.try_clone(alloc)?,
+        pieces: try_clone(alloc, certificate.pieces())?,
     })
 }

@@ -6,7 +6,7 @@ ghost use Rattle.ts_check.specs.declared.fault.CheckError.TheVariants as errors;
 
 use std::alloc::{AllocError, Allocator};
 use thiserror::Error;
-use ts_core::{Fault, FaultDetail, append_words};
+use ts_core::{Fault, FaultDetail, push_all};
 
 /// Error in a plan of a query.
 #[derive(Clone, Copy, Debug, PartialEq, Eq, Error)]
@@ -67,7 +67,7 @@ impl CheckError {
     {
         match self {
             CheckError::Fault(fault) => fault.text_to(text),
-            CheckError::OutOfMemory => append_words(text, &["fault memory"]),
+            CheckError::OutOfMemory => push_all(text, &["fault memory"]),
         }
     }
 }

@@ -3,7 +3,7 @@ ghost use Rattle.std.specs.Prelude.{◌≡◌, ◌+◌, ◌<◌, ◌≤◌, List
 ghost use Rattle.ts_core.specs.plans.Pieces.{Piece as PieceValue};
 ghost use Rattle.ts_check.specs.Certificates.{source_of};
 ghost use Rattle.ts_check.specs.CertificateTexts.{EachHasSpelling, IsCertificate, IsFirstBadLine, IsReadingOf, IsReadAs, IsPlainSpelling};
-ghost use Rattle.ts_check.specs.CertificateLines.{TakesSpelled, Lacks, IsNumber, IsRange, IsSource, IsPiece, HasPiece, Stops, IsReadingIfRoom};
+ghost use Rattle.ts_check.specs.CertificateLines.{TakesSpelled, Lacks, IsNumber, IsRange, IsSource, IsPiece, HasPiece, Stops, IsReadingIfMemory};
 
 use crate::certificate::{Certificate, Piece, PieceSource};
 use crate::certificate_fault::{CertificateFault, ReadCertificateError};
@@ -138,7 +138,7 @@ fn read_lines<A: Allocator + Copy>(
     alloc: A,
     text: &str,
 ) -> Result<Certificate<A>, ReadCertificateError>
-    ensures { IsReadingIfRoom text.now result }
+    ensures { IsReadingIfMemory text.now result }
 {
     let mut pieces = Vec::new(alloc);
     let mut rest = match after_first(text) {

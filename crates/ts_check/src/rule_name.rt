@@ -55,7 +55,7 @@ impl RuleName {
     }
 
     /// Returns a copy.
-    pub fn copied(&self) -> RuleName
+    pub fn clone(&self) -> RuleName
         ensures { result ≡ self.now }
     {
         RuleName {

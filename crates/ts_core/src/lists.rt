@@ -2,8 +2,8 @@
 
 mod chains;
 mod numbers;
-mod room;
+mod reserving;
 
 pub use chains::Chains;
-pub use numbers::next_number;
-pub use room::reserve_eighth;
+pub use numbers::next_id;
+pub use reserving::reserve_eighth;

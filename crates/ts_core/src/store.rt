@@ -1,7 +1,7 @@
 //! The marks of a store, and the laws of its transitions.
 
+mod laws;
 mod marks;
-mod stands;
 
+pub use laws::{rule_moves, settings_texts, store_moves};
 pub use marks::Marks;
-pub use stands::{settings_texts, store_moves};

@@ -9,5 +9,5 @@ pub(crate) mod texts;
 pub use cursor::{after, byte_at};
 pub use decimal::{after_minus, are_digits, is_number, whole};
 pub use fault_code::FaultCode;
-pub use fault_text::{FaultDetail, append_words};
+pub use fault_text::{FaultDetail, push_all};
 pub use texts::is_among;

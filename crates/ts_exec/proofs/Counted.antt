@@ -8,8 +8,8 @@ use Rattle.ts_core.proofs.store.Cuts.{Part}
 use Rattle.ts_core.proofs.plans.AssembledRows.{within-part}
 use Rattle.ts_core.proofs.queries.Boundaries.{within_parts}
 use Rattle.ts_store.specs.read.PointsRead.{points_between}
-use Rattle.ts_exec.specs.declared.kept.Kept.TheVariants.{CountAlone}
-use Rattle.ts_exec.specs.RowParts.{BucketGrid, place_at, count_part, with_part, with_counted, with_point_parts}
+use Rattle.ts_exec.specs.declared.aggregate_parts.AggregateParts.TheVariants.{CountAlone}
+use Rattle.ts_exec.specs.RowParts.{BucketGrid, row_index_at, count_part, with_part, with_counted, with_point_parts}
 use Rattle.ts_exec.proofs.Shares.{part-saturated}
 use Rattle.ts_exec.proofs.Runs.{part-joined}
 
@@ -46,7 +46,7 @@ module _ (g : BucketGrid) where
 
   first_last : (i : ℕ) (ps : List (ℤ × ℤ)) (rows : List Aggregate) → with_part i one (counting ps rows) ≡ counting ps (with_part i one rows)
   first_last i [] rows = refl
-  first_last i (p ∷ ps) rows = first_last i ps (with_part (place_at g p.0) one rows) ∙ ap (λ (r : List Aggregate). counting ps r) (swapped i (place_at g p.0) one rows)
+  first_last i (p ∷ ps) rows = first_last i ps (with_part (row_index_at g p.0) one rows) ∙ ap (λ (r : List Aggregate). counting ps r) (swapped i (row_index_at g p.0) one rows)
 
   pub counted-parts : (a m b : ℤ) (ps : List (ℤ × ℤ)) (rows : List Aggregate) → a ≤ℤ m → m ≤ℤ b → counting (points_between m b ps) (counting (points_between a m ps) rows) ≡ counting (points_between a b ps) rows
   counted-parts a m b [] rows l u = refl
@@ -54,14 +54,14 @@ module _ (g : BucketGrid) where
       let xs : List (ℤ × ℤ) = points_between a m ps in
       let ys : List (ℤ × ℤ) = points_between m b ps in
       let zs : List (ℤ × ℤ) = points_between a b ps in
-      let next : List Aggregate = with_part (place_at g p.0) one rows in
+      let next : List Aggregate = with_part (row_index_at g p.0) one rows in
       step (is_within a m p.0) (is_within m b p.0) (is_within a b p.0) xs ys zs (within-part a m b p.0 l u) (counted-parts a m b ps rows l u) (counted-parts a m b ps next l u)
     where
       step : (x y z : Bool) (xs ys zs : List (ℤ × ℤ)) → Part x y z → counting ys (counting xs rows) ≡ counting zs rows
-          → counting ys (counting xs (with_part (place_at g p.0) one rows)) ≡ counting zs (with_part (place_at g p.0) one rows)
+          → counting ys (counting xs (with_part (row_index_at g p.0) one rows)) ≡ counting zs (with_part (row_index_at g p.0) one rows)
           → counting (cond y (p ∷ ys) ys) (counting (cond x (p ∷ xs) xs) rows) ≡ counting (cond z (p ∷ zs) zs) rows
       step true false true xs ys zs h e f = f
-      step false true true xs ys zs h e f = ap (λ (r : List Aggregate). counting ys r) (first_last (place_at g p.0) xs rows) ∙ f
+      step false true true xs ys zs h e f = ap (λ (r : List Aggregate). counting ys r) (first_last (row_index_at g p.0) xs rows) ∙ f
       step false false false xs ys zs h e f = e
       step true true z xs ys zs h e f = absurd h
       step true false false xs ys zs h e f = absurd h
@@ -70,40 +70,40 @@ module _ (g : BucketGrid) where
 
   -- ---- in one bucket
 
-  module _ (a b : ℤ) (place : ℕ) (here : (t : ℤ) → a ≤ℤ t → t <ℤ b → place ≡ min (place_at g t) 18446744073709551615) where
+  module _ (a b : ℤ) (row_index : ℕ) (here : (t : ℤ) → a ≤ℤ t → t <ℤ b → row_index ≡ min (row_index_at g t) 18446744073709551615) where
     -- a point of the bucket
-    placed : (t : ℤ) (rows : List Aggregate) → is_within a b t ≡ true → length rows ≤ 18446744073709551615 → with_part (place_at g t) one rows ≡ with_part place one rows
+    placed : (t : ℤ) (rows : List Aggregate) → is_within a b t ≡ true → length rows ≤ 18446744073709551615 → with_part (row_index_at g t) one rows ≡ with_part row_index one rows
     placed t rows e short =
         let inside = within_parts a b t e in
-        sym (part-saturated (place_at g t) one rows short) ∙ ap (λ i. with_part i one rows) (sym (here t inside.0 inside.1))
+        sym (part-saturated (row_index_at g t) one rows short) ∙ ap (λ i. with_part i one rows) (sym (here t inside.0 inside.1))
 
     -- points of the bucket after others of it
-    joined : (ps : List (ℤ × ℤ)) (k : ℕ) (rows : List Aggregate) → length rows ≤ 18446744073709551615 → (get_or rows place empty_aggregate).count + (k + length (points_between a b ps)) ≤ 2 ^ 62
-        → counting (points_between a b ps) (with_part place (count_part k) rows) ≡ with_part place (count_part (k + length (points_between a b ps))) rows
-    joined [] k rows short room = ap (λ n. with_part place (count_part n) rows) (omega arith)
-    joined (p ∷ ps) k rows short room =
+    joined : (ps : List (ℤ × ℤ)) (k : ℕ) (rows : List Aggregate) → length rows ≤ 18446744073709551615 → (get_or rows row_index empty_aggregate).count + (k + length (points_between a b ps)) ≤ 2 ^ 62
+        → counting (points_between a b ps) (with_part row_index (count_part k) rows) ≡ with_part row_index (count_part (k + length (points_between a b ps))) rows
+    joined [] k rows short bounded = ap (λ n. with_part row_index (count_part n) rows) (omega arith)
+    joined (p ∷ ps) k rows short bounded =
         let xs : List (ℤ × ℤ) = points_between a b ps in
-        elim (is_within a b p.0) as (λ z. is_within a b p.0 ≡ z → (get_or rows place empty_aggregate).count + (k + length (cond z (p ∷ xs) xs)) ≤ 2 ^ 62
-        → counting (cond z (p ∷ xs) xs) (with_part place (count_part k) rows) ≡ with_part place (count_part (k + length (cond z (p ∷ xs) xs))) rows) [
+        elim (is_within a b p.0) as (λ z. is_within a b p.0 ≡ z → (get_or rows row_index empty_aggregate).count + (k + length (cond z (p ∷ xs) xs)) ≤ 2 ^ 62
+        → counting (cond z (p ∷ xs) xs) (with_part row_index (count_part k) rows) ≡ with_part row_index (count_part (k + length (cond z (p ∷ xs) xs))) rows) [
           | true ↦ λ e fits.
-              let old : List Aggregate = with_part place (count_part k) rows in
-              let size : length old ≡ length rows = length-set rows place _ in
-              let more : with_part (place_at g p.0) one old ≡ with_part place (count_part (k + 1)) rows = placed p.0 old e (omega arith) ∙ part-joined place (count_part k) one rows (omega arith) in
+              let old : List Aggregate = with_part row_index (count_part k) rows in
+              let size : length old ≡ length rows = length-set rows row_index _ in
+              let more : with_part (row_index_at g p.0) one old ≡ with_part row_index (count_part (k + 1)) rows = placed p.0 old e (omega arith) ∙ part-joined row_index (count_part k) one rows (omega arith) in
               let same : (k + 1) + length xs ≡ k + suc (length xs) = omega arith in
-              ap (λ (r : List Aggregate). counting xs r) more ∙ joined ps (k + 1) rows short (omega arith) ∙ ap (λ n. with_part place (count_part n) rows) same
+              ap (λ (r : List Aggregate). counting xs r) more ∙ joined ps (k + 1) rows short (omega arith) ∙ ap (λ n. with_part row_index (count_part n) rows) same
           | false ↦ λ e fits. joined ps k rows short fits
-        ] refl room
+        ] refl bounded
 
     -- the points of the bucket are added as their number
-    pub counted-bucket : (ps : List (ℤ × ℤ)) (rows : List Aggregate) → length rows ≤ 18446744073709551615 → (get_or rows place empty_aggregate).count + length (points_between a b ps) ≤ 2 ^ 62
-        → counting (points_between a b ps) rows ≡ with_counted place (length (points_between a b ps)) rows
-    counted-bucket [] rows short room = refl
-    counted-bucket (p ∷ ps) rows short room =
+    pub counted-bucket : (ps : List (ℤ × ℤ)) (rows : List Aggregate) → length rows ≤ 18446744073709551615 → (get_or rows row_index empty_aggregate).count + length (points_between a b ps) ≤ 2 ^ 62
+        → counting (points_between a b ps) rows ≡ with_counted row_index (length (points_between a b ps)) rows
+    counted-bucket [] rows short bounded = refl
+    counted-bucket (p ∷ ps) rows short bounded =
         let xs : List (ℤ × ℤ) = points_between a b ps in
-        elim (is_within a b p.0) as (λ z. is_within a b p.0 ≡ z → (get_or rows place empty_aggregate).count + length (cond z (p ∷ xs) xs) ≤ 2 ^ 62
-        → counting (cond z (p ∷ xs) xs) rows ≡ with_counted place (length (cond z (p ∷ xs) xs)) rows) [
+        elim (is_within a b p.0) as (λ z. is_within a b p.0 ≡ z → (get_or rows row_index empty_aggregate).count + length (cond z (p ∷ xs) xs) ≤ 2 ^ 62
+        → counting (cond z (p ∷ xs) xs) rows ≡ with_counted row_index (length (cond z (p ∷ xs) xs)) rows) [
           | true ↦ λ e fits.
               let same : 1 + length xs ≡ suc (length xs) = omega arith in
-              ap (λ (r : List Aggregate). counting xs r) (placed p.0 rows e short) ∙ joined ps 1 rows short (omega arith) ∙ ap (λ n. with_part place (count_part n) rows) same
+              ap (λ (r : List Aggregate). counting xs r) (placed p.0 rows e short) ∙ joined ps 1 rows short (omega arith) ∙ ap (λ n. with_part row_index (count_part n) rows) same
           | false ↦ λ e fits. counted-bucket ps rows short fits
-        ] refl room
+        ] refl bounded

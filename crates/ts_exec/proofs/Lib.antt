@@ -5,7 +5,7 @@ mod Linked
 mod Shares
 mod Entries
 -- Executions, Selections: the values that a query selects
-mod KeptParts
+mod PartsTaken
 -- Executions, Shares: the number of points of a plan over a view
 mod PointCounts
 mod CountSteps
@@ -24,4 +24,4 @@ mod Slotted
 -- Fillings
 pub mod FillSteps
 -- Lent
-pub mod LentLemmas
+pub mod BorrowedLemmas

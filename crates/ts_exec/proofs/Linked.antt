@@ -23,7 +23,7 @@ use Rattle.ts_core.specs.plans.Pieces.{Source, Raw, Rollup, Piece, start_of, IsB
 use Rattle.ts_core.specs.store.Cells.{Cell}
 use Rattle.ts_core.specs.store.StoreStates.{ColumnPoints, facts_at, facts_of, RuleCells, total_in}
 use Rattle.ts_core.specs.store.Views.{ViewState, shown_total}
-use Rattle.ts_core.specs.plans.Assembly.{stand_in, rule_shown, in_part, totals_given, cell_groups}
+use Rattle.ts_core.specs.plans.Assembly.{representative, rule_shown, in_part, totals_given, cell_groups}
 use Rattle.ts_core.proofs.queries.AnswersLaws.{filter_both}
 use Rattle.ts_core.proofs.store.Cuts.{filter-agree}
 use Rattle.ts_core.proofs.queries.Boundaries.{within_parts}
@@ -33,8 +33,8 @@ use Rattle.ts_core.proofs.lists.Comparisons.{le_true, lt_true, same_bool}
 use Rattle.ts_core.proofs.queries.GroupsInOrder.{same_group-eq, same_group-refl}
 use Rattle.ts_core.proofs.aggregates.Folds.{fold-append}
 use Rattle.ts_store.specs.read.ViewResults.{ColumnRef, column_refs_from, column_refs_where, no_points, points_at, SeenCell, with_parts, cells_within}
-use Rattle.ts_exec.specs.declared.kept.Kept.TheVariants.{Whole}
-use Rattle.ts_exec.specs.RowParts.{bucket_grid, place_at}
+use Rattle.ts_exec.specs.declared.aggregate_parts.AggregateParts.TheVariants.{Whole}
+use Rattle.ts_exec.specs.RowParts.{bucket_grid, row_index_at}
 use Rattle.ts_exec.specs.GroupTables.{Table, IsGroupTable, width, with_column_parts, with_cell_part, with_column_ref, with_column_refs, is_cell_taken, with_cell_parts, with_rule, with_source, with_pieces}
 use Rattle.ts_exec.specs.Shares.{Share, group_in, with_shares, is_share, total_at, point_share, column_ref_shares, column_refs_shares, cell_share, rule_shares, source_shares, pieces_shares}
 use Rattle.ts_exec.proofs.Shares.{shares-table, shares-append, column-shares}
@@ -60,7 +60,7 @@ module _ (q : Query) (a b : ℤ) where
   cells_put : (r : Rule) (cs : List SeenCell) (t : Table) → with_cell_parts q r a b cs t ≡ with_shares (width q) (map (cell_share q r) (filter (is_cell_taken q r a b) cs)) t
   cells_put r [] t = refl
   cells_put r (c ∷ cs) t =
-      elim (is_cell_taken q r a b c) as (λ z. with_cell_parts q r a b cs (cond z (with_cell_part (width q) (cell_share q r c).group (cell_share q r c).place (total_in c.parts) t) t)
+      elim (is_cell_taken q r a b c) as (λ z. with_cell_parts q r a b cs (cond z (with_cell_part (width q) (cell_share q r c).group (cell_share q r c).row_index (total_in c.parts) t) t)
       ≡ with_shares (width q) (map (cell_share q r) (cond z (c ∷ filter (is_cell_taken q r a b) cs) (filter (is_cell_taken q r a b) cs))) t) [
         | true ↦ cells_put r cs _
         | false ↦ cells_put r cs t
@@ -85,7 +85,7 @@ pieces-put seen q (p ∷ ps) t h =
 -- ---- shares of facts
 
 abbrev pub fact_share : Query → Fact → Share
-fact_share q f = record { group = group_of q f; place = place_at (bucket_grid q) f.time; part = aggregate_of_one f.time f.value }
+fact_share q f = record { group = group_of q f; row_index = row_index_at (bucket_grid q) f.time; part = aggregate_of_one f.time f.value }
 
 module _ (q : Query) (a b : ℤ) (from : q.from ≤ℤ a) (to : b ≤ℤ q.to) where
   abbrev test : Fact → Bool
@@ -187,29 +187,29 @@ same_group_comm g k = same_bool _ _
     (λ e. subst (λ x. same_group x k ≡ true) (same_group-eq k g e) (same_group-refl k))
 
 -- the place of a time of the range is j just where its bucket is the j-th
-place_is : (q : Query) (t : ℤ) (j : ℕ) → pos 1 ≤ℤ q.interval → q.from ≤ℤ t → (place_at (bucket_grid q) t == j) ≡ int_eq (bucket_in q t) (bucket_in q q.from +ℤ pos j)
-place_is q t j h l =
+row_index_is : (q : Query) (t : ℤ) (j : ℕ) → pos 1 ≤ℤ q.interval → q.from ≤ℤ t → (row_index_at (bucket_grid q) t == j) ≡ int_eq (bucket_in q t) (bucket_in q q.from +ℤ pos j)
+row_index_is q t j h l =
     let first : ℤ = bucket_in q q.from in
     let k : ℤ = bucket_in q t in
     let up : first ≤ℤ k = bucket_le q.from t q.interval q.offset h l in
-    let e : pos (place_at (bucket_grid q) t) ≡ k -ℤ first = at_least_none-is (k -ℤ first) (omega (arith, ints)) in
+    let e : pos (row_index_at (bucket_grid q) t) ≡ k -ℤ first = at_least_none-is (k -ℤ first) (omega (arith, ints)) in
     same_bool _ _
-    (λ m. let same : place_at (bucket_grid q) t ≡ j = eqb-true _ j m in let there : k ≡ first +ℤ pos j = omega (arith, ints) in ap (int_eq k) (sym there) ∙ ap is_eq (tied_itself int_cmp_total k))
-    (λ m. let there : k ≡ first +ℤ pos j = int_cmp-IsAntisymmetric k (first +ℤ pos j) (equal_of (int_cmp k (first +ℤ pos j)) m) in let same : place_at (bucket_grid q) t ≡ j = omega (arith, ints) in eq-eqb _ j same)
+    (λ m. let same : row_index_at (bucket_grid q) t ≡ j = eqb-true _ j m in let there : k ≡ first +ℤ pos j = omega (arith, ints) in ap (int_eq k) (sym there) ∙ ap is_eq (tied_itself int_cmp_total k))
+    (λ m. let there : k ≡ first +ℤ pos j = int_cmp-IsAntisymmetric k (first +ℤ pos j) (equal_of (int_cmp k (first +ℤ pos j)) m) in let same : row_index_at (bucket_grid q) t ≡ j = omega (arith, ints) in eq-eqb _ j same)
 
 -- a fact or cell of the query's range is a share of a row just where it is in the row
 module _ (q : Query) (wide : pos 1 ≤ℤ q.interval) (g : List Text) (j : ℕ) (a b : ℤ) where
-  abbrev pub row_index : ℤ
-  row_index = bucket_in q q.from +ℤ pos j
+  abbrev pub bucket_index : ℤ
+  bucket_index = bucket_in q q.from +ℤ pos j
 
-  pub in_row : (f : Fact) → ((matches q f && is_within a b f.time) && is_share g j (fact_share q f)) ≡ (is_in_row q g row_index f && is_within a b f.time)
+  pub in_row : (f : Fact) → ((matches q f && is_within a b f.time) && is_share g j (fact_share q f)) ≡ (is_in_row q g bucket_index f && is_within a b f.time)
   in_row f =
-      elim (matches q f) as (λ z. matches q f ≡ z → ((z && is_within a b f.time) && is_share g j (fact_share q f)) ≡ ((z && (same_group (group_of q f) g && int_eq (bucket_in q f.time) row_index)) && is_within a b f.time)) [
+      elim (matches q f) as (λ z. matches q f ≡ z → ((z && is_within a b f.time) && is_share g j (fact_share q f)) ≡ ((z && (same_group (group_of q f) g && int_eq (bucket_in q f.time) bucket_index)) && is_within a b f.time)) [
         | true ↦ λ e.
             let w = within_parts q.from q.to f.time (and_parts (is_selected q f.column) (is_within q.from q.to f.time) e).1 in
-            let same : is_share g j (fact_share q f) ≡ (same_group (group_of q f) g && int_eq (bucket_in q f.time) row_index) =
-            ap₂ (λ x y. x && y) (same_group_comm g (group_of q f)) (place_is q f.time j wide w.0) in
-            ap (λ x. is_within a b f.time && x) same ∙ turned (is_within a b f.time) (same_group (group_of q f) g && int_eq (bucket_in q f.time) row_index)
+            let same : is_share g j (fact_share q f) ≡ (same_group (group_of q f) g && int_eq (bucket_in q f.time) bucket_index) =
+            ap₂ (λ x y. x && y) (same_group_comm g (group_of q f)) (row_index_is q f.time j wide w.0) in
+            ap (λ x. is_within a b f.time && x) same ∙ turned (is_within a b f.time) (same_group (group_of q f) g && int_eq (bucket_in q f.time) bucket_index)
         | false ↦ λ e. refl
       ] refl
     where
@@ -220,11 +220,11 @@ module _ (q : Query) (wide : pos 1 ≤ℤ q.interval) (g : List Text) (j : ℕ) 
       turned false false = refl
 
   -- of raw points
-  pub raw-total : (fs : List Fact) → total_at g j (map (fact_share q) (filter (λ (f : Fact). matches q f && is_within a b f.time) fs)) ≡ aggregate_of (filter (λ (f : Fact). is_in_row q g row_index f && is_within a b f.time) fs)
+  pub raw-total : (fs : List Fact) → total_at g j (map (fact_share q) (filter (λ (f : Fact). matches q f && is_within a b f.time) fs)) ≡ aggregate_of (filter (λ (f : Fact). is_in_row q g bucket_index f && is_within a b f.time) fs)
   raw-total fs =
       mapped-total (fact_share q) g j (filter (λ (f : Fact). matches q f && is_within a b f.time) fs)
       ∙ ap aggregate_of (filter_both (λ (f : Fact). is_share g j (fact_share q f)) (λ (f : Fact). matches q f && is_within a b f.time) fs
-      ∙ filter-agree _ (λ (f : Fact). is_in_row q g row_index f && is_within a b f.time) fs (λ f k. in_row f))
+      ∙ filter-agree _ (λ (f : Fact). is_in_row q g bucket_index f && is_within a b f.time) fs (λ f k. in_row f))
 
 -- ---- cells
 
@@ -262,8 +262,8 @@ module _ (q : Query) (r : RuleCells) (a b : ℤ) (h : pos 1 ≤ℤ r.rule.interv
         | false ↦ λ e.
             let out : taken k ≡ false = elim (taken k) as (λ z. taken k ≡ z → z ≡ false) [
               | true ↦ λ y.
-                  let p = and_parts (matches q (stand_in r.rule k) && is_within a b (start_of r.rule k.index)) (not ((shown_total r k).count == 0)) y in
-                  let w = and_parts (matches q (stand_in r.rule k)) (is_within a b (start_of r.rule k.index)) p.0 in
+                  let p = and_parts (matches q (representative r.rule k) && is_within a b (start_of r.rule k.index)) (not ((shown_total r k).count == 0)) y in
+                  let w = and_parts (matches q (representative r.rule k)) (is_within a b (start_of r.rule k.index)) p.0 in
                   sym (walked r.rule a b k.index h starts ends w.1) ∙ e
               | false ↦ λ y. refl
             ] refl in
@@ -286,16 +286,16 @@ module _ (q : Query) (r : RuleCells) (a b : ℤ) (h : pos 1 ≤ℤ r.rule.interv
   -- where a total of no points is the empty one
   module _ (wide : pos 1 ≤ℤ q.interval) (g : List Text) (j : ℕ) (sound : (k : Cell) → is_within a b (start_of r.rule k.index) ≡ true → ((shown_total r k).count == 0) ≡ true → shown_total r k ≡ empty_aggregate) where
     abbrev row_test : Fact → Bool
-    row_test = in_part (is_in_row q g (row_index q wide g j a b)) a b
+    row_test = in_part (is_in_row q g (bucket_index q wide g j a b)) a b
 
     abbrev in_both : Cell → Bool
     in_both k = taken k && is_share g j (cell_share_of k)
 
-    both_is : (k : Cell) → in_both k ≡ (row_test (stand_in r.rule k) && not ((shown_total r k).count == 0))
+    both_is : (k : Cell) → in_both k ≡ (row_test (representative r.rule k) && not ((shown_total r k).count == 0))
     both_is k =
-        let m : Bool = matches q (stand_in r.rule k) && is_within a b (start_of r.rule k.index) in
+        let m : Bool = matches q (representative r.rule k) && is_within a b (start_of r.rule k.index) in
         let s : Bool = is_share g j (cell_share_of k) in
-        swapped m (not ((shown_total r k).count == 0)) s ∙ ap (λ x. x && not ((shown_total r k).count == 0)) (in_row q wide g j a b (stand_in r.rule k))
+        swapped m (not ((shown_total r k).count == 0)) s ∙ ap (λ x. x && not ((shown_total r k).count == 0)) (in_row q wide g j a b (representative r.rule k))
       where
         swapped : (x y z : Bool) → ((x && y) && z) ≡ ((x && z) && y)
         swapped true true true = refl
@@ -304,17 +304,17 @@ module _ (q : Query) (r : RuleCells) (a b : ℤ) (h : pos 1 ≤ℤ r.rule.interv
         swapped true false false = refl
         swapped false y z = refl
 
-    sums : (ks : List Cell) → fold_by empty_aggregate merged (shown_total r) (filter in_both ks) ≡ fold_by empty_aggregate merged (shown_total r) (filter (λ (k : Cell). row_test (stand_in r.rule k)) ks)
+    sums : (ks : List Cell) → fold_by empty_aggregate merged (shown_total r) (filter in_both ks) ≡ fold_by empty_aggregate merged (shown_total r) (filter (λ (k : Cell). row_test (representative r.rule k)) ks)
     sums [] = refl
     sums (k ∷ ks) =
         let rest = sums ks in
         ap (λ z. fold_by empty_aggregate merged (shown_total r) (cond z (k ∷ filter in_both ks) (filter in_both ks))) (both_is k)
-        ∙ elim (row_test (stand_in r.rule k)) as (λ x. row_test (stand_in r.rule k) ≡ x → fold_by empty_aggregate merged (shown_total r) (cond (x && not ((shown_total r k).count == 0)) (k ∷ filter in_both ks) (filter in_both ks))
-        ≡ fold_by empty_aggregate merged (shown_total r) (cond x (k ∷ filter (λ (c : Cell). row_test (stand_in r.rule c)) ks) (filter (λ (c : Cell). row_test (stand_in r.rule c)) ks))) [
-          | true ↦ λ e. elim ((shown_total r k).count == 0) as (λ y. ((shown_total r k).count == 0) ≡ y → fold_by empty_aggregate merged (shown_total r) (cond (not y) (k ∷ filter in_both ks) (filter in_both ks)) ≡ merged (shown_total r k) (fold_by empty_aggregate merged (shown_total r) (filter (λ (c : Cell). row_test (stand_in r.rule c)) ks))) [
+        ∙ elim (row_test (representative r.rule k)) as (λ x. row_test (representative r.rule k) ≡ x → fold_by empty_aggregate merged (shown_total r) (cond (x && not ((shown_total r k).count == 0)) (k ∷ filter in_both ks) (filter in_both ks))
+        ≡ fold_by empty_aggregate merged (shown_total r) (cond x (k ∷ filter (λ (c : Cell). row_test (representative r.rule c)) ks) (filter (λ (c : Cell). row_test (representative r.rule c)) ks))) [
+          | true ↦ λ e. elim ((shown_total r k).count == 0) as (λ y. ((shown_total r k).count == 0) ≡ y → fold_by empty_aggregate merged (shown_total r) (cond (not y) (k ∷ filter in_both ks) (filter in_both ks)) ≡ merged (shown_total r k) (fold_by empty_aggregate merged (shown_total r) (filter (λ (c : Cell). row_test (representative r.rule c)) ks))) [
             | true ↦ λ none.
-                let w = (and_parts (is_in_row q g (row_index q wide g j a b) (stand_in r.rule k)) (is_within a b (start_of r.rule k.index)) e).1 in
-                rest ∙ sym (ap (λ x. merged x (fold_by empty_aggregate merged (shown_total r) (filter (λ (c : Cell). row_test (stand_in r.rule c)) ks))) (sound k w none) ∙ aggregate_laws.unit _)
+                let w = (and_parts (is_in_row q g (bucket_index q wide g j a b) (representative r.rule k)) (is_within a b (start_of r.rule k.index)) e).1 in
+                rest ∙ sym (ap (λ x. merged x (fold_by empty_aggregate merged (shown_total r) (filter (λ (c : Cell). row_test (representative r.rule c)) ks))) (sound k w none) ∙ aggregate_laws.unit _)
             | false ↦ λ some. ap (merged (shown_total r k)) rest
           ] refl
           | false ↦ λ e. rest

@@ -18,9 +18,9 @@ pub record IsShownAt (name : Text) (shown : List RuleCells) (number : ℕ) (rule
   pub is : (get_or shown number no_rule).rule ≡ rule
 
 record IsFound (name : Text) (shown : List RuleCells) (from number : ℕ) (rule : Rule) : Type 0 where
-  place : ℕ
-  counted : number ≡ from + place
-  here : IsShownAt name shown place rule
+  row_index : ℕ
+  counted : number ≡ from + row_index
+  here : IsShownAt name shown row_index rule
 
 same_pair : (p r : ℕ × Rule) → Some p ≡ Some r → p ≡ r
 same_pair p r e = cc
@@ -35,19 +35,19 @@ found_from name (y ∷ ys) from number rule e =
       | true ↦ λ s k.
           let p = same_pair (from, y.rule) (number, rule) k in
           let n : from ≡ number = ap (λ (x : ℕ × Rule). x.0) p in
-          record { place = 0; counted = omega arith; here = record { within = omega arith; found = ap (λ b. cond b (Some y) (rule_shown name ys)) s; is = ap (λ (x : ℕ × Rule). x.1) p } }
+          record { row_index = 0; counted = omega arith; here = record { within = omega arith; found = ap (λ b. cond b (Some y) (rule_shown name ys)) s; is = ap (λ (x : ℕ × Rule). x.1) p } }
       | false ↦ λ s k.
           let f = found_from name ys (from + 1) number rule k in
           let n = f.counted in
           let w = f.here.within in
-          record { place = suc f.place; counted = omega arith; here = record { within = omega arith; found = ap (λ b. cond b (Some y) (rule_shown name ys)) s ∙ f.here.found; is = f.here.is } }
+          record { row_index = suc f.row_index; counted = omega arith; here = record { within = omega arith; found = ap (λ b. cond b (Some y) (rule_shown name ys)) s ∙ f.here.found; is = f.here.is } }
     ] refl e
 
 pub found-shown : (name : Text) (shown : List RuleCells) (number : ℕ) (rule : Rule) → rule_from name 0 (map rule_of shown) ≡ Some (number, rule) → IsShownAt name shown number rule
 found-shown name shown number rule e =
     let f = found_from name shown 0 number rule e in
     let n = f.counted in
-    let same : f.place ≡ number = omega arith in
+    let same : f.row_index ≡ number = omega arith in
     subst (λ i. IsShownAt name shown i rule) same f.here
 
 -- its cells are put

@@ -5,10 +5,10 @@ use Rattle.ts_core.specs.aggregates.Buckets.{IsBucketOf, bucket_of}
 use Rattle.ts_core.proofs.aggregates.BucketsOrder.{bucket_is, bucket_same, bucket_le, one_more}
 use Rattle.ts_core.specs.queries.Answers.{at_least_none}
 use Rattle.ts_core.proofs.queries.BucketsInRange.{at_least_none-is}
-use Rattle.ts_exec.specs.RowParts.{BucketGrid, place_at, IsEnd}
+use Rattle.ts_exec.specs.RowParts.{BucketGrid, row_index_at, IsEnd}
 
 -- the bucket that starts at an edge
-module _ (g : BucketGrid) (high : ℤ) (place : ℕ) (h : pos 1 ≤ℤ g.interval) (later : g.from <ℤ high) (e : IsEnd g high place) where
+module _ (g : BucketGrid) (high : ℤ) (row_index : ℕ) (h : pos 1 ≤ℤ g.interval) (later : g.from <ℤ high) (e : IsEnd g high row_index) where
   abbrev before : ℤ
   before = bucket_of (high -ℤ pos 1) g.interval g.offset
 
@@ -23,21 +23,21 @@ module _ (g : BucketGrid) (high : ℤ) (place : ℕ) (h : pos 1 ≤ℤ g.interva
       let more = one_more (before +ℤ pos 1) i in
       bucket_same u i o (bucket_of u i o) (before +ℤ pos 1) h (bucket_is u i o h) (record { from_start = omega (arith, ints); before_end = omega (arith, ints) })
 
-  pub next-guessed : (u : ℤ) → high ≤ℤ u → u <ℤ (high +ℤ g.interval) → min (place + 1) 18446744073709551615 ≡ min (place_at g u) 18446744073709551615
+  pub next-guessed : (u : ℤ) → high ≤ℤ u → u <ℤ (high +ℤ g.interval) → min (row_index + 1) 18446744073709551615 ≡ min (row_index_at g u) 18446744073709551615
   next-guessed u l v =
       let i : ℤ = g.interval in
       let o : ℤ = g.offset in
       let first : ℤ = bucket_of g.from i o in
       let low = bucket_le g.from (high -ℤ pos 1) i o h (omega (arith, ints)) in
-      let p : pos (place_at g (high -ℤ pos 1)) ≡ before -ℤ first = at_least_none-is (before -ℤ first) (omega (arith, ints)) in
+      let p : pos (row_index_at g (high -ℤ pos 1)) ≡ before -ℤ first = at_least_none-is (before -ℤ first) (omega (arith, ints)) in
       let is = bucket_within u l v in
       let k : ℤ = bucket_of u i o in
-      let q : pos (place_at g u) ≡ k -ℤ first = at_least_none-is (k -ℤ first) (omega (arith, ints)) in
+      let q : pos (row_index_at g u) ≡ k -ℤ first = at_least_none-is (k -ℤ first) (omega (arith, ints)) in
       let old = e.last in
-      let one : place_at g u ≡ place_at g (high -ℤ pos 1) + 1 = omega (arith, ints) in
+      let one : row_index_at g u ≡ row_index_at g (high -ℤ pos 1) + 1 = omega (arith, ints) in
       omega arith
 
-  pub next-end : IsEnd g (high +ℤ g.interval) (min (place + 1) 18446744073709551615)
+  pub next-end : IsEnd g (high +ℤ g.interval) (min (row_index + 1) 18446744073709551615)
   next-end =
       let i : ℤ = g.interval in
       let o : ℤ = g.offset in
@@ -58,9 +58,9 @@ module _ (g : BucketGrid) (high : ℤ) (place : ℕ) (h : pos 1 ≤ℤ g.interva
       }
 
 -- the edge of a bucket that was computed
-pub span-end : (g : BucketGrid) (low high index : ℤ) (place : ℕ) → low <ℤ high → ((u : ℤ) → low ≤ℤ u → u <ℤ high → bucket_of u g.interval g.offset ≡ index)
-    → bucket_of high g.interval g.offset ≡ index +ℤ pos 1 → place ≡ min (at_least_none (index -ℤ bucket_of g.from g.interval g.offset)) 18446744073709551615 → IsEnd g high place
-span-end g low high index place some all next is =
+pub span-end : (g : BucketGrid) (low high index : ℤ) (row_index : ℕ) → low <ℤ high → ((u : ℤ) → low ≤ℤ u → u <ℤ high → bucket_of u g.interval g.offset ≡ index)
+    → bucket_of high g.interval g.offset ≡ index +ℤ pos 1 → row_index ≡ min (at_least_none (index -ℤ bucket_of g.from g.interval g.offset)) 18446744073709551615 → IsEnd g high row_index
+span-end g low high index row_index some all next is =
     let last : bucket_of (high -ℤ pos 1) g.interval g.offset ≡ index = all (high -ℤ pos 1) (omega (arith, ints)) (omega (arith, ints)) in
     record {
       start = next ∙ ap (λ z. z +ℤ pos 1) (sym last);

@@ -28,7 +28,7 @@ use Rattle.ts_core.proofs.queries.Boundaries.{within_parts}
 use Rattle.ts_core.proofs.plans.AssembledRows.{assembled-row}
 use Rattle.ts_ql.proofs.CountingLemmas.{in_first}
 use Rattle.ts_store.specs.read.ViewResults.{ColumnRef, column_refs_where, points_at, SeenCell, cells_within}
-use Rattle.ts_exec.specs.RowParts.{BucketGrid, bucket_grid, place_at}
+use Rattle.ts_exec.specs.RowParts.{BucketGrid, bucket_grid, row_index_at}
 use Rattle.ts_exec.specs.GroupTables.{is_cell_taken}
 use Rattle.ts_exec.specs.Shares.{Share, is_share, total_at, points_of_shares, point_share, column_ref_shares, column_refs_shares, cell_share, rule_shares, source_shares, pieces_shares}
 use Rattle.ts_exec.proofs.Walked.{taken-within}
@@ -146,8 +146,8 @@ first_passed share p h (x ∷ xs) =
 
 module _ (q : Query) where
   -- a moment of the range lies in the first bucket
-  first_place : (t : ℤ) → q.from ≤ℤ t → t <ℤ q.to → (place_at (bucket_grid (whole q)) t == 0) ≡ true
-  first_place t low high =
+  first_row_index : (t : ℤ) → q.from ≤ℤ t → t <ℤ q.to → (row_index_at (bucket_grid (whole q)) t == 0) ≡ true
+  first_row_index t low high =
       let here = in_whole q t low (omega (arith, ints)) in
       let from = in_whole q q.from (omega (arith, ints)) (omega (arith, ints)) in
       ap₂ (λ (k f : ℤ). at_least_none (k -ℤ f) == 0) here from
@@ -156,7 +156,7 @@ module _ (q : Query) where
     first_column_ref : (cs : List ColumnPoints) (s : ColumnRef) → AllByRecursion IsFirst (column_ref_shares (whole q) cs a b s)
     first_column_ref cs s =
         elim (list_all (meets s.series) q.conditions) as (λ z. AllByRecursion IsFirst (cond z (map (point_share (bucket_grid (whole q)) []) (points_at cs s.number a b)) [])) [
-          | true ↦ first_passed (point_share (bucket_grid (whole q)) []) (λ (p : ℤ × ℤ). is_within a b p.0) (λ p e. let w = within_parts a b p.0 e in let l = w.0 in let h = w.1 in first_place p.0 (omega (arith, ints)) (omega (arith, ints))) _
+          | true ↦ first_passed (point_share (bucket_grid (whole q)) []) (λ (p : ℤ × ℤ). is_within a b p.0) (λ p e. let w = within_parts a b p.0 e in let l = w.0 in let h = w.1 in first_row_index p.0 (omega (arith, ints)) (omega (arith, ints))) _
           | false ↦ tt
         ]
 
@@ -168,7 +168,7 @@ module _ (q : Query) where
     first_rule None = tt
     first_rule (Some r) =
         first_passed (cell_share (whole q) r.rule) (is_cell_taken (whole q) r.rule a b)
-        (λ c e. let w = within_parts q.from q.to (start_of r.rule c.cell.index) (taken-within (whole q) r.rule a b c e).0 in first_place (start_of r.rule c.cell.index) w.0 w.1)
+        (λ c e. let w = within_parts q.from q.to (start_of r.rule c.cell.index) (taken-within (whole q) r.rule a b c e).0 in first_row_index (start_of r.rule c.cell.index) w.0 w.1)
         (cells_within r (index_of r.rule a) (index_of r.rule b))
 
     first_source : (seen : ViewState) (source : Source) → AllByRecursion IsFirst (source_shares seen (whole q) source a b)

@@ -9,7 +9,7 @@ use Rattle.ts_core.specs.facts.Tags.{tag_value}
 use Rattle.ts_core.specs.queries.Queries.{Query, Condition, meets}
 use Rattle.ts_core.specs.store.StoreStates.{ColumnPoints}
 use Rattle.ts_store.specs.read.ViewResults.{ColumnRef, column_ref_has}
-use Rattle.ts_exec.specs.declared.kept.Kept.{Kept}
+use Rattle.ts_exec.specs.declared.aggregate_parts.AggregateParts.{AggregateParts}
 use Rattle.ts_exec.specs.GroupTables.{Table, with_column_ref, with_column_refs, selected_column_refs, IsNarrowing}
 
 -- ---- what the selected columns give
@@ -30,16 +30,16 @@ all_selected m conditions (s ∷ ss) h =
       | false ↦ λ e. rest
     ] refl
 
-pub selected_give : (kept : Kept) (q : Query) (cs : List ColumnPoints) (a b : ℤ) (ss : List ColumnRef) (t : Table) → with_column_refs kept q cs a b (selected_column_refs q.conditions ss) t ≡ with_column_refs kept q cs a b ss t
-selected_give kept q cs a b [] t = refl
-selected_give kept q cs a b (s ∷ ss) t =
+pub selected_give : (parts : AggregateParts) (q : Query) (cs : List ColumnPoints) (a b : ℤ) (ss : List ColumnRef) (t : Table) → with_column_refs parts q cs a b (selected_column_refs q.conditions ss) t ≡ with_column_refs parts q cs a b ss t
+selected_give parts q cs a b [] t = refl
+selected_give parts q cs a b (s ∷ ss) t =
     let left : List ColumnRef = selected_column_refs q.conditions ss in
-    elim (is_met q.conditions s) as (λ v. is_met q.conditions s ≡ v → with_column_refs kept q cs a b (cond v (s ∷ left) left) t ≡ with_column_refs kept q cs a b ss (with_column_ref kept q cs a b s t)) [
-      | true ↦ λ e. selected_give kept q cs a b ss (with_column_ref kept q cs a b s t)
-      | false ↦ λ e. selected_give kept q cs a b ss t ∙ ap (λ (u : Table). with_column_refs kept q cs a b ss u) (sym (unmet s t e))
+    elim (is_met q.conditions s) as (λ v. is_met q.conditions s ≡ v → with_column_refs parts q cs a b (cond v (s ∷ left) left) t ≡ with_column_refs parts q cs a b ss (with_column_ref parts q cs a b s t)) [
+      | true ↦ λ e. selected_give parts q cs a b ss (with_column_ref parts q cs a b s t)
+      | false ↦ λ e. selected_give parts q cs a b ss t ∙ ap (λ (u : Table). with_column_refs parts q cs a b ss u) (sym (unmet s t e))
     ] refl
   where
-    unmet : (s : ColumnRef) (t : Table) → is_met q.conditions s ≡ false → with_column_ref kept q cs a b s t ≡ t
+    unmet : (s : ColumnRef) (t : Table) → is_met q.conditions s ≡ false → with_column_ref parts q cs a b s t ≡ t
     unmet s t e = rw e refl
 
 -- ---- which columns are selected

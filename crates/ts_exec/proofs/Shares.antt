@@ -11,21 +11,21 @@ use Rattle.ts_core.specs.aggregates.Aggregates.{Aggregate, empty_aggregate, merg
 use Rattle.ts_core.specs.aggregates.MergeLaws.{aggregate_laws}
 use Rattle.ts_core.specs.queries.Answers.{group_cmp, same_group}
 use Rattle.ts_core.proofs.queries.GroupsInOrder.{groups_total, exact_groups, same_group-refl, same_group-eq}
-use Rattle.ts_exec.specs.declared.kept.Kept.TheVariants.{Whole}
-use Rattle.ts_exec.specs.RowParts.{BucketGrid, added, place_at, with_part, with_point_parts}
+use Rattle.ts_exec.specs.declared.aggregate_parts.AggregateParts.TheVariants.{Whole}
+use Rattle.ts_exec.specs.RowParts.{BucketGrid, added, row_index_at, with_part, with_point_parts}
 use Rattle.ts_exec.specs.GroupTables.{Table, IsGroupTable, rows_or, rows_for, with_cell_part, with_column_parts}
 use Rattle.ts_exec.specs.Shares.{Share, with_shares, is_share, total_at, point_share}
 
-put_table : (n : ℕ) (s : Share) (t : Table) → IsGroupTable t → IsGroupTable (with_cell_part n s.group s.place s.part t)
-put_table n s t h = is_sorted-put group_cmp groups_total s.group (with_part s.place s.part (rows_for n s.group t)) t h
+put_table : (n : ℕ) (s : Share) (t : Table) → IsGroupTable t → IsGroupTable (with_cell_part n s.group s.row_index s.part t)
+put_table n s t h = is_sorted-put group_cmp groups_total s.group (with_part s.row_index s.part (rows_for n s.group t)) t h
 
 pub shares-table : (n : ℕ) (ss : List Share) (t : Table) → IsGroupTable t → IsGroupTable (with_shares n ss t)
 shares-table n [] t h = h
-shares-table n (s ∷ ss) t h = shares-table n ss (with_cell_part n s.group s.place s.part t) (put_table n s t h)
+shares-table n (s ∷ ss) t h = shares-table n ss (with_cell_part n s.group s.row_index s.part t) (put_table n s t h)
 
 pub shares-append : (n : ℕ) (xs ys : List Share) (t : Table) → with_shares n (xs ++ ys) t ≡ with_shares n ys (with_shares n xs t)
 shares-append n [] ys t = refl
-shares-append n (x ∷ xs) ys t = shares-append n xs ys (with_cell_part n x.group x.place x.part t)
+shares-append n (x ∷ xs) ys t = shares-append n xs ys (with_cell_part n x.group x.row_index x.part t)
 
 -- ---- a column's points
 
@@ -50,32 +50,32 @@ column_from : (grid : BucketGrid) (n : ℕ) (g : List Text) (ps : List (ℤ × �
 column_from grid n g [] rows t h = refl
 column_from grid n g (p ∷ ps) rows t h =
     let s : Share = point_share grid g p in
-    let next : List Aggregate = with_part s.place s.part rows in
-    ap (λ r. with_shares n (map (point_share grid g) ps) (put group_cmp g (with_part s.place s.part r) (put group_cmp g rows t))) (rows-put n g rows t)
+    let next : List Aggregate = with_part s.row_index s.part rows in
+    ap (λ r. with_shares n (map (point_share grid g) ps) (put group_cmp g (with_part s.row_index s.part r) (put group_cmp g rows t))) (rows-put n g rows t)
     ∙ ap (with_shares n (map (point_share grid g) ps)) (put-put g next rows t h)
     ∙ column_from grid n g ps next t h
 
 pub column-shares : (grid : BucketGrid) (n : ℕ) (g : List Text) (ps : List (ℤ × ℤ)) (t : Table) → IsGroupTable t → with_column_parts Whole grid n g ps t ≡ with_shares n (map (point_share grid g) ps) t
 column-shares grid n g [] t h = refl
-column-shares grid n g (p ∷ ps) t h = sym (column_from grid n g ps (with_part (place_at grid p.0) (point_share grid g p).part (rows_for n g t)) t h)
+column-shares grid n g (p ∷ ps) t h = sym (column_from grid n g ps (with_part (row_index_at grid p.0) (point_share grid g p).part (rows_for n g t)) t h)
 
 -- ---- what stands in a group
 
 abbrev pub rows_after : List Text → List Share → List Aggregate → List Aggregate
 rows_after g [] rows = rows
-rows_after g (s ∷ ss) rows = rows_after g ss (cond (same_group g s.group) (with_part s.place s.part rows) rows)
+rows_after g (s ∷ ss) rows = rows_after g ss (cond (same_group g s.group) (with_part s.row_index s.part rows) rows)
 
-rows_step : (n : ℕ) (g : List Text) (s : Share) (t : Table) → rows_for n g (with_cell_part n s.group s.place s.part t) ≡ cond (same_group g s.group) (with_part s.place s.part (rows_for n g t)) (rows_for n g t)
+rows_step : (n : ℕ) (g : List Text) (s : Share) (t : Table) → rows_for n g (with_cell_part n s.group s.row_index s.part t) ≡ cond (same_group g s.group) (with_part s.row_index s.part (rows_for n g t)) (rows_for n g t)
 rows_step n g s t =
-    ap (rows_or n) (find-put group_cmp groups_total g s.group (with_part s.place s.part (rows_for n s.group t)) t)
-    ∙ elim (same_group g s.group) as (λ b. same_group g s.group ≡ b → rows_or n (cond b (Some (with_part s.place s.part (rows_for n s.group t))) (find group_cmp g t)) ≡ cond b (with_part s.place s.part (rows_for n g t)) (rows_for n g t)) [
-      | true ↦ λ e. ap (λ k. with_part s.place s.part (rows_for n k t)) (sym (same_group-eq g s.group e))
+    ap (rows_or n) (find-put group_cmp groups_total g s.group (with_part s.row_index s.part (rows_for n s.group t)) t)
+    ∙ elim (same_group g s.group) as (λ b. same_group g s.group ≡ b → rows_or n (cond b (Some (with_part s.row_index s.part (rows_for n s.group t))) (find group_cmp g t)) ≡ cond b (with_part s.row_index s.part (rows_for n g t)) (rows_for n g t)) [
+      | true ↦ λ e. ap (λ k. with_part s.row_index s.part (rows_for n k t)) (sym (same_group-eq g s.group e))
       | false ↦ λ e. refl
     ] refl
 
 pub rows-after : (n : ℕ) (g : List Text) (ss : List Share) (t : Table) → rows_for n g (with_shares n ss t) ≡ rows_after g ss (rows_for n g t)
 rows-after n g [] t = refl
-rows-after n g (s ∷ ss) t = rows-after n g ss (with_cell_part n s.group s.place s.part t) ∙ ap (rows_after g ss) (rows_step n g s t)
+rows-after n g (s ∷ ss) t = rows-after n g ss (with_cell_part n s.group s.row_index s.part t) ∙ ap (rows_after g ss) (rows_step n g s t)
 
 length_step : (b : Bool) (i : ℕ) (a : Aggregate) (rows : List Aggregate) → length (cond b (with_part i a rows) rows) ≡ length rows
 length_step true i a rows = length-set rows i _
@@ -83,7 +83,7 @@ length_step false i a rows = refl
 
 pub length-rows_after : (g : List Text) (ss : List Share) (rows : List Aggregate) → length (rows_after g ss rows) ≡ length rows
 length-rows_after g [] rows = refl
-length-rows_after g (s ∷ ss) rows = length-rows_after g ss (cond (same_group g s.group) (with_part s.place s.part rows) rows) ∙ length_step (same_group g s.group) s.place s.part rows
+length-rows_after g (s ∷ ss) rows = length-rows_after g ss (cond (same_group g s.group) (with_part s.row_index s.part rows) rows) ∙ length_step (same_group g s.group) s.row_index s.part rows
 
 -- ---- what stands in a bucket
 
@@ -99,18 +99,18 @@ part_at i j a rows l =
     ] refl
 
 row_step : (g : List Text) (j : ℕ) (s : Share) (rows : List Aggregate) → j < length rows
-    → get_or (cond (same_group g s.group) (with_part s.place s.part rows) rows) j empty_aggregate ≡ cond (is_share g j s) (added (get_or rows j empty_aggregate) s.part) (get_or rows j empty_aggregate)
+    → get_or (cond (same_group g s.group) (with_part s.row_index s.part rows) rows) j empty_aggregate ≡ cond (is_share g j s) (added (get_or rows j empty_aggregate) s.part) (get_or rows j empty_aggregate)
 row_step g j s rows l =
-    elim (same_group g s.group) as (λ b. get_or (cond b (with_part s.place s.part rows) rows) j empty_aggregate ≡ cond (b && (s.place == j)) (added (get_or rows j empty_aggregate) s.part) (get_or rows j empty_aggregate)) [
-      | true ↦ part_at s.place j s.part rows l
+    elim (same_group g s.group) as (λ b. get_or (cond b (with_part s.row_index s.part rows) rows) j empty_aggregate ≡ cond (b && (s.row_index == j)) (added (get_or rows j empty_aggregate) s.part) (get_or rows j empty_aggregate)) [
+      | true ↦ part_at s.row_index j s.part rows l
       | false ↦ refl
     ]
 
 pub held-after : (g : List Text) (j : ℕ) (ss : List Share) (rows : List Aggregate) → j < length rows → get_or (rows_after g ss rows) j empty_aggregate ≡ held_at g j ss (get_or rows j empty_aggregate)
 held-after g j [] rows l = refl
 held-after g j (s ∷ ss) rows l =
-    let next : List Aggregate = cond (same_group g s.group) (with_part s.place s.part rows) rows in
-    held-after g j ss next (subst (λ m. j < m) (sym (length_step (same_group g s.group) s.place s.part rows)) l) ∙ ap (held_at g j ss) (row_step g j s rows l)
+    let next : List Aggregate = cond (same_group g s.group) (with_part s.row_index s.part rows) rows in
+    held-after g j ss next (subst (λ m. j < m) (sym (length_step (same_group g s.group) s.row_index s.part rows)) l) ∙ ap (held_at g j ss) (row_step g j s rows l)
 
 -- ---- where all fits, nothing is left out
 
@@ -134,9 +134,9 @@ held-fits g j (s ∷ ss) x h =
 pub found-after : (n : ℕ) (g : List Text) (ss : List Share) (t : Table) → is_some (find group_cmp g (with_shares n ss t)) ≡ (list_any (λ s. same_group g s.group) ss || is_some (find group_cmp g t))
 found-after n g [] t = refl
 found-after n g (s ∷ ss) t =
-    found-after n g ss (with_cell_part n s.group s.place s.part t)
-    ∙ ap (λ o. list_any (λ s. same_group g s.group) ss || is_some o) (find-put group_cmp groups_total g s.group (with_part s.place s.part (rows_for n s.group t)) t)
-    ∙ swapped (same_group g s.group) (list_any (λ s. same_group g s.group) ss) (with_part s.place s.part (rows_for n s.group t)) (find group_cmp g t)
+    found-after n g ss (with_cell_part n s.group s.row_index s.part t)
+    ∙ ap (λ o. list_any (λ s. same_group g s.group) ss || is_some o) (find-put group_cmp groups_total g s.group (with_part s.row_index s.part (rows_for n s.group t)) t)
+    ∙ swapped (same_group g s.group) (list_any (λ s. same_group g s.group) ss) (with_part s.row_index s.part (rows_for n s.group t)) (find group_cmp g t)
   where
     swapped : (b c : Bool) (r : List Aggregate) (o : Option (List Aggregate)) → (c || is_some (cond b (Some r) o)) ≡ ((b || c) || is_some o)
     swapped true true r o = refl

@@ -15,16 +15,16 @@ use Rattle.ts_core.proofs.lists.Places.{both_of, less_of, rises, found_at, put_a
 use Rattle.ts_core.proofs.queries.GroupsInOrder.{groups_total, exact_groups, same_group-eq}
 use Rattle.ts_exec.specs.GroupTables.{IsGroupTable, rows_or, rows_for}
 use Rattle.ts_exec.specs.Slots.{Slots, AreSlots, with_made, made}
-use Rattle.ts_exec.specs.Searches.{IsPlaceOfGroup, HoldsGroup}
+use Rattle.ts_exec.specs.Searches.{IsSlotOfGroup, HoldsGroup}
 
 abbrev Slot : Type 0
 Slot = List Text × Option (List Aggregate)
 
 -- ---- what a search finds
 
-pub found_place : (slots : Slots) → AreSlots slots → (g : List Text) (r : Result ℕ ℕ) → IsBinarySearchResult (λ (e : Slot). group_cmp e.0 g) slots r → IsPlaceOfGroup g slots r
-found_place slots s g (Ok i) h = h
-found_place slots s g (Err i) h = h (rises groups_total slots s g)
+pub found_row_index : (slots : Slots) → AreSlots slots → (g : List Text) (r : Result ℕ ℕ) → IsBinarySearchResult (λ (e : Slot). group_cmp e.0 g) slots r → IsSlotOfGroup g slots r
+found_row_index slots s g (Ok i) h = h
+found_row_index slots s g (Err i) h = h (rises groups_total slots s g)
 
 index_less : (o : Ordering) → ordering_index o ≤ 0 → o ≡ Less
 index_less Less h = refl
@@ -32,7 +32,7 @@ index_less Equal h = absurd (omega arith)
 index_less Greater h = absurd (omega arith)
 
 -- where the last one is less than the group, all are
-pub behind_all : (slots : Slots) → AreSlots slots → (g : List Text) (last : Slot) → 0 < length slots → get_or slots (length slots - 1) last ≡ last → group_cmp last.0 g ≡ Less → IsPlaceOfGroup g slots (Err (length slots))
+pub behind_all : (slots : Slots) → AreSlots slots → (g : List Text) (last : Slot) → 0 < length slots → get_or slots (length slots - 1) last ≡ last → group_cmp last.0 g ≡ Less → IsSlotOfGroup g slots (Err (length slots))
 behind_all slots s g last some is less = (
   λ j d a b.
       let end : get_or slots (length slots - 1) d ≡ last = get_or_default slots (length slots - 1) d last (omega arith) ∙ is in
@@ -42,7 +42,7 @@ behind_all slots s g last some is less = (
   λ j d a b. absurd (omega arith),
 )
 
-pub behind_none : (slots : Slots) (g : List Text) → length slots ≡ 0 → IsPlaceOfGroup g slots (Err (length slots))
+pub behind_none : (slots : Slots) (g : List Text) → length slots ≡ 0 → IsSlotOfGroup g slots (Err (length slots))
 behind_none slots g none = (λ j d a b. absurd (omega arith), λ j d a b. absurd (omega arith))
 
 other : (x : Slot) (g : List Text) (a : Ordering) → group_cmp x.0 g ≡ a → is_eq (ordering_reverse a) ≡ false → same_group g x.0 ≡ false
@@ -147,7 +147,7 @@ made_expected slots s g none =
 -- ---- edits
 
 -- a new group, where it belongs
-module _ (slots : Slots) (s : AreSlots slots) (g : List Text) (i : ℕ) (l : i ≤ length slots) (p : IsPlaceOfGroup g slots (Err i)) where
+module _ (slots : Slots) (s : AreSlots slots) (g : List Text) (i : ℕ) (l : i ≤ length slots) (p : IsSlotOfGroup g slots (Err i)) where
   inserted : insert slots i (g, None) ≡ put group_cmp g None slots
   inserted = sym (put_between groups_total slots g None i l p)
 

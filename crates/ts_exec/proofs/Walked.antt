@@ -7,7 +7,7 @@ use Rattle.ts_core.specs.facts.Facts.{Fact, is_within}
 use Rattle.ts_core.specs.settings.Settings.{Rule}
 use Rattle.ts_core.specs.store.Marks.{index_of}
 use Rattle.ts_core.specs.queries.Queries.{Query, is_selected, matches}
-use Rattle.ts_core.specs.plans.Assembly.{stand_in}
+use Rattle.ts_core.specs.plans.Assembly.{representative}
 use Rattle.ts_core.specs.plans.Pieces.{start_of}
 use Rattle.ts_core.specs.store.Cells.{Cell}
 use Rattle.ts_core.specs.store.StoreStates.{CellParts, RuleCells, total_in}
@@ -50,7 +50,7 @@ within_fits a b (negsuc n) fa fb w = let within = within_parts a b (negsuc n) w 
 -- a cell that is taken starts in the query's range and in the piece
 pub taken-within : (q : Query) (r : Rule) (a b : ℤ) (c : SeenCell) → is_cell_taken q r a b c ≡ true → (is_within q.from q.to (start_of r c.cell.index) ≡ true) × (is_within a b (start_of r c.cell.index) ≡ true)
 taken-within q r a b c e =
-    let f : Fact = stand_in r c.cell in
+    let f : Fact = representative r c.cell in
     let both = and_parts (matches q f && is_within a b f.time) (not ((total_in c.parts).count == 0)) e in
     let parts = and_parts (matches q f) (is_within a b f.time) both.0 in
     ((and_parts (is_selected q f.column) (is_within q.from q.to f.time) parts.0).1, parts.1)

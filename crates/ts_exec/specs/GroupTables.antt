@@ -14,11 +14,11 @@ use Rattle.ts_core.specs.store.Marks.{index_of}
 use Rattle.ts_core.specs.settings.Settings.{Rule}
 use Rattle.ts_core.specs.store.StoreStates.{ColumnPoints, RuleCells, total_in}
 use Rattle.ts_core.specs.store.Views.{ViewState}
-use Rattle.ts_core.specs.plans.Assembly.{stand_in, rule_shown}
+use Rattle.ts_core.specs.plans.Assembly.{representative, rule_shown}
 use Rattle.ts_store.specs.read.ViewResults.{ColumnRef, column_refs_where, points_at, SeenCell, cells_within}
-use Rattle.ts_exec.specs.declared.kept.Kept.{Kept}
-use Rattle.ts_exec.specs.declared.kept.Kept.TheVariants.{Whole}
-use Rattle.ts_exec.specs.RowParts.{BucketGrid, bucket_grid, place_at, with_part, with_point_parts}
+use Rattle.ts_exec.specs.declared.aggregate_parts.AggregateParts.{AggregateParts}
+use Rattle.ts_exec.specs.declared.aggregate_parts.AggregateParts.TheVariants.{Whole}
+use Rattle.ts_exec.specs.RowParts.{BucketGrid, bucket_grid, row_index_at, with_part, with_point_parts}
 
 -- groups with their rows
 abbrev pub Table : Type 0
@@ -42,9 +42,9 @@ abbrev pub with_cell_part : ℕ → List Text → ℕ → Aggregate → Table �
 with_cell_part n g i a t = put group_cmp g (with_part i a (rows_for n g t)) t
 
 -- adds points to a group, inserting it if needed; without points, inserts no group
-abbrev pub with_column_parts : Kept → BucketGrid → ℕ → List Text → List (ℤ × ℤ) → Table → Table
-with_column_parts kept grid n g [] t = t
-with_column_parts kept grid n g (p ∷ ps) t = put group_cmp g (with_point_parts kept grid (p ∷ ps) (rows_for n g t)) t
+abbrev pub with_column_parts : AggregateParts → BucketGrid → ℕ → List Text → List (ℤ × ℤ) → Table → Table
+with_column_parts parts grid n g [] t = t
+with_column_parts parts grid n g (p ∷ ps) t = put group_cmp g (with_point_parts parts grid (p ∷ ps) (rows_for n g t)) t
 
 -- ---- a piece of raw points
 
@@ -56,15 +56,15 @@ pub record AreBucketsOf (q : Query) (n : ℕ) (g : BucketGrid) : Type 0 where
   pub width : n ≡ width q
   pub grid : g ≡ bucket_grid q
 
-abbrev pub with_column_ref : Kept → Query → List ColumnPoints → ℤ → ℤ → ColumnRef → Table → Table
-with_column_ref kept q cs a b s t =
+abbrev pub with_column_ref : AggregateParts → Query → List ColumnPoints → ℤ → ℤ → ColumnRef → Table → Table
+with_column_ref parts q cs a b s t =
     if list_all (meets s.series) q.conditions
-    then with_column_parts kept (bucket_grid q) (width q) (tag_values q.group_tags s.series) (points_at cs s.number a b) t
+    then with_column_parts parts (bucket_grid q) (width q) (tag_values q.group_tags s.series) (points_at cs s.number a b) t
     else t
 
-abbrev pub with_column_refs : Kept → Query → List ColumnPoints → ℤ → ℤ → List ColumnRef → Table → Table
-with_column_refs kept q cs a b [] t = t
-with_column_refs kept q cs a b (s ∷ ss) t = with_column_refs kept q cs a b ss (with_column_ref kept q cs a b s t)
+abbrev pub with_column_refs : AggregateParts → Query → List ColumnPoints → ℤ → ℤ → List ColumnRef → Table → Table
+with_column_refs parts q cs a b [] t = t
+with_column_refs parts q cs a b (s ∷ ss) t = with_column_refs parts q cs a b ss (with_column_ref parts q cs a b s t)
 
 -- ---- the columns of a query
 
@@ -81,12 +81,12 @@ pub record IsNarrowing (conditions : List Condition) (c : Condition) : Type 0 wh
 
 -- a cell that has data and matches the query
 abbrev pub is_cell_taken : Query → Rule → ℤ → ℤ → SeenCell → Bool
-is_cell_taken q r a b c = (matches q (stand_in r c.cell) && is_within a b (start_of r c.cell.index)) && not ((total_in c.parts).count == 0)
+is_cell_taken q r a b c = (matches q (representative r c.cell) && is_within a b (start_of r c.cell.index)) && not ((total_in c.parts).count == 0)
 
 abbrev pub with_cell : Query → Rule → ℤ → ℤ → SeenCell → Table → Table
 with_cell q r a b c t =
     if is_cell_taken q r a b c
-    then with_cell_part (width q) (group_of q (stand_in r c.cell)) (place_at (bucket_grid q) (start_of r c.cell.index)) (total_in c.parts) t
+    then with_cell_part (width q) (group_of q (representative r c.cell)) (row_index_at (bucket_grid q) (start_of r c.cell.index)) (total_in c.parts) t
     else t
 
 abbrev pub with_cell_parts : Query → Rule → ℤ → ℤ → List SeenCell → Table → Table
@@ -99,13 +99,13 @@ with_rule q a b (Some r) t = with_cell_parts q r.rule a b (cells_within r (index
 
 -- ---- pieces
 
-abbrev pub with_source : Kept → ViewState → Query → Source → ℤ → ℤ → Table → Table
-with_source kept seen q Raw a b t = with_column_refs kept q seen.columns a b (column_refs_where (is_of q.measurement q.field) seen.columns) t
-with_source kept seen q (Rollup name) a b t = with_rule q a b (rule_shown name seen.rules) t
+abbrev pub with_source : AggregateParts → ViewState → Query → Source → ℤ → ℤ → Table → Table
+with_source parts seen q Raw a b t = with_column_refs parts q seen.columns a b (column_refs_where (is_of q.measurement q.field) seen.columns) t
+with_source parts seen q (Rollup name) a b t = with_rule q a b (rule_shown name seen.rules) t
 
-abbrev pub with_pieces : Kept → ViewState → Query → List Piece → Table → Table
-with_pieces kept seen q [] t = t
-with_pieces kept seen q (p ∷ ps) t = with_pieces kept seen q ps (with_source kept seen q p.source p.from p.to t)
+abbrev pub with_pieces : AggregateParts → ViewState → Query → List Piece → Table → Table
+with_pieces parts seen q [] t = t
+with_pieces parts seen q (p ∷ ps) t = with_pieces parts seen q ps (with_source parts seen q p.source p.from p.to t)
 
 -- ---- the answer
 

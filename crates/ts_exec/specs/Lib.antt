@@ -3,7 +3,7 @@ pub mod RowParts
 pub mod GroupTables
 pub mod Shares
 pub mod Selections
-pub mod Lent
+pub mod Borrowed
 pub mod Answered
 pub mod ExecTexts
 pub mod Executions

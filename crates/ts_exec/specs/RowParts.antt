@@ -5,8 +5,8 @@ use Rattle.ts_core.specs.aggregates.Aggregates.{Aggregate, empty_aggregate, aggr
 use Rattle.ts_core.specs.aggregates.Buckets.{bucket_of}
 use Rattle.ts_core.specs.queries.Queries.{Query}
 use Rattle.ts_core.specs.queries.Answers.{at_least_none}
-use Rattle.ts_exec.specs.declared.kept.Kept.{Kept}
-use Rattle.ts_exec.specs.declared.kept.Kept.TheVariants.{CountAlone, CountAndSum, Whole}
+use Rattle.ts_exec.specs.declared.aggregate_parts.AggregateParts.{AggregateParts}
+use Rattle.ts_exec.specs.declared.aggregate_parts.AggregateParts.TheVariants.{CountAlone, CountAndSum, Whole}
 
 -- x and y merged, or x alone if they have more than 2^62 points together
 abbrev pub added : Aggregate → Aggregate → Aggregate
@@ -22,8 +22,8 @@ abbrev pub bucket_grid : Query → BucketGrid
 bucket_grid q = record { from = q.from; interval = q.interval; offset = q.offset }
 
 -- number of the bucket that contains t; 0 for times before bucket 0
-abbrev pub place_at : BucketGrid → ℤ → ℕ
-place_at g t = at_least_none (bucket_of t g.interval g.offset -ℤ bucket_of g.from g.interval g.offset)
+abbrev pub row_index_at : BucketGrid → ℤ → ℕ
+row_index_at g t = at_least_none (bucket_of t g.interval g.offset -ℤ bucket_of g.from g.interval g.offset)
 
 -- merges a part into row i
 abbrev pub with_part : ℕ → Aggregate → List Aggregate → List Aggregate
@@ -38,7 +38,7 @@ abbrev pub count_part : ℕ → Aggregate
 count_part n = record { count = n; sum = pos 0; extremes = Some wide_extremes }
 
 -- a point's part of a row; the parts that aren't kept are the same for all points
-abbrev pub part_of_point : Kept → ℤ → ℤ → Aggregate
+abbrev pub part_of_point : AggregateParts → ℤ → ℤ → Aggregate
 part_of_point CountAlone t v = count_part 1
 part_of_point CountAndSum t v = record { count = 1; sum = v; extremes = Some wide_extremes }
 part_of_point Whole t v = aggregate_of_one t v
@@ -48,27 +48,27 @@ abbrev pub with_counted : ℕ → ℕ → List Aggregate → List Aggregate
 with_counted i zero rows = rows
 with_counted i (suc n) rows = with_part i (count_part (suc n)) rows
 
-abbrev pub with_point_parts : Kept → BucketGrid → List (ℤ × ℤ) → List Aggregate → List Aggregate
-with_point_parts kept g [] rows = rows
-with_point_parts kept g (p ∷ ps) rows = with_point_parts kept g ps (with_part (place_at g p.0) (part_of_point kept p.0 p.1) rows)
+abbrev pub with_point_parts : AggregateParts → BucketGrid → List (ℤ × ℤ) → List Aggregate → List Aggregate
+with_point_parts parts g [] rows = rows
+with_point_parts parts g (p ∷ ps) rows = with_point_parts parts g ps (with_part (row_index_at g p.0) (part_of_point parts p.0 p.1) rows)
 
 -- a run of points: all times from low, inclusive, to high, exclusive, are in the row with this number. If there are
 -- any, the row has room for the part and `left` more points.
-pub record IsRun (g : BucketGrid) (rows : List Aggregate) (left : ℕ) (low high : ℤ) (place : ℕ) (part : Aggregate) : Type 0 where
-  pub within : (t : ℤ) → low ≤ℤ t → t <ℤ high → place ≡ min (place_at g t) 18446744073709551615
-  pub room : low <ℤ high → ((get_or rows place empty_aggregate).count + part.count) + left ≤ 2 ^ 62
+pub record IsRun (g : BucketGrid) (rows : List Aggregate) (left : ℕ) (low high : ℤ) (row_index : ℕ) (part : Aggregate) : Type 0 where
+  pub within : (t : ℤ) → low ≤ℤ t → t <ℤ high → row_index ≡ min (row_index_at g t) 18446744073709551615
+  pub bounded : low <ℤ high → ((get_or rows row_index empty_aggregate).count + part.count) + left ≤ 2 ^ 62
 
 -- a bucket starts at `high`, and the one before it has this number
-pub record IsEnd (g : BucketGrid) (high : ℤ) (place : ℕ) : Type 0 where
+pub record IsEnd (g : BucketGrid) (high : ℤ) (row_index : ℕ) : Type 0 where
   pub start : bucket_of high g.interval g.offset ≡ bucket_of (high -ℤ pos 1) g.interval g.offset +ℤ pos 1
-  pub last : place ≡ min (place_at g (high -ℤ pos 1)) 18446744073709551615
+  pub last : row_index ≡ min (row_index_at g (high -ℤ pos 1)) 18446744073709551615
 
 -- all times from low, inclusive, to high, exclusive, are in the bucket with this number. The next bucket starts at
 -- high, unless that is the greatest number of 64 bits.
-pub record IsGuess (g : BucketGrid) (low high : ℤ) (place : ℕ) : Type 0 where
+pub record IsGuess (g : BucketGrid) (low high : ℤ) (row_index : ℕ) : Type 0 where
   pub interval : pos 1 ≤ℤ g.interval
-  pub guessed : (t : ℤ) → low ≤ℤ t → t <ℤ high → place ≡ min (place_at g t) 18446744073709551615
-  pub edge : high <ℤ pos 9223372036854775807 → IsEnd g high place
+  pub guessed : (t : ℤ) → low ≤ℤ t → t <ℤ high → row_index ≡ min (row_index_at g t) 18446744073709551615
+  pub edge : high <ℤ pos 9223372036854775807 → IsEnd g high row_index
 
 -- the times from low, inclusive, to high, exclusive, are those in the bucket with this index, and t is one of them
 pub record IsSpan (t interval offset low high index : ℤ) : Type 0 where

@@ -8,9 +8,9 @@ use Rattle.ts_core.specs.aggregates.Aggregates.{Aggregate}
 use Rattle.ts_core.specs.queries.Answers.{group_cmp}
 use Rattle.ts_exec.specs.Slots.{Slots}
 
-abbrev pub IsPlaceOfGroup : List Text → Slots → Result ℕ ℕ → Type 0
-IsPlaceOfGroup g slots place =
-    MatchResult place (HoldsAt (λ (e : List Text × Option (List Aggregate)). group_cmp e.0 g ≡ Equal) slots)
+abbrev pub IsSlotOfGroup : List Text → Slots → Result ℕ ℕ → Type 0
+IsSlotOfGroup g slots row_index =
+    MatchResult row_index (HoldsAt (λ (e : List Text × Option (List Aggregate)). group_cmp e.0 g ≡ Equal) slots)
     (IsPartitionPoint (λ (e : List Text × Option (List Aggregate)). group_cmp e.0 g ≡ Less) (λ (e : List Text × Option (List Aggregate)). group_cmp e.0 g ≡ Greater) slots)
 
 -- slot i has the group

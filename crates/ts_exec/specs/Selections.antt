@@ -6,26 +6,26 @@ use Rattle.ts_core.specs.declared.queries.value.Function.{Function}
 use Rattle.ts_core.specs.declared.queries.value.Function.TheVariants.{Count, Sum, Min, Max, First, Last, Mean}
 use Rattle.ts_core.specs.queries.Answers.{Group}
 use Rattle.ts_core.specs.queries.Fills.{filled}
-use Rattle.ts_exec.specs.declared.kept.Kept.{Kept}
-use Rattle.ts_exec.specs.declared.kept.Kept.TheVariants.{CountAlone, CountAndSum, Whole}
+use Rattle.ts_exec.specs.declared.aggregate_parts.AggregateParts.{AggregateParts}
+use Rattle.ts_exec.specs.declared.aggregate_parts.AggregateParts.TheVariants.{CountAlone, CountAndSum, Whole}
 
 -- the value of the function needs only the parts that are kept
-abbrev pub keeps : Kept → Function → Bool
-keeps CountAlone Count = true
-keeps CountAlone Sum = false
-keeps CountAlone Min = false
-keeps CountAlone Max = false
-keeps CountAlone First = false
-keeps CountAlone Last = false
-keeps CountAlone Mean = false
-keeps CountAndSum Count = true
-keeps CountAndSum Sum = true
-keeps CountAndSum Min = false
-keeps CountAndSum Max = false
-keeps CountAndSum First = false
-keeps CountAndSum Last = false
-keeps CountAndSum Mean = true
-keeps Whole f = true
+abbrev pub suffice : AggregateParts → Function → Bool
+suffice CountAlone Count = true
+suffice CountAlone Sum = false
+suffice CountAlone Min = false
+suffice CountAlone Max = false
+suffice CountAlone First = false
+suffice CountAlone Last = false
+suffice CountAlone Mean = false
+suffice CountAndSum Count = true
+suffice CountAndSum Sum = true
+suffice CountAndSum Min = false
+suffice CountAndSum Max = false
+suffice CountAndSum First = false
+suffice CountAndSum Last = false
+suffice CountAndSum Mean = true
+suffice Whole f = true
 
 -- two answers have the same values of these functions, with any fill option
 abbrev pub HaveSameValues : List Function → List Group → List Group → Type 0

@@ -12,14 +12,14 @@ use Rattle.ts_core.specs.queries.Answers.{same_group}
 use Rattle.ts_core.specs.plans.Pieces.{Source, Raw, Rollup, Piece, start_of}
 use Rattle.ts_core.specs.store.StoreStates.{ColumnPoints, RuleCells, total_in}
 use Rattle.ts_core.specs.store.Views.{ViewState}
-use Rattle.ts_core.specs.plans.Assembly.{stand_in, rule_shown}
+use Rattle.ts_core.specs.plans.Assembly.{representative, rule_shown}
 use Rattle.ts_store.specs.read.ViewResults.{ColumnRef, column_refs_where, points_at, SeenCell, cells_within}
-use Rattle.ts_exec.specs.RowParts.{BucketGrid, bucket_grid, place_at}
+use Rattle.ts_exec.specs.RowParts.{BucketGrid, bucket_grid, row_index_at}
 use Rattle.ts_exec.specs.GroupTables.{Table, with_cell_part, is_cell_taken}
 
 pub record Share : Type 0 where
   pub group : List Text
-  pub place : ℕ
+  pub row_index : ℕ
   pub part : Aggregate
 
 abbrev pub group_in : Share → List Text
@@ -27,10 +27,10 @@ group_in s = s.group
 
 abbrev pub with_shares : ℕ → List Share → Table → Table
 with_shares n [] t = t
-with_shares n (s ∷ ss) t = with_shares n ss (with_cell_part n s.group s.place s.part t)
+with_shares n (s ∷ ss) t = with_shares n ss (with_cell_part n s.group s.row_index s.part t)
 
 abbrev pub is_share : List Text → ℕ → Share → Bool
-is_share g j s = same_group g s.group && (s.place == j)
+is_share g j s = same_group g s.group && (s.row_index == j)
 
 -- the merged contributions to bucket j of group g
 abbrev pub total_at : List Text → ℕ → List Share → Aggregate
@@ -44,7 +44,7 @@ points_of_shares (s ∷ ss) = s.part.count + points_of_shares ss
 -- ---- contributions of points and cells
 
 abbrev pub point_share : BucketGrid → List Text → ℤ × ℤ → Share
-point_share grid g p = record { group = g; place = place_at grid p.0; part = aggregate_of_one p.0 p.1 }
+point_share grid g p = record { group = g; row_index = row_index_at grid p.0; part = aggregate_of_one p.0 p.1 }
 
 abbrev pub column_ref_shares : Query → List ColumnPoints → ℤ → ℤ → ColumnRef → List Share
 column_ref_shares q cs a b s = if list_all (meets s.series) q.conditions then map (point_share (bucket_grid q) (tag_values q.group_tags s.series)) (points_at cs s.number a b) else []
@@ -54,7 +54,7 @@ column_refs_shares q cs a b [] = []
 column_refs_shares q cs a b (s ∷ ss) = column_ref_shares q cs a b s ++ column_refs_shares q cs a b ss
 
 abbrev pub cell_share : Query → Rule → SeenCell → Share
-cell_share q r c = record { group = group_of q (stand_in r c.cell); place = place_at (bucket_grid q) (start_of r c.cell.index); part = total_in c.parts }
+cell_share q r c = record { group = group_of q (representative r c.cell); row_index = row_index_at (bucket_grid q) (start_of r c.cell.index); part = total_in c.parts }
 
 abbrev pub rule_shares : Query → ℤ → ℤ → Option RuleCells → List Share
 rule_shares q a b None = []

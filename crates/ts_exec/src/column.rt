@@ -2,13 +2,13 @@
 ghost use Rattle.std.specs.Prelude.{◌≡◌, ◌∷◌, ◌+◌, ◌^◌, ◌<◌, ◌≤◌, ◌≤ℤ◌, ◌<ℤ◌, length, get_or};
 ghost use Rattle.ts_core.specs.aggregates.Aggregates.{empty_aggregate};
 ghost use Rattle.ts_store.specs.read.ViewResults.{points_at};
-ghost use Rattle.ts_exec.specs.declared.kept.Kept.TheVariants.{CountAlone};
+ghost use Rattle.ts_exec.specs.declared.aggregate_parts.AggregateParts.TheVariants.{CountAlone};
 ghost use Rattle.ts_exec.specs.RowParts.{with_counted, with_point_parts};
 
+use crate::aggregate_parts::AggregateParts;
 use crate::buckets::Buckets;
 use crate::fold::{Counted, Fold, Summed};
-use crate::kept::Kept;
-use crate::rows::{add_part, add_runs, has_room};
+use crate::rows::{add_part, add_runs, can_add};
 use std::alloc::Allocator;
 use ts_core::{Agg, Time};
 use ts_raw::{ColumnId, Points};
@@ -34,12 +34,12 @@ fn visit(rows: &mut [Agg], buckets: &mut Buckets, mut points: Points<'_>)
 }
 
 /// Adds the number of points of a bucket to its row, which must have room for them.
-fn add_count(rows: &mut [Agg], place: usize, count: u64)
-    requires { (get_or rows.old place empty_aggregate).count + (count + 1) ≤ 2 ^ 62 }
-    ensures { rows.new ≡ with_counted place count rows.old }
+fn add_count(rows: &mut [Agg], row_index: usize, count: u64)
+    requires { (get_or rows.old row_index empty_aggregate).count + (count + 1) ≤ 2 ^ 62 }
+    ensures { rows.new ≡ with_counted row_index count rows.old }
 {
     if count > 0 {
-        add_part(rows, place, Counted::of(count).part());
+        add_part(rows, row_index, Counted::of(count).part());
     }
 }
 
@@ -63,8 +63,8 @@ fn count_next<A: Allocator, V: View<A>>(
     let end = span.high.min(range.to);
     if span.low <= from && from < end {
         let count = range.view.raw_range(range.column, from, end).len() as u64;
-        if has_room(rows, span.place, count) {
-            add_count(rows, span.place, count);
+        if can_add(rows, span.row_index, count) {
+            add_count(rows, span.row_index, count);
             return end;
         }
     }
@@ -93,7 +93,7 @@ fn count<A: Allocator, V: View<A>>(
 /// of them.
 pub(crate) fn add_points<A: Allocator, V: View<A>>(
     rows: &mut [Agg],
-    kept: Kept,
+    parts: AggregateParts,
     buckets: &mut Buckets,
     range: &ColumnRange<'_, V>,
     first: (Time, i64),
@@ -101,18 +101,18 @@ pub(crate) fn add_points<A: Allocator, V: View<A>>(
 )
     requires column { range.now.column < length (V.seen range.now.view.now).columns }
     requires points { points_at (V.seen range.now.view.now).columns range.now.column range.now.from range.now.to ≡ first ∷ others }
-    ensures value { rows.new ≡ with_point_parts kept buckets.old (first ∷ others.entry) rows.old }
+    ensures value { rows.new ≡ with_point_parts parts buckets.old (first ∷ others.entry) rows.old }
     ensures same { buckets.new ≡ buckets.old }
 {
-    match kept {
-        Kept::CountAlone => {
+    match parts {
+        AggregateParts::CountAlone => {
             if buckets.are_full(others.len(), range.from, range.to) {
                 count(rows, buckets, range);
             } else {
                 add_runs::<Counted>(rows, buckets, first, others);
             }
         }
-        Kept::CountAndSum => add_runs::<Summed>(rows, buckets, first, others),
-        Kept::Whole => add_runs::<Agg>(rows, buckets, first, others),
+        AggregateParts::CountAndSum => add_runs::<Summed>(rows, buckets, first, others),
+        AggregateParts::Whole => add_runs::<Agg>(rows, buckets, first, others),
     }
 }

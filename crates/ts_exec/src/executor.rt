@@ -8,9 +8,9 @@ ghost use Rattle.ts_exec.specs.Fillings.{functions_of};
 ghost use Rattle.ts_exec.specs.GroupTables.{with_pieces, width, group_with, given};
 ghost use Rattle.ts_exec.specs.Selections.{HaveSameValues};
 
+use crate::aggregate_parts::{AggregateParts, parts_for};
 use crate::fault::ExecFault;
 use crate::groups::{GroupRows, Groups};
-use crate::kept::{Kept, kept_for};
 use crate::pieces::{Scan, add_pieces};
 use crate::table::Table;
 use std::alloc::{AllocError, Allocator};
@@ -21,18 +21,18 @@ use ts_store::View;
 /// Returns the groups of the pieces of a plan, with their rows. Keeps these parts of raw points.
 fn groups_given<'a, A: Allocator + Copy + 'a, V: View<A> + 'a>(
     alloc: A,
-    kept: Kept,
+    parts: AggregateParts,
     view: &'a V,
     query: &Query<A>,
     pieces: &[Piece],
 ) -> Result<Vec<GroupRows<'a, A>, A>, AllocError>
-    ensures given { IfOk result (λ v. v.items ≡ with_pieces kept (V.seen view.now) query.now.query pieces.now []) }
+    ensures given { IfOk result (λ v. v.items ≡ with_pieces parts (V.seen view.now) query.now.query pieces.now []) }
     ensures rows { IfOk result (λ v. AllByRecursion (HasRows (width query.now.query)) v.items) }
     ensures query { IsOk result → IsQuery query.now.query }
 {
     let mut groups = Groups::new(alloc);
     let mut scan = Scan::new(alloc, query)?;
-    add_pieces(&mut groups, &mut scan, kept, view, pieces)?;
+    add_pieces(&mut groups, &mut scan, parts, view, pieces)?;
     groups.into_groups()
 }
 
@@ -47,8 +47,8 @@ fn groups_selected<'a, A: Allocator + Copy + 'a, V: View<A> + 'a>(
     ensures rows { IfOk result (λ v. AllByRecursion (HasRows (width query.now.query)) v.items) }
     ensures query { IsOk result → IsQuery query.now.query }
 {
-    let kept = kept_for(query.columns());
-    groups_given(alloc, kept, view, query, pieces)
+    let parts = parts_for(query.columns());
+    groups_given(alloc, parts, view, query, pieces)
 }
 
 /// Returns true if the view has the settings and marks that the plan was checked under.
@@ -71,8 +71,14 @@ pub fn execute<'a, A: Allocator + Copy + 'a, V: View<A> + 'a>(
     if !is_fresh(view, checked) {
         return Err(ExecFault::Stale(view.settings(), view.marks()));
     }
-    let groups = groups_given(alloc, Kept::Whole, view, checked.query(), checked.pieces())?;
-    let query = checked.query().copied(alloc)?;
+    let groups = groups_given(
+        alloc,
+        AggregateParts::Whole,
+        view,
+        checked.query(),
+        checked.pieces(),
+    )?;
+    let query = checked.query().try_clone(alloc)?;
     Ok(Table::new(query, groups))
 }
 
@@ -90,6 +96,6 @@ pub fn execute_selected<'a, A: Allocator + Copy + 'a, V: View<A> + 'a>(
         return Err(ExecFault::Stale(view.settings(), view.marks()));
     }
     let groups = groups_selected(alloc, view, checked.query(), checked.pieces())?;
-    let query = checked.query().copied(alloc)?;
+    let query = checked.query().try_clone(alloc)?;
     Ok(Table::new(query, groups))
 }

@@ -79,11 +79,11 @@ pub struct FilledGroup<'r, 'a, A: Allocator> {
 
 impl<'r, 'a, A: Allocator> Model for FilledGroup<'r, 'a, A> {
     ghost use Rattle.ts_core.specs.queries.Fills.{FilledGroup as GroupValue};
-    ghost use Rattle.ts_exec.specs.Lent.{lent};
+    ghost use Rattle.ts_exec.specs.Borrowed.{borrowed};
 
     ghost Value = { GroupValue };
 
-    ghost view = { λ g. record { values = lent g.values.now; rows = g.rows } };
+    ghost view = { λ g. record { values = borrowed g.values.now; rows = g.rows } };
 }
 
 /// Iterator over the filled groups. Its model is the list of those that remain.

@@ -1,8 +1,8 @@
 //! Folds of points that keep parts of an aggregate.
 ghost use Rattle.std.specs.Prelude.{◌≡◌, ◌+◌, ◌^◌, ◌<◌, ◌≤◌};
 ghost use Rattle.ts_core.specs.aggregates.Aggregates.{Aggregate, merged};
-ghost use Rattle.ts_exec.specs.declared.kept.Kept.{Kept};
-ghost use Rattle.ts_exec.specs.declared.kept.Kept.TheVariants.{CountAlone, CountAndSum, Whole};
+ghost use Rattle.ts_exec.specs.declared.aggregate_parts.AggregateParts.{AggregateParts};
+ghost use Rattle.ts_exec.specs.declared.aggregate_parts.AggregateParts.TheVariants.{CountAlone, CountAndSum, Whole};
 ghost use Rattle.ts_exec.specs.RowParts.{count_part, part_of_point, wide_extremes};
 
 use std::marker::Model;
@@ -10,18 +10,18 @@ use ts_core::{Agg, Extremes, Partial, Time};
 
 /// Fold of points: keeps some parts of their aggregate.
 pub(crate) trait Fold: Copy {
-    ghost kept: { Kept };
+    ghost parts: { AggregateParts };
 
     ghost folded: { Self → Aggregate };
 
     /// Returns the fold of one point.
     fn single(time: Time, value: i64) -> Self
-        ensures { folded result ≡ part_of_point kept time value };
+        ensures { folded result ≡ part_of_point parts time value };
 
     /// Adds a point.
     fn with(self, time: Time, value: i64) -> Self
         requires { (folded self).count < 2 ^ 62 }
-        ensures { folded result ≡ merged (folded self) (part_of_point kept time value) };
+        ensures { folded result ≡ merged (folded self) (part_of_point parts time value) };
 
     /// Returns an aggregate with the parts that are kept.
     fn part(self) -> Agg
@@ -76,7 +76,7 @@ impl Counted {
 }
 
 impl Fold for Counted {
-    ghost kept = { CountAlone };
+    ghost parts = { CountAlone };
 
     ghost folded = { λ c. c };
 
@@ -120,7 +120,7 @@ impl Model for Summed {
 }
 
 impl Fold for Summed {
-    ghost kept = { CountAndSum };
+    ghost parts = { CountAndSum };
 
     ghost folded = { λ s. s };
 
@@ -147,7 +147,7 @@ impl Fold for Summed {
 }
 
 impl Fold for Agg {
-    ghost kept = { Whole };
+    ghost parts = { Whole };
 
     ghost folded = { λ a. a };
 

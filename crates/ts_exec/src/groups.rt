@@ -2,14 +2,14 @@
 ghost use Rattle.std.specs.Prelude.{◌≡◌, ◌≤◌, ◌<◌, true, [], length, Err, OnOk, IfOk};
 ghost use Rattle.std.specs.List.Sorted.{IsSearchInRange};
 ghost use Rattle.ts_store.specs.read.ViewResults.{points_at};
-ghost use Rattle.ts_exec.specs.Lent.{lent};
-ghost use Rattle.ts_exec.specs.Searches.{IsPlaceOfGroup, HoldsGroup};
+ghost use Rattle.ts_exec.specs.Borrowed.{borrowed};
+ghost use Rattle.ts_exec.specs.Searches.{IsSlotOfGroup, HoldsGroup};
 ghost use Rattle.ts_exec.specs.Slots.{AreSlots, made};
 ghost use Rattle.ts_exec.specs.GroupTables.{with_column_parts, with_cell_part};
 
+use crate::aggregate_parts::AggregateParts;
 use crate::buckets::Buckets;
 use crate::column::ColumnRange;
-use crate::kept::Kept;
 use crate::slot::Slot;
 use std::alloc::{AllocError, Allocator};
 use std::cmp::Ordering;
@@ -28,17 +28,17 @@ impl<'a, A: Allocator> Model for GroupRows<'a, A> {
     ghost use Rattle.std.specs.Prelude.{List};
     ghost use Rattle.ts_core.specs.aggregates.Aggregates.{Aggregate};
     ghost use Rattle.ts_core.specs.facts.Facts.{Text};
-    ghost use Rattle.ts_exec.specs.Lent.{lent};
+    ghost use Rattle.ts_exec.specs.Borrowed.{borrowed};
 
     ghost Value = { List Text × List Aggregate };
 
-    ghost view = { λ g. (lent g.values.items, g.rows.items) };
+    ghost view = { λ g. (borrowed g.values.items, g.rows.items) };
 }
 
 impl<'a, A: Allocator> GroupRows<'a, A> {
     /// Returns the values of the tags that the query groups by, in the order of the tags.
     pub fn values(&self) -> &[&'a str]
-        ensures { lent result.now ≡ self.now.0 }
+        ensures { borrowed result.now ≡ self.now.0 }
     {
         self.values.as_slice()
     }
@@ -53,10 +53,10 @@ impl<'a, A: Allocator> GroupRows<'a, A> {
 
 /// Searches for a group by binary search. Returns `Ok` with its slot, or `Err` with the slot to insert it at. Tries the
 /// last one first, as groups mostly arrive in order.
-fn place_of<A: Allocator + Copy>(slots: &[Slot<'_, A>], values: &[&str]) -> Result<usize, usize>
+fn find_slot<A: Allocator + Copy>(slots: &[Slot<'_, A>], values: &[&str]) -> Result<usize, usize>
     requires { AreSlots slots.now }
     ensures bound { IsSearchInRange result (length slots.now) }
-    ensures place { IsPlaceOfGroup (lent values.now) slots.now result }
+    ensures row_index { IsSlotOfGroup (borrowed values.now) slots.now result }
 {
     let Some(last) = slots.last() else {
         return Err(0);
@@ -70,7 +70,7 @@ fn place_of<A: Allocator + Copy>(slots: &[Slot<'_, A>], values: &[&str]) -> Resu
 
 /// Returns true if the slot `at` has the group with these values.
 fn is_at<A: Allocator + Copy>(slots: &[Slot<'_, A>], at: usize, values: &[&str]) -> bool
-    ensures { result ≡ true → HoldsGroup (lent values.now) slots.now at }
+    ensures { result ≡ true → HoldsGroup (borrowed values.now) slots.now at }
 {
     match slots.get(at) {
         Some(slot) => slot.compare(values) == Ordering::Equal,
@@ -86,10 +86,10 @@ fn put<'a, A: Allocator + Copy>(
 ) -> Result<(), AllocError>
     requires slots { AreSlots slots.old.items }
     requires bound { at ≤ length slots.old.items }
-    requires place { IsPlaceOfGroup (lent values.items) slots.old.items (Err at) }
+    requires row_index { IsSlotOfGroup (borrowed values.items) slots.old.items (Err at) }
     ensures slots { AreSlots slots.new.items }
     ensures made { made slots.new.items ≡ made slots.old.items }
-    ensures place { OnOk result (HoldsGroup (lent values.entry.items) slots.new.items at) }
+    ensures row_index { OnOk result (HoldsGroup (borrowed values.entry.items) slots.new.items at) }
 {
     let slot = Slot::new(values);
     slots.insert(at, slot)?;
@@ -105,12 +105,12 @@ fn expect<'a, A: Allocator + Copy>(
     requires { AreSlots slots.old.items }
     ensures slots { AreSlots slots.new.items }
     ensures made { made slots.new.items ≡ made slots.old.items }
-    ensures place { IfOk result (λ at. HoldsGroup (lent values.now) slots.new.items at) }
+    ensures row_index { IfOk result (λ at. HoldsGroup (borrowed values.now) slots.new.items at) }
 {
     if is_at(slots.as_slice(), guess, values) {
         return Ok(guess);
     }
-    match place_of(slots.as_slice(), values) {
+    match find_slot(slots.as_slice(), values) {
         Ok(at) => Ok(at),
         Err(at) => {
             let values = Vec::from_slice(*slots.allocator(), values)?;
@@ -168,7 +168,7 @@ impl<'a, A: Allocator + Copy> Groups<'a, A> {
     pub(crate) fn expect(&mut self, values: Vec<&'a str, A>) -> Result<usize, AllocError>
         ensures { self.new ≡ self.old }
     {
-        match place_of(self.slots.as_slice(), values.as_slice()) {
+        match find_slot(self.slots.as_slice(), values.as_slice()) {
             Ok(at) => Ok(at),
             Err(at) => {
                 put(&mut self.slots, at, values)?;
@@ -182,15 +182,15 @@ impl<'a, A: Allocator + Copy> Groups<'a, A> {
         &mut self,
         width: usize,
         values: &[&'a str],
-        place: usize,
+        row_index: usize,
         part: Agg,
     ) -> Result<(), AllocError>
-        ensures { OnOk result (self.new ≡ with_cell_part width (lent values.now) place part self.old) }
+        ensures { OnOk result (self.new ≡ with_cell_part width (borrowed values.now) row_index part self.old) }
     {
         // In every bucket, cells come in the order of their groups.
         let at = expect(&mut self.slots, self.last.saturating_add(1), values)?;
         self.last = at;
-        self.slots[at].add_part(width, place, part)
+        self.slots[at].add_part(width, row_index, part)
     }
 
     /// Adds the points of a range to a group, inserting it if needed, and keeps these parts of them. Tries the slot
@@ -198,14 +198,14 @@ impl<'a, A: Allocator + Copy> Groups<'a, A> {
     pub(crate) fn add_points<V: View<A>>(
         &mut self,
         guess: usize,
-        kept: Kept,
+        parts: AggregateParts,
         width: usize,
         values: &[&'a str],
         buckets: &mut Buckets,
         range: &ColumnRange<'_, V>,
     ) -> Result<(), AllocError>
         requires { range.now.column < length (V.seen range.now.view.now).columns }
-        ensures value { OnOk result (self.new ≡ with_column_parts kept buckets.old width (lent values.now) (points_at (V.seen range.now.view.now).columns range.now.column range.now.from range.now.to) self.old) }
+        ensures value { OnOk result (self.new ≡ with_column_parts parts buckets.old width (borrowed values.now) (points_at (V.seen range.now.view.now).columns range.now.column range.now.from range.now.to) self.old) }
         ensures same { buckets.new ≡ buckets.old }
     {
         let mut points = range.view.raw_range(range.column, range.from, range.to);
@@ -213,6 +213,6 @@ impl<'a, A: Allocator + Copy> Groups<'a, A> {
             return Ok(());
         };
         let at = expect(&mut self.slots, guess, values)?;
-        self.slots[at].add_points(kept, width, buckets, range, first, points)
+        self.slots[at].add_points(parts, width, buckets, range, first, points)
     }
 }

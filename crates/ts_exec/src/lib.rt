@@ -18,11 +18,12 @@
 //! }
 //! ```
 //!
-//! To add a function: state the parts of an aggregate that it needs, in kept.rt and in `keeps` of
+//! To add a function: state the parts of an aggregate that it needs, in kept.rt and in `suffice` of
 //! specs/Selections.antt. ts_core's `Function` computes its value. To keep other parts: add a `Fold`. To add a fill
 //! option that ts_core's `Fill` has: touch filled.rt, and `row_content` and `content_rows` in specs/Fillings.antt.
 #![tactic(auto)]
 
+mod aggregate_parts;
 mod buckets;
 mod column;
 mod counting;
@@ -32,7 +33,6 @@ mod filled;
 mod filling;
 mod fold;
 mod groups;
-mod kept;
 mod pieces;
 mod rows;
 mod selection;

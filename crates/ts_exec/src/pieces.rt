@@ -1,7 +1,7 @@
 //! Adds the pieces of a plan to the groups.
 ghost use Rattle.std.specs.Prelude.{◌≡◌, ◌+◌, ◌^◌, ◌<◌, pos, ◌≤ℤ◌, true, option_map, zip, length, map, string_bytes, OnOk, IfOk};
 ghost use Rattle.std.specs.List.{list_all};
-ghost use Rattle.ts_core.specs.plans.Assembly.{stand_in};
+ghost use Rattle.ts_core.specs.plans.Assembly.{representative};
 ghost use Rattle.ts_core.specs.facts.Facts.{is_within};
 ghost use Rattle.ts_core.specs.store.Marks.{index_of};
 ghost use Rattle.ts_core.specs.plans.Pieces.{Raw, start_of};
@@ -10,13 +10,13 @@ ghost use Rattle.ts_core.specs.facts.Tags.{tag_values, value_among};
 ghost use Rattle.ts_ql.specs.Selects.{texts};
 ghost use Rattle.ts_store.specs.read.ViewResults.{view_cells_at};
 ghost use Rattle.ts_exec.specs.FirstOf.{rule_from};
-ghost use Rattle.ts_exec.specs.Lent.{lent};
+ghost use Rattle.ts_exec.specs.Borrowed.{borrowed};
 ghost use Rattle.ts_exec.specs.GroupTables.{with_cell, with_cell_parts, with_source, with_pieces, is_cell_taken};
 
+use crate::aggregate_parts::AggregateParts;
 use crate::buckets::{Buckets, width};
 use crate::column::ColumnRange;
 use crate::groups::Groups;
-use crate::kept::Kept;
 use crate::selection::selected_columns;
 use std::alloc::{AllocError, Allocator};
 use std::marker::Model;
@@ -68,7 +68,7 @@ fn read_values<'a, A: Allocator + Copy>(
     key: &'a Key<A>,
     tags: &[String<A>],
 ) -> Result<(), AllocError>
-    ensures { OnOk result (lent values.new.items ≡ tag_values (texts tags.now) key.now) }
+    ensures { OnOk result (borrowed values.new.items ≡ tag_values (texts tags.now) key.now) }
 {
     values.clear();
     for tag in tags {
@@ -81,8 +81,8 @@ fn read_values<'a, A: Allocator + Copy>(
 /// their texts compare in the same order.
 fn first_bytes(text: &str) -> u128 {
     let mut bytes = [0u8; 16];
-    for (place, byte) in bytes.iter_mut().zip(text.bytes()) {
-        *place = byte;
+    for (slot, byte) in bytes.iter_mut().zip(text.bytes()) {
+        *slot = byte;
     }
     u128::from_be_bytes(bytes)
 }
@@ -110,14 +110,14 @@ fn expect_groups<'a, A: Allocator + Copy>(
         expected.push((first_bytes(first), values, number))?;
     }
     expected.sort()?;
-    let mut places = Vec::from_elem(alloc, 0usize, expected.len())?;
+    let mut slots = Vec::from_elem(alloc, 0usize, expected.len())?;
     for (_, values, number) in expected {
         let at = groups.expect(values)?;
-        if let Some(place) = places.get_mut(number) {
-            *place = at;
+        if let Some(slot) = slots.get_mut(number) {
+            *slot = at;
         }
     }
-    Ok(places)
+    Ok(slots)
 }
 
 /// Adds the raw points from `from`, inclusive, to `to`, exclusive, that the query matches. Keeps these
@@ -125,21 +125,21 @@ fn expect_groups<'a, A: Allocator + Copy>(
 fn add_raw<'a, A: Allocator + Copy + 'a, V: View<A> + 'a>(
     groups: &mut Groups<'a, A>,
     scan: &mut Scan<'a, '_, A>,
-    kept: Kept,
+    parts: AggregateParts,
     view: &'a V,
     from: i64,
     to: i64,
 ) -> Result<(), AllocError>
-    ensures value { OnOk result (groups.new ≡ with_source kept (V.seen view.now) scan.old Raw from to groups.old) }
+    ensures value { OnOk result (groups.new ≡ with_source parts (V.seen view.now) scan.old Raw from to groups.old) }
     ensures same { scan.new ≡ scan.old }
 {
     let alloc = *scan.values.allocator();
     let columns = selected_columns(alloc, scan.query, view)?;
-    let places = expect_groups(groups, alloc, scan.query, &columns)?;
+    let slots = expect_groups(groups, alloc, scan.query, &columns)?;
     let mut number: usize = 0;
     for column in &columns {
         read_values(&mut scan.values, column.key, scan.query.group_tags())?;
-        let guess = places.get(number).copied().unwrap_or(0);
+        let guess = slots.get(number).copied().unwrap_or(0);
         number = number.saturating_add(1);
         let range = ColumnRange {
             view,
@@ -149,7 +149,7 @@ fn add_raw<'a, A: Allocator + Copy + 'a, V: View<A> + 'a>(
         };
         groups.add_points(
             guess,
-            kept,
+            parts,
             scan.width,
             &scan.values,
             &mut scan.buckets,
@@ -177,7 +177,7 @@ fn kept_value<'a, A: Allocator>(kept: &[String<A>], group: &'a [String<A>], tag:
 
 /// Returns true if a cell meets a condition.
 fn is_met_by<A: Allocator>(rule: &Rule<A>, cell: &ViewCell<'_, A>, condition: &Condition<A>) -> bool
-    ensures { result ≡ meets (stand_in rule.now cell.now.cell).column.series condition.now }
+    ensures { result ≡ meets (representative rule.now cell.now.cell).column.series condition.now }
 {
     let same = kept_value(rule.kept_tags(), cell.group, condition.tag()) == condition.value();
     if condition.negated() { !same } else { same }
@@ -189,7 +189,7 @@ fn are_met_by<A: Allocator>(
     cell: &ViewCell<'_, A>,
     conditions: &[Condition<A>],
 ) -> bool
-    ensures { result ≡ list_all (meets (stand_in rule.now cell.now.cell).column.series) conditions.now }
+    ensures { result ≡ list_all (meets (representative rule.now cell.now.cell).column.series) conditions.now }
 {
     conditions
         .iter()
@@ -205,7 +205,7 @@ fn is_within(from: i64, to: i64, moment: &i128) -> bool
 
 /// Returns true if the query matches the series and field of a cell.
 fn is_selected<A: Allocator>(rule: &Rule<A>, query: &Query<A>, cell: &ViewCell<'_, A>) -> bool
-    ensures { result ≡ is_selected query.now.query (stand_in rule.now cell.now.cell).column }
+    ensures { result ≡ is_selected query.now.query (representative rule.now cell.now.cell).column }
 {
     rule.measurement() == query.measurement()
         && cell.field == query.field()
@@ -244,7 +244,7 @@ fn read_kept_values<'a, A: Allocator + Copy>(
     group: &'a [String<A>],
     tags: &[String<A>],
 ) -> Result<(), AllocError>
-    ensures { OnOk result (lent values.new.items ≡ map (value_among (zip (map string_bytes kept.now) (map string_bytes group.now))) (texts tags.now)) }
+    ensures { OnOk result (borrowed values.new.items ≡ map (value_among (zip (map string_bytes kept.now) (map string_bytes group.now))) (texts tags.now)) }
 {
     values.clear();
     for tag in tags {
@@ -288,8 +288,8 @@ fn add_cell<'a, A: Allocator + Copy>(
         cell.group,
         scan.query.group_tags(),
     )?;
-    let place = scan.buckets.place(start as i64);
-    groups.add_part(scan.width, &scan.values, place, cell.total())
+    let row_index = scan.buckets.row_index(start as i64);
+    groups.add_part(scan.width, &scan.values, row_index, cell.total())
 }
 
 /// Adds the cells of a rule from `from`, inclusive, to `to`, exclusive, that the query matches.
@@ -336,15 +336,15 @@ pub(crate) fn rule_from<'a, A: Allocator>(
 fn add_piece<'a, A: Allocator + Copy + 'a, V: View<A> + 'a>(
     groups: &mut Groups<'a, A>,
     scan: &mut Scan<'a, '_, A>,
-    kept: Kept,
+    parts: AggregateParts,
     view: &'a V,
     piece: &Piece,
 ) -> Result<(), AllocError>
-    ensures value { OnOk result (groups.new ≡ with_source kept (V.seen view.now) scan.old piece.now.source piece.now.from piece.now.to groups.old) }
+    ensures value { OnOk result (groups.new ≡ with_source parts (V.seen view.now) scan.old piece.now.source piece.now.from piece.now.to groups.old) }
     ensures same { scan.new ≡ scan.old }
 {
     match &piece.source {
-        PieceSource::Raw => add_raw(groups, scan, kept, view, piece.from, piece.to),
+        PieceSource::Raw => add_raw(groups, scan, parts, view, piece.from, piece.to),
         PieceSource::Rollup(name) => match rule_from(0, view.settings().rules(), name.as_str()) {
             Some((number, rule)) => add_cells(
                 groups, scan, view, rule, number, piece.from, piece.to,
@@ -358,14 +358,14 @@ fn add_piece<'a, A: Allocator + Copy + 'a, V: View<A> + 'a>(
 pub(crate) fn add_pieces<'a, A: Allocator + Copy + 'a, V: View<A> + 'a>(
     groups: &mut Groups<'a, A>,
     scan: &mut Scan<'a, '_, A>,
-    kept: Kept,
+    parts: AggregateParts,
     view: &'a V,
     pieces: &[Piece],
 ) -> Result<(), AllocError>
-    ensures { OnOk result (groups.new ≡ with_pieces kept (V.seen view.now) scan.old pieces.now groups.old) }
+    ensures { OnOk result (groups.new ≡ with_pieces parts (V.seen view.now) scan.old pieces.now groups.old) }
 {
     for piece in pieces {
-        add_piece(groups, scan, kept, view, piece)?;
+        add_piece(groups, scan, parts, view, piece)?;
     }
     Ok(())
 }

@@ -1,7 +1,7 @@
 //! Adds points and parts to the rows of a group.
 ghost use Rattle.std.specs.Prelude.{◌≡◌, ◌∷◌, ◌+◌, ◌^◌, ◌≤◌, true, get_or, min, if◌then◌else◌};
 ghost use Rattle.ts_core.specs.aggregates.Aggregates.{empty_aggregate};
-ghost use Rattle.ts_exec.specs.RowParts.{IsRun, added, part_of_point, place_at, with_part, with_point_parts};
+ghost use Rattle.ts_exec.specs.RowParts.{IsRun, added, part_of_point, row_index_at, with_part, with_point_parts};
 
 use crate::buckets::{Buckets, Span};
 use crate::fold::Fold;
@@ -20,19 +20,19 @@ fn added(row: Agg, part: Agg) -> Agg
 }
 
 /// Merges a part into the row with this index, if there is one.
-pub(crate) fn add_part(rows: &mut [Agg], place: usize, part: Agg)
-    ensures { rows.new ≡ with_part place part rows.old }
+pub(crate) fn add_part(rows: &mut [Agg], row_index: usize, part: Agg)
+    ensures { rows.new ≡ with_part row_index part rows.old }
 {
-    if place < rows.len() {
-        rows[place] = added(rows[place], part);
+    if row_index < rows.len() {
+        rows[row_index] = added(rows[row_index], part);
     }
 }
 
 /// Returns true if the row with this index has room for a point and `others` more.
-pub(crate) fn has_room(rows: &[Agg], place: usize, others: u64) -> bool
-    ensures { result ≡ true → (get_or rows.now place empty_aggregate).count + (others + 1) ≤ 2 ^ 62 }
+pub(crate) fn can_add(rows: &[Agg], row_index: usize, others: u64) -> bool
+    ensures { result ≡ true → (get_or rows.now row_index empty_aggregate).count + (others + 1) ≤ 2 ^ 62 }
 {
-    let count = match rows.get(place) {
+    let count = match rows.get(row_index) {
         Some(row) => row.count(),
         None => 0,
     };
@@ -45,15 +45,15 @@ struct Run<F> {
     // Times from `low`, inclusive, to `high`, exclusive, are in the bucket.
     low: i64,
     high: i64,
-    place: usize,
+    row_index: usize,
     fold: F,
 }
 
 /// Returns the end of a run: that of its bucket, or of no time if the row has no room.
-fn end_of_run(span: &Span, roomy: bool) -> i64
-    ensures { result ≡ (if roomy then span.now.high else span.now.low) }
+fn end_of_run(span: &Span, can_grow: bool) -> i64
+    ensures { result ≡ (if can_grow then span.now.high else span.now.low) }
 {
-    if roomy { span.high } else { span.low }
+    if can_grow { span.high } else { span.low }
 }
 
 /// Begins a run by its first point, with at most `others` points to come. If these could give its row more than 2^62
@@ -65,17 +65,17 @@ fn begin_run<F: Fold>(
     value: i64,
     others: u64,
 ) -> Run<F>
-    ensures run { IsRun buckets.old rows.now others result.low result.high result.place (F.folded result.fold) }
-    ensures place { result.place ≡ min (place_at buckets.old time) 18_446_744_073_709_551_615 }
-    ensures fold { F.folded result.fold ≡ part_of_point F.kept time value }
+    ensures run { IsRun buckets.old rows.now others result.low result.high result.row_index (F.folded result.fold) }
+    ensures row_index { result.row_index ≡ min (row_index_at buckets.old time) 18_446_744_073_709_551_615 }
+    ensures fold { F.folded result.fold ≡ part_of_point F.parts time value }
     ensures same { buckets.new ≡ buckets.old }
 {
     let span = buckets.span(time.nanos());
-    let roomy = has_room(rows, span.place, others);
+    let can_grow = can_add(rows, span.row_index, others);
     Run {
         low: span.low,
-        high: end_of_run(&span, roomy),
-        place: span.place,
+        high: end_of_run(&span, can_grow),
+        row_index: span.row_index,
         fold: F::single(time, value),
     }
 }
@@ -87,7 +87,7 @@ pub(crate) fn add_runs<F: Fold>(
     first: (Time, i64),
     others: Points<'_>,
 )
-    ensures value { rows.new ≡ with_point_parts F.kept buckets.old (first ∷ others.entry) rows.old }
+    ensures value { rows.new ≡ with_point_parts F.parts buckets.old (first ∷ others.entry) rows.old }
     ensures same { buckets.new ≡ buckets.old }
 {
     let _width = rows.len();
@@ -97,9 +97,9 @@ pub(crate) fn add_runs<F: Fold>(
         if run.low <= time.nanos() && time.nanos() < run.high {
             run.fold = run.fold.with(time, value);
         } else {
-            add_part(rows, run.place, run.fold.part());
+            add_part(rows, run.row_index, run.fold.part());
             run = begin_run(rows, buckets, time, value, count);
         }
     }
-    add_part(rows, run.place, run.fold.part());
+    add_part(rows, run.row_index, run.fold.part());
 }

@@ -2,13 +2,13 @@
 ghost use Rattle.std.specs.Prelude.{◌≡◌, ◌∷◌, ◌<◌, length, None, Some, OnOk, OnErr, option_map};
 ghost use Rattle.ts_core.specs.queries.Answers.{group_cmp};
 ghost use Rattle.ts_store.specs.read.ViewResults.{points_at};
-ghost use Rattle.ts_exec.specs.Lent.{lent};
+ghost use Rattle.ts_exec.specs.Borrowed.{borrowed};
 ghost use Rattle.ts_exec.specs.RowParts.{with_part, with_point_parts};
 ghost use Rattle.ts_exec.specs.GroupTables.{rows_or};
 
+use crate::aggregate_parts::AggregateParts;
 use crate::buckets::Buckets;
 use crate::column::{ColumnRange, add_points};
-use crate::kept::Kept;
 use crate::rows::add_part;
 use std::alloc::{AllocError, Allocator};
 use std::cmp::Ordering;
@@ -28,16 +28,16 @@ impl<'a, A: Allocator> Model for Slot<'a, A> {
     ghost use Rattle.std.specs.Prelude.{List, Option, option_map};
     ghost use Rattle.ts_core.specs.aggregates.Aggregates.{Aggregate};
     ghost use Rattle.ts_core.specs.facts.Facts.{Text};
-    ghost use Rattle.ts_exec.specs.Lent.{lent};
+    ghost use Rattle.ts_exec.specs.Borrowed.{borrowed};
 
     ghost Value = { List Text × Option (List Aggregate) };
 
-    ghost view = { λ s. (lent s.values.items, option_map (λ v. v.items) s.rows) };
+    ghost view = { λ s. (borrowed s.values.items, option_map (λ v. v.items) s.rows) };
 }
 
 /// Compares lists of texts lexicographically.
 fn compare(values: &[&str], others: &[&str]) -> Ordering
-    ensures { result ≡ group_cmp (lent values.now) (lent others.now) }
+    ensures { result ≡ group_cmp (borrowed values.now) (borrowed others.now) }
 {
     values.cmp(others)
 }
@@ -45,13 +45,13 @@ fn compare(values: &[&str], others: &[&str]) -> Ordering
 impl<'a, A: Allocator + Copy> Slot<'a, A> {
     /// Creates an empty group.
     pub(crate) fn new(values: Vec<&'a str, A>) -> Slot<'a, A>
-        ensures { result ≡ (lent values.entry.items, None) }
+        ensures { result ≡ (borrowed values.entry.items, None) }
     {
         Slot { values, rows: None }
     }
 
     pub(crate) fn compare(&self, values: &[&str]) -> Ordering
-        ensures { result ≡ group_cmp self.now.0 (lent values.now) }
+        ensures { result ≡ group_cmp self.now.0 (borrowed values.now) }
     {
         compare(self.values.as_slice(), values)
     }
@@ -72,15 +72,15 @@ impl<'a, A: Allocator + Copy> Slot<'a, A> {
     pub(crate) fn add_part(
         &mut self,
         width: usize,
-        place: usize,
+        row_index: usize,
         part: Agg,
     ) -> Result<(), AllocError>
-        ensures rows { OnOk result (self.new.1 ≡ Some (with_part place part (rows_or width self.old.1))) }
+        ensures rows { OnOk result (self.new.1 ≡ Some (with_part row_index part (rows_or width self.old.1))) }
         ensures key { self.new.0 ≡ self.old.0 }
     {
         self.make_rows(width)?;
         if let Some(rows) = &mut self.rows {
-            add_part(rows.as_mut_slice(), place, part);
+            add_part(rows.as_mut_slice(), row_index, part);
         }
         Ok(())
     }
@@ -89,7 +89,7 @@ impl<'a, A: Allocator + Copy> Slot<'a, A> {
     /// parts of them.
     pub(crate) fn add_points<V: View<A>>(
         &mut self,
-        kept: Kept,
+        parts: AggregateParts,
         width: usize,
         buckets: &mut Buckets,
         range: &ColumnRange<'_, V>,
@@ -98,13 +98,13 @@ impl<'a, A: Allocator + Copy> Slot<'a, A> {
     ) -> Result<(), AllocError>
         requires column { range.now.column < length (V.seen range.now.view.now).columns }
         requires points { points_at (V.seen range.now.view.now).columns range.now.column range.now.from range.now.to ≡ first ∷ others }
-        ensures rows { OnOk result (self.new.1 ≡ Some (with_point_parts kept buckets.old (first ∷ others.entry) (rows_or width self.old.1))) }
+        ensures rows { OnOk result (self.new.1 ≡ Some (with_point_parts parts buckets.old (first ∷ others.entry) (rows_or width self.old.1))) }
         ensures key { self.new.0 ≡ self.old.0 }
         ensures same { buckets.new ≡ buckets.old }
     {
         self.make_rows(width)?;
         if let Some(rows) = &mut self.rows {
-            add_points(rows.as_mut_slice(), kept, buckets, range, first, others);
+            add_points(rows.as_mut_slice(), parts, buckets, range, first, others);
         }
         Ok(())
     }

@@ -5,10 +5,10 @@ use Rattle.std.proofs.lemmas.List.{map-append}
 use Rattle.ts_core.specs.facts.Facts.{Text}
 use Rattle.ts_core.specs.store.StoreData.{StoreData}
 use Rattle.ts_core.specs.declared.facts.time_unit.TimeUnit.{TimeUnit}
-use Rattle.ts_store.specs.write.LineTexts.{State, IsIn, WritesText, WritesFrom, refusal_of, refusal_text, line_refusal_text}
+use Rattle.ts_store.specs.write.LineTexts.{LineState, IsIn, WritesText, WritesFrom, refusal_of, refusal_text, line_refusal_text}
 use Rattle.ts_store.specs.declared.write.write_text.LineOutcome.{LineOutcome}
 use Rattle.ts_store.specs.declared.write.write_text.LineRefusal.{LineRefusal}
-use Rattle.ts_http.specs.Batches.{TakesLines, body_lines, onto_first, refusals_from}
+use Rattle.ts_http.specs.Batches.{TakesLines, body_lines, onto_first_reply, refusals_from}
 use Rattle.ts_http.specs.Tallies.{TallyIs, WritesLines, numbered_refusal, first_of}
 use Rattle.ts_http.specs.declared.batch.Tally.{Tally}
 
@@ -70,9 +70,9 @@ counted_some_more os t text some is = record {
 
 -- ---- lines one after another
 
-took_more : (precision : TimeUnit) (now : ℤ) (old mid new : State) (texts : List Text) (os : List LineOutcome) (text : Text) (o : LineOutcome)
+took_more : (precision : TimeUnit) (now : ℤ) (old mid new : LineState) (texts : List Text) (os : List LineOutcome) (text : Text) (o : LineOutcome)
     → TakesLines precision now old texts os mid → WritesText precision now mid text o new → TakesLines precision now old (texts ++ text ∷ []) (os ++ o ∷ []) new
-took_more precision now old mid new [] [] text o t l = (new, subst (λ (s : State). WritesText precision now s text o new) t l, refl)
+took_more precision now old mid new [] [] text o t l = (new, subst (λ (s : LineState). WritesText precision now s text o new) t l, refl)
 took_more precision now old mid new (u ∷ us) (p ∷ ps) text o t l = (t.0, t.1, took_more precision now t.0 mid new us ps text o t.2 l)
 took_more precision now old mid new [] (p ∷ ps) text o t l = absurd t
 took_more precision now old mid new (u ∷ us) [] text o t l = absurd t
@@ -91,11 +91,11 @@ not_lf b x y other = grind (arith, nat_tests)
 
 pub last_line : (text : Text) → HasNoLf text → body_lines text ≡ text ∷ []
 last_line [] none = refl
-last_line (b ∷ bs) none = not_lf b _ _ (none 0 (omega arith)) ∙ ap (onto_first b) (last_line bs (λ i h. none (suc i) (omega arith)))
+last_line (b ∷ bs) none = not_lf b _ _ (none 0 (omega arith)) ∙ ap (onto_first_reply b) (last_line bs (λ i h. none (suc i) (omega arith)))
 
 first_line : (first others : Text) → HasNoLf first → body_lines (first ++ (10 ∷ others)) ≡ first ∷ body_lines others
 first_line [] others none = refl
-first_line (b ∷ bs) others none = not_lf b _ _ (none 0 (omega arith)) ∙ ap (onto_first b) (first_line bs others (λ i h. none (suc i) (omega arith)))
+first_line (b ∷ bs) others none = not_lf b _ _ (none 0 (omega arith)) ∙ ap (onto_first_reply b) (first_line bs others (λ i h. none (suc i) (omega arith)))
 
 pub next_line : (text first others : Text) → text ≡ first ++ (10 ∷ others) → HasNoLf first → body_lines text ≡ first ∷ body_lines others
 next_line text first others e none = ap body_lines e ∙ first_line first others none
@@ -103,20 +103,20 @@ next_line text first others e none = ap body_lines e ∙ first_line first others
 -- ---- the loop
 
 -- the progress of a batch: these lines of a body were written, and these come before the rest of it
-pub record SoFar (precision : TimeUnit) (now : ℤ) (s : State) (lines : List Text) (t : Tally) (left : List Text) (new : StoreData) : Type 0 where
+pub record SoFar (precision : TimeUnit) (now : ℤ) (s : LineState) (lines : List Text) (t : Tally) (left : List Text) (new : StoreData) : Type 0 where
   pub done : List Text
   pub outcomes : List LineOutcome
-  pub mid : State
+  pub mid : LineState
   pub lines_are : lines ≡ done ++ left
   pub took : TakesLines precision now s done outcomes mid
   pub tally : TallyIs (map refusal_text outcomes) t
   pub here : IsIn mid new
 
-pub begins : (precision : TimeUnit) (now : ℤ) (s : State) (lines : List Text) (t : Tally) (k : StoreData) → TallyIs [] t → IsIn s k → SoFar precision now s lines t lines k
+pub begins : (precision : TimeUnit) (now : ℤ) (s : LineState) (lines : List Text) (t : Tally) (k : StoreData) → TallyIs [] t → IsIn s k → SoFar precision now s lines t lines k
 begins precision now s lines t k tally i = record { done = []; outcomes = []; mid = s; lines_are = refl; took = refl; tally = tally; here = i }
 
-module _ (E : Type 0) (precision : TimeUnit) (now : ℤ) (s : State) (lines : List Text) (t t' : Tally) (text : Text) (left rest : List Text) (k k' : StoreData) (o : LineOutcome) (refusal : Option LineRefusal)
-    (so : SoFar precision now s lines t left k) (is : left ≡ text ∷ rest) (did : (m : State) → IsIn m k → WritesFrom precision now m text {E = E} (Ok o) k') (of : refusal ≡ refusal_of o)
+module _ (E : Type 0) (precision : TimeUnit) (now : ℤ) (s : LineState) (lines : List Text) (t t' : Tally) (text : Text) (left rest : List Text) (k k' : StoreData) (o : LineOutcome) (refusal : Option LineRefusal)
+    (so : SoFar precision now s lines t left k) (is : left ≡ text ∷ rest) (did : (m : LineState) → IsIn m k → WritesFrom precision now m text {E = E} (Ok o) k') (of : refusal ≡ refusal_of o)
     (counts : (os : List (Option Text)) → TallyIs os t → TallyIs (os ++ option_map line_refusal_text refusal ∷ []) t') where
   pub goes_on : SoFar precision now s lines t' rest k'
   goes_on =
@@ -131,12 +131,12 @@ module _ (E : Type 0) (precision : TimeUnit) (now : ℤ) (s : State) (lines : Li
         here = d.2;
       }
 
-pub all_done : (E : Type 0) (precision : TimeUnit) (now : ℤ) (s : State) (body : Text) (t : Tally) (k : StoreData) → SoFar precision now s (body_lines body) t [] k → WritesLines precision now s body {E = E} (Ok t) k
+pub all_done : (E : Type 0) (precision : TimeUnit) (now : ℤ) (s : LineState) (body : Text) (t : Tally) (k : StoreData) → SoFar precision now s (body_lines body) t [] k → WritesLines precision now s body {E = E} (Ok t) k
 all_done E precision now s body t k so =
     (so.outcomes, so.mid, subst (λ (l : List Text). TakesLines precision now s l so.outcomes so.mid) (sym (so.lines_are ∙ append-nil so.done)) so.took, so.tally, so.here)
 
-pub stopped : (E : Type 0) (precision : TimeUnit) (now : ℤ) (s : State) (body : Text) (t : Tally) (text : Text) (left rest : List Text) (k k' : StoreData) (e : E) → SoFar precision now s (body_lines body) t left k → left ≡ text ∷ rest
-    → ((m : State) → IsIn m k → WritesFrom precision now m text {E = E} (Err e) k') → WritesLines precision now s body {E = E} (Err e) k'
+pub stopped : (E : Type 0) (precision : TimeUnit) (now : ℤ) (s : LineState) (body : Text) (t : Tally) (text : Text) (left rest : List Text) (k k' : StoreData) (e : E) → SoFar precision now s (body_lines body) t left k → left ≡ text ∷ rest
+    → ((m : LineState) → IsIn m k → WritesFrom precision now m text {E = E} (Err e) k') → WritesLines precision now s body {E = E} (Err e) k'
 stopped E precision now s body t text left rest k k' e so is did =
     let d = did so.mid so.here in
     (d.0, record { done = so.done; line = text; others = rest; lines_are = so.lines_are ∙ ap (λ (l : List Text). so.done ++ l) is; outcomes = so.outcomes; mid = so.mid; took = so.took; wanted = d.1 }, d.2)

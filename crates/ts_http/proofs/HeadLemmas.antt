@@ -20,12 +20,12 @@ use Rattle.ts_http.specs.HeadsRead.{request_of, TellsHead, TellsFront}
 pub never-append : (came more : Text) → NeverHasRequest came → NeverHasRequest (came ++ more)
 never-append came more never others = subst HasNoRequest (sym (append_assoc came more others)) (never (more ++ others))
 
-pub overflows-append : (room : ℕ) (came more : Text) → RequestOverflows room came → RequestOverflows room (came ++ more)
-overflows-append room came more over others h rest reads =
+pub overflows-append : (buffer : ℕ) (came more : Text) → RequestOverflows buffer came → RequestOverflows buffer (came ++ more)
+overflows-append buffer came more over others h rest reads =
     over (more ++ others) h rest (subst (λ (b : Text). ReadsRequest b h rest) (append_assoc came more others) reads)
 
-pub exceeds-append : (room : ℕ) (came more : Text) → RequestExceeds room came → RequestExceeds room (came ++ more)
-exceeds-append room came more x = (x.0, x.1 ++ more, ap (λ (b : Text). b ++ more) x.2 ∙ append_assoc x.0 x.1 more, x.3, x.4, x.5)
+pub exceeds-append : (buffer : ℕ) (came more : Text) → RequestExceeds buffer came → RequestExceeds buffer (came ++ more)
+exceeds-append buffer came more x = (x.0, x.1 ++ more, ap (λ (b : Text). b ++ more) x.2 ∙ append_assoc x.0 x.1 more, x.3, x.4, x.5)
 
 -- no more fields than there are spans
 few_fields : (came : Text) (spans : List HeaderSpan) (count : ℕ) (h : RequestHead) → map (header_bytes came) (take count spans) ≡ map name_and_value h.fields → length h.fields ≤ length spans

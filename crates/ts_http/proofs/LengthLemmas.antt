@@ -13,7 +13,7 @@ use Rattle.std.specs.Str.Parse.{IsNumeral, AllDigits, without_leading_plus, digi
 use Rattle.ts_core.specs.facts.Facts.{Text}
 use Rattle.ts_core.specs.text.Numbers.{are_digits}
 use Rattle.ts_core.proofs.text.NumberLemmas.{all_digits, digit_not_plus}
-use Rattle.ts_http.specs.Requests.{is_number}
+use Rattle.ts_http.specs.Requests.{is_short_number}
 
 record Digits (value : Text) : Type 0 where
   some : 0 < length value
@@ -23,7 +23,7 @@ record Digits (value : Text) : Type 0 where
 not_empty : (value : Text) → not (length value == 0) ≡ true → 0 < length value
 not_empty value e = grind (arith, nat_tests)
 
-digits_of : (value : Text) → is_number value ≡ true → Digits value
+digits_of : (value : Text) → is_short_number value ≡ true → Digits value
 digits_of value e =
     let a = and_parts (are_digits value) (nat_le (length value) 18) e in
     let b = and_parts (not (length value == 0)) (list_all is_ascii_digit value) a.0 in
@@ -44,10 +44,10 @@ digits_ascii (c ∷ cs) e =
     let p = and_parts (is_ascii_digit c) (list_all is_ascii_digit cs) e in
     IsAscii-cons c cs (small c p.0) (digits_ascii cs p.1)
 
-pub length_is_text : (value : Text) → is_number value ≡ true → IsUtf8 value
+pub length_is_text : (value : Text) → is_short_number value ≡ true → IsUtf8 value
 length_is_text value e = IsUtf8-from_ascii value (digits_ascii value (digits_of value e).digits)
 
-pub length_parses : (value : Text) → is_number value ≡ true → IsNumeral 10 (without_leading_plus value) × (digits_value 10 (without_leading_plus value) < 18446744073709551616)
+pub length_parses : (value : Text) → is_short_number value ≡ true → IsNumeral 10 (without_leading_plus value) × (digits_value 10 (without_leading_plus value) < 18446744073709551616)
 length_parses value e =
     let d = digits_of value e in
     let all = all_digits value d.digits in

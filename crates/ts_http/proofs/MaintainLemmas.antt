@@ -11,8 +11,8 @@ use Rattle.ts_core.specs.store.StoreData.{StoreData, state_of, OfEachHistory, Go
 use Rattle.ts_core.specs.moves.StoreMoves.{run_begun}
 use Rattle.ts_store.specs.retain.WholeRuns.{steps_taken}
 use Rattle.ts_http.specs.Acts.{Replied, refusing, answer_reply, Maintains}
-use Rattle.ts_store.specs.write.LineTexts.{State, IsIn}
-use Rattle.ts_http.specs.Maintaining.{steps_in, OpensRun, run_opened, left_in, stepped, with_steps, progress_text, run_text}
+use Rattle.ts_store.specs.write.LineTexts.{LineState, IsIn}
+use Rattle.ts_http.specs.Maintaining.{steps_of_parameter, OpensRun, run_opened, left_in, stepped, with_steps, progress_text, run_text}
 use Rattle.ts_http.specs.MaintainSteps.{HasStepped}
 use Rattle.ts_http.specs.OutcomeReplies.{reply_of, MaintainsAs}
 use Rattle.ts_http.specs.declared.outcome.Outcome.{Outcome}
@@ -28,8 +28,8 @@ run_goes_on now k e = ap (λ b. cond b k (run_begun now k)) e
 pub run_begins_now : (now : ℤ) (k : StoreData) → k.running ≡ false → run_opened now k ≡ run_begun now k
 run_begins_now now k e = ap (λ b. cond b k (run_begun now k)) e
 
-opens_by : (now : ℤ) (s : State) (k : StoreData) (b : Bool) → k.running ≡ b → (k.running ≡ false → GoesOn k (Begin now) (run_begun now k)) → IsIn s k
-    → (opened : State) × OpensRun now s opened × IsIn opened (cond b k (run_begun now k))
+opens_by : (now : ℤ) (s : LineState) (k : StoreData) (b : Bool) → k.running ≡ b → (k.running ≡ false → GoesOn k (Begin now) (run_begun now k)) → IsIn s k
+    → (opened : LineState) × OpensRun now s opened × IsIn opened (cond b k (run_begun now k))
 opens_by now s k true e begins i = (s, OpensRun.goes_on (i.stands.running.0 e), i)
 opens_by now s k false e begins i = (
   record s { history = Begin now ∷ s.history },
@@ -37,7 +37,7 @@ opens_by now s k false e begins i = (
   record { stands = begins e s.opening s.history i.stands; series = i.series },
 )
 
-pub opens : (now : ℤ) (s : State) (k : StoreData) → (k.running ≡ false → GoesOn k (Begin now) (run_begun now k)) → IsIn s k → (opened : State) × OpensRun now s opened × IsIn opened (run_opened now k)
+pub opens : (now : ℤ) (s : LineState) (k : StoreData) → (k.running ≡ false → GoesOn k (Begin now) (run_begun now k)) → IsIn s k → (opened : LineState) × OpensRun now s opened × IsIn opened (run_opened now k)
 opens now s k begins i = opens_by now s k k.running refl begins i
 
 -- ---- steps
@@ -82,11 +82,11 @@ module _ (n : ℕ) (old : StoreData) where
 -- ---- the request
 
 module _ (now : ℤ) (query : Text) (old : StoreData) where
-  pub steps_refused : (r : Refusal) → (r ≡ refusals.OutOfMemory) ⊎ ((steps_in query ≡ None) × (r ≡ refusals.BadSteps)) → MaintainsAs now query old (outcomes.Refused r) old
+  pub steps_refused : (r : Refusal) → (r ≡ refusals.OutOfMemory) ⊎ ((steps_of_parameter query ≡ None) × (r ≡ refusals.BadSteps)) → MaintainsAs now query old (outcomes.Refused r) old
   steps_refused r why = λ s i.
       (s, ⊎_elim {C = Maintains now (left_in now old) s query (refusing r) s} (λ e. subst (λ q. Maintains now (left_in now old) s query (refusing q) s) (sym e) Maintains.wants_memory) (λ w. subst (λ q. Maintains now (left_in now old) s query (refusing q) s) (sym w.1) (Maintains.bad_steps w.0)) why, i)
 
-  pub maintained : (n : ℕ) (new : StoreData) (taken : ℕ) (done : Bool) (o : Outcome) → steps_in query ≡ Some n → (old.running ≡ false → GoesOn old (Begin now) (run_begun now old)) → HasStepped n (run_opened now old) new taken done
+  pub maintained : (n : ℕ) (new : StoreData) (taken : ℕ) (done : Bool) (o : Outcome) → steps_of_parameter query ≡ Some n → (old.running ≡ false → GoesOn old (Begin now) (run_begun now old)) → HasStepped n (run_opened now old) new taken done
       → reply_of false o ≡ answer_reply true (progress_text done new.marks.raw taken) → MaintainsAs now query old o new
   maintained n new taken done o asked begins did reply = λ s i.
       let opened = opens now s old begins i in

@@ -10,24 +10,24 @@ use borrow.Rule.Slice.PartMut.{put_mid}
 use Rattle.ts_core.specs.facts.Facts.{Text}
 
 -- the bytes that a read gave follow those that were there
-pub stands_behind : (room buf : Text) (count n : ℕ) → count ≤ length room → length buf ≡ length room - count → n ≤ length buf
-    → take (count + n) (put_mid count (length room - count) room buf) ≡ take count room ++ take n buf
-stands_behind room buf count n there size some =
-    sym (take-take (count + n) (count + length buf) (put_mid count (length room - count) room buf) (omega (arith, some)))
-    ∙ ap (take (count + n)) (take-put_mid count (length room - count) room buf (count + length buf) refl there)
-    ∙ ap (λ (k : ℕ). take (k + n) (take count room ++ buf)) (sym (length-take-le count room there))
-    ∙ take-append-add (take count room) buf n
+pub stands_behind : (buffer buf : Text) (count n : ℕ) → count ≤ length buffer → length buf ≡ length buffer - count → n ≤ length buf
+    → take (count + n) (put_mid count (length buffer - count) buffer buf) ≡ take count buffer ++ take n buf
+stands_behind buffer buf count n there size some =
+    sym (take-take (count + n) (count + length buf) (put_mid count (length buffer - count) buffer buf) (omega (arith, some)))
+    ∙ ap (take (count + n)) (take-put_mid count (length buffer - count) buffer buf (count + length buf) refl there)
+    ∙ ap (λ (k : ℕ). take (k + n) (take count buffer ++ buf)) (sym (length-take-le count buffer there))
+    ∙ take-append-add (take count buffer) buf n
 
-pub same_size : (room buf : Text) (count : ℕ) → count ≤ length room → length buf ≡ length room - count → length (put_mid count (length room - count) room buf) ≡ length room
-same_size room buf count there size = grind (arith, common_steps, overwrites, size, there)
+pub same_size : (buffer buf : Text) (count : ℕ) → count ≤ length buffer → length buf ≡ length buffer - count → length (put_mid count (length buffer - count) buffer buf) ≡ length buffer
+same_size buffer buf count there size = grind (arith, common_steps, overwrites, size, there)
 
 -- the bytes so far, and those of a read
-pub more_came : (old mid new : Option Text) (count n : ℕ) (room room' : Text) → Consumes old mid (take count room)
-    → ((got : Text) × (take (count + n) room' ≡ take count room ++ got) × (length got ≡ n) × Consumes mid new got) → Consumes old new (take (count + n) room')
-more_came old mid new count n room room' before came = subst (Consumes old new) (sym came.1) (Consumes-trans old mid new (take count room) came.0 before came.3)
+pub more_came : (old mid new : Option Text) (count n : ℕ) (buffer buffer' : Text) → Consumes old mid (take count buffer)
+    → ((got : Text) × (take (count + n) buffer' ≡ take count buffer ++ got) × (length got ≡ n) × Consumes mid new got) → Consumes old new (take (count + n) buffer')
+more_came old mid new count n buffer buffer' before came = subst (Consumes old new) (sym came.1) (Consumes-trans old mid new (take count buffer) came.0 before came.3)
 
 -- a read that gave nothing
-pub none_came : (old mid new : Option Text) (count n : ℕ) (room room' : Text) → n ≡ 0 → Consumes old mid (take count room)
-    → ((got : Text) × (take (count + n) room' ≡ take count room ++ got) × (length got ≡ n) × Consumes mid new got) → Consumes old new (take count room')
-none_came old mid new count n room room' none before came =
-    subst (λ (k : ℕ). Consumes old new (take k room')) (ap (λ (k : ℕ). count + k) none ∙ add-zero count) (more_came old mid new count n room room' before came)
+pub none_came : (old mid new : Option Text) (count n : ℕ) (buffer buffer' : Text) → n ≡ 0 → Consumes old mid (take count buffer)
+    → ((got : Text) × (take (count + n) buffer' ≡ take count buffer ++ got) × (length got ≡ n) × Consumes mid new got) → Consumes old new (take count buffer')
+none_came old mid new count n buffer buffer' none before came =
+    subst (λ (k : ℕ). Consumes old new (take k buffer')) (ap (λ (k : ℕ). count + k) none ∙ add-zero count) (more_came old mid new count n buffer buffer' before came)

@@ -16,11 +16,11 @@ use Rattle.ts_reply.specs.Explaining.{IsExplanation}
 use Rattle.ts_reply.specs.Epochs.{epoch_of}
 use Rattle.ts_reply.specs.declared.epoch.Epoch.{Epoch}
 use Rattle.ts_reply.specs.declared.epoch.Epoch.TheVariants as epochs
-use Rattle.ts_store.specs.write.LineTexts.{State}
+use Rattle.ts_store.specs.write.LineTexts.{LineState}
 use Rattle.ts_store.specs.rules.RuleTexts.{rule_for, settings_in, low_in, with_rule_added, with_rule_dropped}
 use Rattle.ts_store.specs.declared.write.write_text.LineOutcome.{LineOutcome}
 use Rattle.ts_http.specs.Batches.{TakesLines, StopsAtLine, body_lines, refusals_of, partial_text}
-use Rattle.ts_http.specs.Maintaining.{steps_in, OpensRun, with_steps, run_text}
+use Rattle.ts_http.specs.Maintaining.{steps_of_parameter, OpensRun, with_steps, run_text}
 use Rattle.ts_http.specs.HttpReplies.{reply_text, error_json, refusal_status, refusal_reply}
 use Rattle.ts_http.specs.Parameters.{parameters, first_named}
 use Rattle.ts_http.specs.declared.refusal.Refusal.{Refusal}
@@ -88,14 +88,14 @@ value_in name query body = first_named name (parameters query ++ parameters body
 -- ---- /write and /query
 
 -- From `old`, a request may have this reply and lead to this state.
-module _ (now : ℤ) (old : State) (query body : Text) where
-  pub data Writes : Replied → State → Type 0 where
+module _ (now : ℤ) (old : LineState) (query body : Text) where
+  pub data Writes : Replied → LineState → Type 0 where
     not_text : (IsUtf8 body → ⊥) → Writes (refusing BodyNotText) old
     bad_precision : IsUtf8 body → precision_in query ≡ None → Writes (refusing BadPrecision) old
     wants_memory : IsUtf8 body → Writes (refusing OutOfMemory) old
-    writes : (precision : TimeUnit) (outcomes : List LineOutcome) (new : State) → IsUtf8 body → precision_in query ≡ Some precision → TakesLines precision now old (body_lines body) outcomes new → Writes (batch_reply (refusals_of outcomes)) new
+    writes : (precision : TimeUnit) (outcomes : List LineOutcome) (new : LineState) → IsUtf8 body → precision_in query ≡ Some precision → TakesLines precision now old (body_lines body) outcomes new → Writes (batch_reply (refusals_of outcomes)) new
     -- out of memory at a line; the lines before it are written
-    stops : (precision : TimeUnit) (new : State) → IsUtf8 body → precision_in query ≡ Some precision → StopsAtLine precision now old (body_lines body) new → Writes (refusing OutOfMemory) new
+    stops : (precision : TimeUnit) (new : LineState) → IsUtf8 body → precision_in query ≡ Some precision → StopsAtLine precision now old (body_lines body) new → Writes (refusing OutOfMemory) new
 
   pub data Queries : Replied → Type 0 where
     not_text : (IsUtf8 body → ⊥) → Queries (refusing BodyNotText)
@@ -110,10 +110,10 @@ module _ (now : ℤ) (old : State) (query body : Text) where
 
 -- ---- /maintain, where a run has this number of steps left once it is open
 
-pub data Maintains (now : ℤ) (left : ℕ) (old : State) (query : Text) : Replied → State → Type 0 where
-  bad_steps : steps_in query ≡ None → Maintains now left old query (refusing BadSteps) old
+pub data Maintains (now : ℤ) (left : ℕ) (old : LineState) (query : Text) : Replied → LineState → Type 0 where
+  bad_steps : steps_of_parameter query ≡ None → Maintains now left old query (refusing BadSteps) old
   wants_memory : Maintains now left old query (refusing OutOfMemory) old
-  steps : (n : ℕ) (opened : State) → steps_in query ≡ Some n → OpensRun now old opened
+  steps : (n : ℕ) (opened : LineState) → steps_of_parameter query ≡ Some n → OpensRun now old opened
       → Maintains now left old query (answer_reply true (run_text n left (marks_of opened.opening opened.history).raw)) (with_steps n left opened)
 
 -- ---- /rules
@@ -127,7 +127,7 @@ abbrev pub dropped_body : Text → Text
 dropped_body name = codes "{\"dropped\":\"" ++ (name ++ codes "\"}")
 
 -- a POST: the body is a rule, which is added
-pub data PostsRule (old : State) (body : Text) : Replied → State → Type 0 where
+pub data PostsRule (old : LineState) (body : Text) : Replied → LineState → Type 0 where
   not_text : (IsUtf8 body → ⊥) → PostsRule old body (refusing BodyNotText) old
   wants_memory : IsUtf8 body → PostsRule old body (refusing OutOfMemory) old
   refuses : (fault : SettingsFault) → IsUtf8 body → rule_for (settings_in old) body ≡ Err fault → PostsRule old body (bad_reply (error_json (settings_fault_text fault))) old
@@ -138,17 +138,17 @@ abbrev pub name_in : Text → Option Text
 name_in query = first_named (codes "name") (parameters query)
 
 -- a DELETE: the rule with this name is dropped
-pub data DeletesRule (old : State) (query : Text) : Replied → State → Type 0 where
+pub data DeletesRule (old : LineState) (query : Text) : Replied → LineState → Type 0 where
   missing : name_in query ≡ None → DeletesRule old query (refusing MissingName) old
   wants_memory : DeletesRule old query (refusing OutOfMemory) old
   refuses : (name : Text) → name_in query ≡ Some name → is_named (settings_in old).rules name ≡ false → DeletesRule old query (bad_reply (error_json unknown_rule_text)) old
   drops : (name : Text) → name_in query ≡ Some name → IsTrue (is_named (settings_in old).rules name) → DeletesRule old query (answer_reply true (dropped_body name)) (with_rule_dropped name old)
 
 -- The effect of a request that isn't refused by its head, after its body was read.
-pub data Acts (now : ℤ) (left : ℕ) (old : State) (query body : Text) : Route → Method → Replied → State → Type 0 where
+pub data Acts (now : ℤ) (left : ℕ) (old : LineState) (query body : Text) : Route → Method → Replied → LineState → Type 0 where
   pings : (method : Method) → Acts now left old query body to.Ping method done_reply old
-  writes : (method : Method) (reply : Replied) (new : State) → Writes now old query body reply new → Acts now left old query body to.Write method reply new
+  writes : (method : Method) (reply : Replied) (new : LineState) → Writes now old query body reply new → Acts now left old query body to.Write method reply new
   queries : (method : Method) (reply : Replied) → Queries now old query body reply → Acts now left old query body to.Query method reply old
-  maintains : (method : Method) (reply : Replied) (new : State) → Maintains now left old query reply new → Acts now left old query body to.Maintain method reply new
-  adds : (reply : Replied) (new : State) → PostsRule old body reply new → Acts now left old query body to.Rules by.Post reply new
-  drops : (reply : Replied) (new : State) → DeletesRule old query reply new → Acts now left old query body to.Rules by.Delete reply new
+  maintains : (method : Method) (reply : Replied) (new : LineState) → Maintains now left old query reply new → Acts now left old query body to.Maintain method reply new
+  adds : (reply : Replied) (new : LineState) → PostsRule old body reply new → Acts now left old query body to.Rules by.Post reply new
+  drops : (reply : Replied) (new : LineState) → DeletesRule old query reply new → Acts now left old query body to.Rules by.Delete reply new

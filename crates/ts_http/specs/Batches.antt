@@ -4,41 +4,41 @@
 use Rattle.std.specs.Prelude.{◌≡◌, ℕ, ◌+◌, ℤ, ◌==◌, List, [], ◌∷◌, ◌++◌, map, codes, if◌then◌else◌, Option, Some, None, decimal}
 use Rattle.ts_core.specs.facts.Facts.{Text}
 use Rattle.ts_core.specs.declared.facts.time_unit.TimeUnit.{TimeUnit}
-use Rattle.ts_store.specs.write.LineTexts.{State, WritesText, RunsOutOfMemory, refusal_text}
+use Rattle.ts_store.specs.write.LineTexts.{LineState, WritesText, RunsOutOfMemory, refusal_text}
 use Rattle.ts_store.specs.declared.write.write_text.LineOutcome.{LineOutcome}
 
 -- ---- lines, whose timestamps have a precision, at a moment
 
 module _ (precision : TimeUnit) (now : ℤ) where
   -- Lines one after another, with the outcome of each.
-  abbrev pub TakesLines : State → List Text → List LineOutcome → State → Type 0
+  abbrev pub TakesLines : LineState → List Text → List LineOutcome → LineState → Type 0
   TakesLines old [] [] new = new ≡ old
-  TakesLines old (text ∷ texts) (o ∷ os) new = (mid : State) × WritesText precision now old text o mid × TakesLines mid texts os new
+  TakesLines old (text ∷ texts) (o ∷ os) new = (mid : LineState) × WritesText precision now old text o mid × TakesLines mid texts os new
   TakesLines old [] (o ∷ os) new = ⊥
   TakesLines old (text ∷ texts) [] new = ⊥
 
   -- One of these lines ran out of memory; the lines before it were written, and those after it were not.
-  pub record StopsAtLine (old : State) (texts : List Text) (new : State) : Type 0 where
+  pub record StopsAtLine (old : LineState) (texts : List Text) (new : LineState) : Type 0 where
     pub done : List Text
     pub line : Text
     pub others : List Text
     pub lines_are : texts ≡ done ++ (line ∷ others)
     pub outcomes : List LineOutcome
-    pub mid : State
+    pub mid : LineState
     pub took : TakesLines old done outcomes mid
     pub wanted : RunsOutOfMemory precision now mid line new
 
 -- ---- the body
 
 -- a byte before the first line
-abbrev pub onto_first : ℕ → List Text → List Text
-onto_first b [] = (b ∷ []) ∷ []
-onto_first b (line ∷ lines) = (b ∷ line) ∷ lines
+abbrev pub onto_first_reply : ℕ → List Text → List Text
+onto_first_reply b [] = (b ∷ []) ∷ []
+onto_first_reply b (line ∷ lines) = (b ∷ line) ∷ lines
 
 -- the lines of a body, between its LFs; the last LF is followed by another line, which may be blank
 abbrev pub body_lines : Text → List Text
 body_lines [] = [] ∷ []
-body_lines (b ∷ bs) = if b == 10 then [] ∷ body_lines bs else onto_first b (body_lines bs)
+body_lines (b ∷ bs) = if b == 10 then [] ∷ body_lines bs else onto_first_reply b (body_lines bs)
 
 -- ---- the report
 

@@ -17,11 +17,11 @@ abbrev pub request_of : Text → Input → Text
 request_of came left = came ++ unwrap_or left.remaining []
 
 -- one read into a buffer, after its first `count` bytes
-pub record IsReadBehind {E : Type 0} (old : Input) (count : ℕ) (room : Text) (result : Result ℕ E) (room' : Text) (new : Input) : Type 0 where
-  pub size : length room' ≡ length room
-  pub kept : take count room' ≡ take count room
-  pub within : IfOk result (λ n. count + n ≤ length room)
-  pub came : IfOk result (λ n. (got : Text) × (take (count + n) room' ≡ take count room ++ got) × (length got ≡ n) × Consumes old.remaining new.remaining got)
+pub record IsReadBehind {E : Type 0} (old : Input) (count : ℕ) (buffer : Text) (result : Result ℕ E) (buffer' : Text) (new : Input) : Type 0 where
+  pub size : length buffer' ≡ length buffer
+  pub kept : take count buffer' ≡ take count buffer
+  pub within : IfOk result (λ n. count + n ≤ length buffer)
+  pub came : IfOk result (λ n. (got : Text) × (take (count + n) buffer' ≡ take count buffer ++ got) × (length got ≡ n) × Consumes old.remaining new.remaining got)
   pub end : IfOk result (λ n. n ≡ 0 → IsAtEnd new.remaining)
   pub failures : new.failures ≡ old.failures + one_if_err result
   pub turns : new.turns ≡ old.turns + 1
@@ -34,10 +34,10 @@ TellsHead bytes came spans (read.Whole found) =
     IsRequestWithin came spans found × ((head : RequestHead) × IsRequestAt came spans found head × IsWholeHead bytes head (drop found.len bytes))
 
 -- a head is read into a buffer, whose first bytes are the request's
-pub record IsHeadRead {E : Type 0} (old : Input) (result : Result (ℕ × HeadRead) E) (room : Text) (spans : List HeaderSpan) (new : Input) : Type 0 where
-  pub within : IfOk result (λ r. r.0 ≤ length room)
-  pub bytes : IfOk result (λ r. Consumes old.remaining new.remaining (take r.0 room))
-  pub head : IfOk result (λ r. TellsHead (request_of (take r.0 room) new) (take r.0 room) spans r.1)
+pub record IsHeadRead {E : Type 0} (old : Input) (result : Result (ℕ × HeadRead) E) (buffer : Text) (spans : List HeaderSpan) (new : Input) : Type 0 where
+  pub within : IfOk result (λ r. r.0 ≤ length buffer)
+  pub bytes : IfOk result (λ r. Consumes old.remaining new.remaining (take r.0 buffer))
+  pub head : IfOk result (λ r. TellsHead (request_of (take r.0 buffer) new) (take r.0 buffer) spans r.1)
   pub failures : new.failures ≡ old.failures + one_if_err result
   pub turns : new.turns ≤ old.turns + head_limit
 

@@ -8,26 +8,26 @@ use Rattle.ts_core.specs.moves.Runs.{steps_left}
 use Rattle.ts_core.specs.store.StoreData.{StoreData, state_of}
 use Rattle.ts_core.specs.moves.StoreMoves.{run_begun}
 use Rattle.ts_store.specs.retain.WholeRuns.{steps_taken}
-use Rattle.ts_store.specs.write.LineTexts.{State}
+use Rattle.ts_store.specs.write.LineTexts.{LineState}
 use Rattle.ts_http.specs.Parameters.{parameters, first_named}
-use Rattle.ts_http.specs.Requests.{is_number}
+use Rattle.ts_http.specs.Requests.{is_short_number}
 
 -- ---- the number of steps: 1 to 5 digits, at most 10,000
 
 abbrev pub is_step_count : Text → Bool
-is_step_count value = is_number value && (nat_le (length value) 5 && nat_le (digits_value 10 value) 10000)
+is_step_count value = is_short_number value && (nat_le (length value) 5 && nat_le (digits_value 10 value) 10000)
 
 abbrev pub steps_parameter : Option Text → Option ℕ
 steps_parameter None = None
 steps_parameter (Some value) = if is_step_count value then Some (digits_value 10 value) else None
 
-abbrev pub steps_in : Text → Option ℕ
-steps_in query = steps_parameter (first_named (codes "steps") (parameters query))
+abbrev pub steps_of_parameter : Text → Option ℕ
+steps_of_parameter query = steps_parameter (first_named (codes "steps") (parameters query))
 
 -- ---- the run
 
 -- an open run continues; otherwise one begins
-pub data OpensRun (now : ℤ) (old : State) : State → Type 0 where
+pub data OpensRun (now : ℤ) (old : LineState) : LineState → Type 0 where
   goes_on : IsRunOpen old.history → OpensRun now old old
   begins : (IsRunOpen old.history → ⊥) → OpensRun now old (record old { history = Begin now ∷ old.history })
 
@@ -42,7 +42,7 @@ left_in now k = steps_left (state_of (run_opened now k))
 abbrev pub stepped : ℕ → ℕ → History → History
 stepped n left h = if nat_lt n left then steps_taken n h else Step true ∷ steps_taken (left - 1) h
 
-abbrev pub with_steps : ℕ → ℕ → State → State
+abbrev pub with_steps : ℕ → ℕ → LineState → LineState
 with_steps n left s = record s { history = stepped n left s.history }
 
 -- ---- the reply: true if the run ended, the raw mark, and the number of steps taken

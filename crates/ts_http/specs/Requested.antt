@@ -4,7 +4,7 @@ use Rattle.std.specs.Prelude.{◌≡◌, ◌<◌, Bool, true, false, ◌++◌, l
 use Rattle.httparse.specs.Grammar.{RequestHead}
 use Rattle.ts_core.specs.facts.Facts.{Text}
 use Rattle.ts_http.specs.Heads.{Nothing, Fault, IsWholeHead, ReadsHead}
-use Rattle.ts_http.specs.Requests.{path_of, query_of, route_of, method_of, fields_of, refused, body_length}
+use Rattle.ts_http.specs.Requests.{path_of, target_query, route_of, method_of, fields_of, refused, body_length}
 use Rattle.ts_http.specs.declared.head.HeadFault.{HeadFault}
 use Rattle.ts_http.specs.declared.refusal.Refusal.{Refusal}
 use Rattle.ts_http.specs.declared.refusal.Refusal.TheVariants.{Head, BodyEndsEarly, OutOfMemory}
@@ -45,4 +45,4 @@ pub data Asks (bytes : Text) : Request → Type 0 where
   cut : (head : RequestHead) (rest : Text) → IsWholeHead bytes head rest → is_taken head → length rest < body_length (method_in head) (fields_of head) → Asks bytes (Refuses BodyEndsEarly (route_in head) false)
   -- out of memory for the body
   wants_memory : (head : RequestHead) (rest : Text) → IsWholeHead bytes head rest → is_taken head → Asks bytes (Refuses OutOfMemory (route_in head) false)
-  wants : (head : RequestHead) (rest body others : Text) → IsWholeHead bytes head rest → is_taken head → rest ≡ body ++ others → length body ≡ body_length (method_in head) (fields_of head) → Asks bytes (Wants (route_in head) (method_in head) (query_of head.target) body)
+  wants : (head : RequestHead) (rest body others : Text) → IsWholeHead bytes head rest → is_taken head → rest ≡ body ++ others → length body ≡ body_length (method_in head) (fields_of head) → Asks bytes (Wants (route_in head) (method_in head) (target_query head.target) body)

@@ -25,8 +25,8 @@ is_question b = b == 63
 abbrev pub path_of : Text → Text
 path_of = before_first is_question
 
-abbrev pub query_of : Text → Text
-query_of = after_first is_question
+abbrev pub target_query : Text → Text
+target_query = after_first is_question
 
 unfoldable pub route_of : Text → Route
 route_of path =
@@ -86,16 +86,16 @@ Fields = List (Text × Text)
 abbrev pub same_ignoring_case : Text → Text → Bool
 same_ignoring_case a b = same_text (map to_ascii_lowercase a) (map to_ascii_lowercase b)
 
-abbrev pub is_named : Text → Text × Text → Bool
-is_named name field = same_ignoring_case field.0 name
+abbrev pub is_parameter_named : Text → Text × Text → Bool
+is_parameter_named name field = same_ignoring_case field.0 name
 
 abbrev pub has_field : Text → Fields → Bool
-has_field name fields = list_any (is_named name) fields
+has_field name fields = list_any (is_parameter_named name) fields
 
 -- the values of the fields with a name
-abbrev pub values_of : Text → Fields → List Text
-values_of name [] = []
-values_of name (field ∷ fields) = if is_named name field then field.1 ∷ values_of name fields else values_of name fields
+abbrev pub parameter_values : Text → Fields → List Text
+parameter_values name [] = []
+parameter_values name (field ∷ fields) = if is_parameter_named name field then field.1 ∷ parameter_values name fields else parameter_values name fields
 
 -- ---- the length of the body
 
@@ -103,13 +103,13 @@ abbrev pub body_limit : ℕ
 body_limit = 1048576
 
 -- 1 to 18 digits
-abbrev pub is_number : Text → Bool
-is_number value = are_digits value && nat_le (length value) 18
+abbrev pub is_short_number : Text → Bool
+is_short_number value = are_digits value && nat_le (length value) 18
 
 -- there is at most one length, and it has this form
 abbrev pub is_good_length : List Text → Bool
 is_good_length [] = true
-is_good_length (value ∷ []) = is_number value
+is_good_length (value ∷ []) = is_short_number value
 is_good_length (value ∷ other ∷ others) = false
 
 -- without a length the body is empty
@@ -118,7 +118,7 @@ length_given [] = 0
 length_given (value ∷ others) = digits_value 10 value
 
 abbrev pub lengths_of : Fields → List Text
-lengths_of fields = values_of (codes "content-length") fields
+lengths_of fields = parameter_values (codes "content-length") fields
 
 abbrev pub is_given : List Text → Bool
 is_given [] = false
@@ -126,7 +126,7 @@ is_given (value ∷ values) = true
 
 -- a Content-Encoding other than identity
 abbrev pub is_coded : Text × Text → Bool
-is_coded field = is_named (codes "content-encoding") field && not (same_ignoring_case field.1 (codes "identity"))
+is_coded field = is_parameter_named (codes "content-encoding") field && not (same_ignoring_case field.1 (codes "identity"))
 
 -- the reason why the body of a POST isn't read
 abbrev pub body_refused : Route → Fields → Option Refusal

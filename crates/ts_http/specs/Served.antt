@@ -9,7 +9,7 @@ use Rattle.ts_core.specs.declared.text.fault_code.FaultCode.{FaultCode}
 use Rattle.ts_core.specs.declared.text.fault_code.FaultCode.TheVariants as code
 use Rattle.ts_core.specs.declared.text.fault_text.FaultDetail.TheVariants.{Alone}
 use Rattle.ts_http.specs.Acts.{Replied, Acts}
-use Rattle.ts_store.specs.write.LineTexts.{State, IsIn}
+use Rattle.ts_store.specs.write.LineTexts.{LineState, IsIn}
 use Rattle.ts_http.specs.HttpReplies.{refusal_status, refusal_reply}
 use Rattle.ts_http.specs.Maintaining.{left_in}
 use Rattle.ts_http.specs.HeadsRead.{request_of}
@@ -28,14 +28,14 @@ request_turns = 1056769
 
 -- From `old`, at a moment, a request of these bytes may be served so, be answered with these, and leave that. A
 -- retention run has this number of steps left once it is open.
-pub data Serves (now : ℤ) (left : ℕ) (old : State) (bytes : Text) : Served → Text → State → Type 0 where
+pub data Serves (now : ℤ) (left : ℕ) (old : LineState) (bytes : Text) : Served → Text → LineState → Type 0 where
   nothing : Asks bytes NoRequest → Serves now left old bytes served.Nothing [] old
   refuses : (r : Refusal) (route : Route) (to_head : Bool) → Asks bytes (Refuses r route to_head) → Serves now left old bytes (served.Reply (refusal_status r) route) (refusal_reply to_head r) old
-  acts : (route : Route) (method : Method) (query body : Text) (reply : Replied) (new : State) → Asks bytes (Wants route method query body) → Acts now left old query body route method reply new → Serves now left old bytes (served.Reply reply.0 route) reply.1 new
+  acts : (route : Route) (method : Method) (query body : Text) (reply : Replied) (new : LineState) → Asks bytes (Wants route method query body) → Acts now left old query body route method reply new → Serves now left old bytes (served.Reply reply.0 route) reply.1 new
 
 -- In each state that the store was in, the request was served so, and its whole reply or a prefix of it was sent.
 abbrev pub ServedAs : ℤ → Text → StoreData → Served → StoreData → (Text → Type 0) → Type 0
-ServedAs now bytes old served new Sent = (s : State) → IsIn s old → (text : Text) × (s' : State) × Serves now (left_in now old) s bytes served text s' × IsIn s' new × Sent text
+ServedAs now bytes old served new Sent = (s : LineState) → IsIn s old → (text : Text) × (s' : LineState) × Serves now (left_in now old) s bytes served text s' × IsIn s' new × Sent text
 
 -- the code of each in the table of all faults
 abbrev pub io_fault_code : IoFault → FaultCode
@@ -46,15 +46,15 @@ abbrev pub io_fault_text : IoFault → Text
 io_fault_text fault = fault_text (io_fault_code fault) Alone
 
 -- the failures that a call adds to its reader's, and to its writer's
-abbrev pub one_if_reader : {T : Type 0} → Result T IoFault → ℕ
-one_if_reader (Ok x) = 0
-one_if_reader (Err Reader) = 1
-one_if_reader (Err Writer) = 0
+abbrev pub one_if_request_reader : {T : Type 0} → Result T IoFault → ℕ
+one_if_request_reader (Ok x) = 0
+one_if_request_reader (Err Reader) = 1
+one_if_request_reader (Err Writer) = 0
 
-abbrev pub one_if_writer : {T : Type 0} → Result T IoFault → ℕ
-one_if_writer (Ok x) = 0
-one_if_writer (Err Reader) = 0
-one_if_writer (Err Writer) = 1
+abbrev pub one_if_reply_writer : {T : Type 0} → Result T IoFault → ℕ
+one_if_reply_writer (Ok x) = 0
+one_if_reply_writer (Err Reader) = 0
+one_if_reply_writer (Err Writer) = 1
 
 -- One request served. If a reader's bytes are unknown, the request's are those that were read.
 pub record IsServed (now : ℤ) (old : StoreData) (source : Input) (sink : Output) (result : Result Served IoFault) (new : StoreData) (source' : Input) (sink' : Output) : Type 0 where
@@ -63,6 +63,6 @@ pub record IsServed (now : ℤ) (old : StoreData) (source : Input) (sink : Outpu
   pub begun : result ≡ Err Writer → (came : Text) × Consumes source.remaining source'.remaining came × ((served : Served) × ServedAs now (request_of came source') old served new (AppendsFront sink.contents sink'.contents))
   -- nothing was executed, and nothing was written
   pub unread : result ≡ Err Reader → (new ≡ old) × (sink' ≡ sink)
-  pub reader : source'.failures ≡ source.failures + one_if_reader result
-  pub writer : sink'.failures ≡ sink.failures + one_if_writer result
+  pub reader : source'.failures ≡ source.failures + one_if_request_reader result
+  pub writer : sink'.failures ≡ sink.failures + one_if_reply_writer result
   pub turns : source'.turns ≤ source.turns + request_turns

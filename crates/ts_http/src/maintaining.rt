@@ -3,12 +3,12 @@ ghost use Rattle.std.specs.Prelude.{◌≡◌, OnOk, Option, true, false};
 ghost use Rattle.ts_core.specs.store.History.{Begin};
 ghost use Rattle.ts_core.specs.store.StoreData.{GoesOn};
 ghost use Rattle.ts_core.specs.moves.StoreMoves.{run_begun};
-ghost use Rattle.ts_http.specs.Maintaining.{steps_parameter, steps_in, run_opened, progress_text};
+ghost use Rattle.ts_http.specs.Maintaining.{steps_parameter, steps_of_parameter, run_opened, progress_text};
 ghost use Rattle.ts_http.specs.MaintainSteps.{HasStepped};
 ghost use Rattle.ts_http.specs.OutcomeReplies.{IsValueOr, MaintainsAs};
-ghost use Rattle.ts_reply.specs.OutcomeViews.{handed_in};
+ghost use Rattle.ts_reply.specs.OutcomeViews.{given_text};
 
-use crate::fields::{is_number, number_of};
+use crate::fields::{is_short_number, number_of};
 use crate::outcome::Outcome;
 use crate::parameters::first_named;
 use crate::refusal::Refusal;
@@ -33,7 +33,7 @@ struct Progress {
 fn step_count(value: &[u8]) -> Option<usize>
     ensures { result ≡ steps_parameter (Option.Some value.now) }
 {
-    if !is_number(value) || value.len() > 5 {
+    if !is_short_number(value) || value.len() > 5 {
         return None;
     }
     let count = number_of(value);
@@ -42,7 +42,7 @@ fn step_count(value: &[u8]) -> Option<usize>
 
 /// Returns the number of steps of a request.
 fn steps<A: Allocator + Copy>(alloc: A, query: &[u8]) -> Result<usize, Refusal>
-    ensures { IsValueOr (steps_in query.now) Refusal.BadSteps result }
+    ensures { IsValueOr (steps_of_parameter query.now) Refusal.BadSteps result }
 {
     match first_named(alloc, query, "steps") {
         Ok(None) => Err(Refusal::BadSteps),

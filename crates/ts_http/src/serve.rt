@@ -4,7 +4,7 @@ ghost use Rattle.std.specs.List.{AllByRecursion};
 ghost use Rattle.httparse.specs.Spans.{IsHeaderWithin, IsRequestWithin, header_bytes, span_bytes};
 ghost use Rattle.ts_core.specs.io.Devices.{one_if_err};
 ghost use Rattle.ts_http.specs.Heads.{head_limit};
-ghost use Rattle.ts_http.specs.Requests.{path_of, query_of, route_of, method_of, is_allowed, body_limit, refused, body_length};
+ghost use Rattle.ts_http.specs.Requests.{path_of, target_query, route_of, method_of, is_allowed, body_limit, refused, body_length};
 ghost use Rattle.ts_http.specs.OutcomeReplies.{ActsAs, reply_of};
 ghost use Rattle.ts_http.specs.ServeSteps.{IsLengthAnswer, IsActedOn, IsSent};
 ghost use Rattle.ts_core.specs.text.FaultTexts.{IsAppended};
@@ -102,7 +102,7 @@ struct HeadParts<'a> {
 /// Splits a target at its first question mark.
 fn split_target(target: &[u8]) -> (&[u8], &[u8])
     ensures path { result.0.now ≡ path_of target.now }
-    ensures query { result.1.now ≡ query_of target.now }
+    ensures query { result.1.now ≡ target_query target.now }
 {
     match target.iter().position(|byte| *byte == b'?') {
         Some(at) => (&target[..at], &target[at + 1..]),
@@ -117,7 +117,7 @@ fn head_parts_of<'a>(came: &'a [u8], found: &RequestSpans) -> HeadParts<'a>
     requires len { found.now.len ≤ length came.now }
     ensures route { result.route ≡ route_of (path_of (span_bytes came.entry.now found.now.path)) }
     ensures method { result.method ≡ method_of (span_bytes came.entry.now found.now.method) }
-    ensures query { result.query.now ≡ query_of (span_bytes came.entry.now found.now.path) }
+    ensures query { result.query.now ≡ target_query (span_bytes came.entry.now found.now.path) }
     ensures behind { result.behind.now ≡ drop found.now.len came.entry.now }
 {
     let (path, query) = split_target(found.path.of(came));
@@ -238,9 +238,9 @@ pub fn serve_one<R: Read, W: Write, A: Allocator + Copy>(
 ) -> Result<Served, IoFault>
     ensures { IsServed now store.old source.old sink.old result store.new source.new sink.new }
 {
-    let mut room = [0; HEAD_LIMIT];
+    let mut buffer = [0; HEAD_LIMIT];
     let mut spans = [EMPTY_HEADER_SPAN; FIELD_LIMIT];
-    let (count, head) = read_head(source, &mut room, &mut spans)?;
+    let (count, head) = read_head(source, &mut buffer, &mut spans)?;
     match head {
         HeadRead::Nothing => Ok(Served::Nothing),
         HeadRead::Fault(fault) => {
@@ -248,7 +248,7 @@ pub fn serve_one<R: Read, W: Write, A: Allocator + Copy>(
             reply(&refused, Route::Other, false, sink)
         }
         HeadRead::Whole(found) => {
-            let came = &room[..count];
+            let came = &buffer[..count];
             let head = head_parts_of(came, &found);
             match body_len(came, &spans[..found.headers], head.route, head.method) {
                 Ok(len) => {

@@ -13,9 +13,9 @@ use Rattle.ts_store.specs.write.LinesPut.{OfEachRule, PutsCells}
 use Rattle.ts_store.specs.image.Building.{IsBuiltFrom, waiting_of, HaveCells}
 use Rattle.ts_image.specs.declared.version.Version.{Version}
 use Rattle.ts_image.specs.Images.{ImageRule, ImageColumn, ImageSeries, ImageCell, ImageData}
-use Rattle.ts_image.specs.ImageTests.{rule_in, settings_in, AreLows, IsImageCell, AreImageCells, CellsAre, IsImageSeries, IsPossible}
-use Rattle.ts_image.specs.Pictures.{column_in, points_in, columns_in, waiting_in, part_of, part_at, PicturesCells, PictureCells, IsPictureOf, IsMadeOf}
-use Rattle.ts_image.specs.StoresMade.{is_waiting, waits_in, cells_in, built_in, key_in, IsStoreOf}
+use Rattle.ts_image.specs.ImageTests.{rule_in, settings_of_image, AreLows, IsImageCell, AreImageCells, CellsAre, IsImageSeries, IsPossible}
+use Rattle.ts_image.specs.Pictures.{column_of_image, image_points_in, columns_of_image, waiting_of_image, cell_part_of, part_at, PicturesCells, PictureCells, IsPictureOf, IsMadeOf}
+use Rattle.ts_image.specs.StoresMade.{is_column_waiting, waits_in, cells_in, built_in, key_in, IsStoreOf}
 use Rattle.ts_image.proofs.MadeCells.{found, part_there, part_missing, part_from, cells_once}
 use Rattle.ts_image.proofs.Orders.{all_among}
 use Rattle.ts_image.proofs.RawPictures.{series_once, fields_once, columns_once}
@@ -23,18 +23,18 @@ use Rattle.ts_image.proofs.RawPictures.{series_once, fields_once, columns_once}
 -- ---- columns that wait
 
 here_waiting : (s : Series) (cs : List ImageColumn) (rest : List ColumnPoints) (ws : List Bool)
-    → waiting_of (map (points_in s) cs ++ rest) (map is_waiting cs ++ ws) ≡ map (column_in s) (filter is_waiting cs) ++ waiting_of rest ws
+    → waiting_of (map (image_points_in s) cs ++ rest) (map is_column_waiting cs ++ ws) ≡ map (column_of_image s) (filter is_column_waiting cs) ++ waiting_of rest ws
 here_waiting s [] rest ws = refl
 here_waiting s (c ∷ cs) rest ws =
-    elim (is_waiting c) as (λ b. cond b (column_in s c ∷ waiting_of (map (points_in s) cs ++ rest) (map is_waiting cs ++ ws)) (waiting_of (map (points_in s) cs ++ rest) (map is_waiting cs ++ ws))
-    ≡ map (column_in s) (cond b (c ∷ filter is_waiting cs) (filter is_waiting cs)) ++ waiting_of rest ws) [
-      | true ↦ ap (λ xs. column_in s c ∷ xs) (here_waiting s cs rest ws)
+    elim (is_column_waiting c) as (λ b. cond b (column_of_image s c ∷ waiting_of (map (image_points_in s) cs ++ rest) (map is_column_waiting cs ++ ws)) (waiting_of (map (image_points_in s) cs ++ rest) (map is_column_waiting cs ++ ws))
+    ≡ map (column_of_image s) (cond b (c ∷ filter is_column_waiting cs) (filter is_column_waiting cs)) ++ waiting_of rest ws) [
+      | true ↦ ap (λ xs. column_of_image s c ∷ xs) (here_waiting s cs rest ws)
       | false ↦ here_waiting s cs rest ws
     ]
 
-pub all_waiting : (ss : List ImageSeries) → waiting_of (columns_in ss) (waits_in ss) ≡ waiting_in ss
+pub all_waiting : (ss : List ImageSeries) → waiting_of (columns_of_image ss) (waits_in ss) ≡ waiting_of_image ss
 all_waiting [] = refl
-all_waiting (s ∷ ss) = here_waiting s.series s.columns (columns_in ss) (waits_in ss) ∙ ap (λ xs. map (column_in s.series) (filter is_waiting s.columns) ++ xs) (all_waiting ss)
+all_waiting (s ∷ ss) = here_waiting s.series s.columns (columns_of_image ss) (waits_in ss) ∙ ap (λ xs. map (column_of_image s.series) (filter is_column_waiting s.columns) ++ xs) (all_waiting ss)
 
 among_names : (cs : List ColumnPoints) (ws : List Bool) (c : Column) → Among c (waiting_of cs ws) → Among c (map column_of cs)
 among_names [] ws c a = absurd a
@@ -60,7 +60,7 @@ pictured mark r low cs m are same =
           ⊎_elim {C = part_at m k ≡ empty_aggregate}
           (λ h.
           let spread = (all_among (IsImageCell mark r low) cs are.each h.0 h.1).spread in
-          let part : part_at m k ≡ part_of h.0 = ap (part_at m) (sym h.2) ∙ same h.0.cell ∙ part_there cs once h.0 h.1 in
+          let part : part_at m k ≡ cell_part_of h.0 = ap (part_at m) (sym h.2) ∙ same h.0.cell ∙ part_there cs once h.0 h.1 in
           let count : h.0.count ≡ 0 = ap (λ (a : Aggregate). a.count) (sym part) ∙ none in
           let some = spread.some in
           absurd (omega (arith, count, some)))
@@ -92,14 +92,14 @@ same_members : {X : Type 0} (xs ys : List X) → xs ≡ ys → (x : X) → Among
 same_members xs ys e x = (subst (Among x) e, subst (Among x) (sym e))
 
 module _ (v : Version) (d : ImageData) (k : StoreData) (p : IsPossible v d) (even : length d.cells ≡ length d.settings.rules) (b : IsBuiltFrom (built_in d) k) where
-  once : AllDistinct (map column_of (columns_in d.series))
+  once : AllDistinct (map column_of (columns_of_image d.series))
   once = columns_once d.series (series_once d.series p.rising) (λ s a. fields_once s.columns (all_among (IsImageSeries d.marks.raw d.runs) d.series p.series s a).rising)
 
-  waiting : k.waiting ≡ waiting_in d.series
+  waiting : k.waiting ≡ waiting_of_image d.series
   waiting = b.waiting ∙ all_waiting d.series
 
   cells : PictureCells d.marks.lows k.cells d.cells
-  cells = all_pictured v d.marks.raw (facts_of (columns_in d.series)) d.settings.rules d.marks.lows d.cells k.cells p.lows even p.cells b.cells
+  cells = all_pictured v d.marks.raw (facts_of (columns_of_image d.series)) d.settings.rules d.marks.lows d.cells k.cells p.lows even p.cells b.cells
 
   picture : IsPictureOf k d
   picture = record {
@@ -108,29 +108,29 @@ module _ (v : Version) (d : ImageData) (k : StoreData) (p : IsPossible v d) (eve
     runs = bit_of d.runs p.runs ∙ ap bit (sym b.running);
     accepted = sym b.accepted;
     series = same_members (map key_in d.series) k.series (sym b.series);
-    columns = same_members (columns_in d.series) k.columns (sym b.columns);
-    waiting = same_members (waiting_in d.series) k.waiting (sym waiting);
+    columns = same_members (columns_of_image d.series) k.columns (sym b.columns);
+    waiting = same_members (waiting_of_image d.series) k.waiting (sym waiting);
     cells = subst (λ (m : Marks). PictureCells m.lows k.cells d.cells) (sym b.marks) cells;
   }
 
-  rooms : HaveCells k.settings.rules k.marks.lows (facts_of k.columns) k.cells
-  rooms =
+  has_cells : HaveCells k.settings.rules k.marks.lows (facts_of k.columns) k.cells
+  has_cells =
       subst (λ (s : Settings). HaveCells s.rules k.marks.lows (facts_of k.columns) k.cells) (sym b.settings)
-      (subst (λ (m : Marks). HaveCells (settings_in d.settings).rules m.lows (facts_of k.columns) k.cells) (sym b.marks)
-      (subst (λ (cs : List ColumnPoints). HaveCells (settings_in d.settings).rules d.marks.lows (facts_of cs) k.cells) (sym b.columns)
-      b.rooms))
+      (subst (λ (m : Marks). HaveCells (settings_of_image d.settings).rules m.lows (facts_of k.columns) k.cells) (sym b.marks)
+      (subst (λ (cs : List ColumnPoints). HaveCells (settings_of_image d.settings).rules d.marks.lows (facts_of cs) k.cells) (sym b.columns)
+      b.has_cells))
 
   live : AreLive k.columns k.settings.rules k.cells
   live =
       subst (λ (s : Settings). AreLive k.columns s.rules k.cells) (sym b.settings)
-      (subst (λ (cs : List ColumnPoints). AreLive cs (settings_in d.settings).rules k.cells) (sym b.columns) b.live)
+      (subst (λ (cs : List ColumnPoints). AreLive cs (settings_of_image d.settings).rules k.cells) (sym b.columns) b.live)
 
   made : IsMadeOf d k
   made = record {
     picture = picture;
-    waiting_once = subst AllDistinct (sym b.waiting) (waiting_distinct (columns_in d.series) (waits_in d.series) once);
+    waiting_once = subst AllDistinct (sym b.waiting) (waiting_distinct (columns_of_image d.series) (waits_in d.series) once);
     columns_once = subst (λ (cs : List ColumnPoints). AllDistinct (map column_of cs)) (sym b.columns) once;
-    rooms = rooms;
+    has_cells = has_cells;
     live = live;
   }
 

@@ -12,9 +12,9 @@ use Rattle.ts_core.specs.store.StoreData.{CellMap}
 use Rattle.ts_core.proofs.plans.PieceCells.{cells_total}
 use Rattle.ts_store.specs.image.Building.{Built, cell_map_at, with_cell}
 use Rattle.ts_image.specs.Images.{ImageCell}
-use Rattle.ts_image.specs.ImageTests.{AreRising}
-use Rattle.ts_image.specs.Pictures.{part_of}
-use Rattle.ts_image.specs.StoresMade.{parts_of, cell_in, with_image_cells, with_cells_at, with_each, with_all_cells}
+use Rattle.ts_store.specs.image.SavedContent.{AreRising}
+use Rattle.ts_image.specs.Pictures.{cell_part_of}
+use Rattle.ts_image.specs.StoresMade.{parts_of, cell_of_image, with_image_cells, with_cells_at, with_each, with_all_cells}
 use Rattle.ts_image.proofs.MadeCells.{elsewhere}
 use Rattle.ts_image.proofs.Rising.{rising_absent}
 
@@ -43,7 +43,7 @@ no_cells rule b i = record {
   cells = sym (set-get_or b.cells rule finmap.empty) i;
 }
 
-pub cell_added : (rule : ℕ) (cs : List ImageCell) (c : ImageCell) (b : Built) → rule < length b.cells → with_cell rule c.cell (part_of c) (with_cells_at rule cs b) ≡ with_cells_at rule (cs ++ c ∷ []) b
+pub cell_added : (rule : ℕ) (cs : List ImageCell) (c : ImageCell) (b : Built) → rule < length b.cells → with_cell rule c.cell (cell_part_of c) (with_cells_at rule cs b) ≡ with_cells_at rule (cs ++ c ∷ []) b
 cell_added rule cs c b lt i =
     let m : CellMap = with_image_cells cs (cell_map_at b.cells rule) in
     let same : cell_map_at (set b.cells rule m) rule ≡ m = get_or-set_same b.cells rule m finmap.empty lt in
@@ -62,13 +62,13 @@ cell_added rule cs c b lt i =
           ) i;
     }
 
-names_of : {P : Type 0} (v : P → ImageCell) (ps : List P) → map (λ (p : P). (v p).cell) ps ≡ map cell_in (map v ps)
+names_of : {P : Type 0} (v : P → ImageCell) (ps : List P) → map (λ (p : P). (v p).cell) ps ≡ map cell_of_image (map v ps)
 names_of v [] = refl
 names_of {P} v (p ∷ ps) = ap (λ (ks : List Cell). (v p).cell ∷ ks) (names_of v ps)
 
 -- the next cell of a rule is new
 pub cell_absent : {P : Type 0} (v : P → ImageCell) (ps : List P) (i : ℕ) (p : P) (rule : ℕ) (b c : Built) → i < length ps → p ≡ get_or ps i p → rule < length b.cells
-    → AreRising cell_cmp (map cell_in (map v ps)) → cell_map_at b.cells rule ≡ finmap.empty → c ≡ with_cells_at rule (map v (take i ps)) b
+    → AreRising cell_cmp (map cell_of_image (map v ps)) → cell_map_at b.cells rule ≡ finmap.empty → c ≡ with_cells_at rule (map v (take i ps)) b
     → finmap.get (cell_map_at c.cells rule) (v p).cell ≡ None
 cell_absent {P} v ps i p rule b c lt is inside rising none so_far =
     let cs : List ImageCell = map v (take i ps) in

@@ -47,10 +47,10 @@ module _ (r : Rule) (p : Fact → Bool) where
   counts ks fs = sum_by (λ (k : Cell). number_of (here k) fs) ks
 
   -- in how many of the cells a fact is
-  abbrev places : List Cell → Fact → ℕ
-  places ks f = sum_by (λ (k : Cell). one_if (here k f)) ks
+  abbrev cursors : List Cell → Fact → ℕ
+  cursors ks f = sum_by (λ (k : Cell). one_if (here k f)) ks
 
-  counts-cons : (ks : List Cell) (f : Fact) (fs : List Fact) → counts ks (f ∷ fs) ≡ places ks f + counts ks fs
+  counts-cons : (ks : List Cell) (f : Fact) (fs : List Fact) → counts ks (f ∷ fs) ≡ cursors ks f + counts ks fs
   counts-cons [] f fs = refl
   counts-cons (k ∷ ks) f fs =
       let a = sum_by-cons (λ (q : Cell). number_of (here q) (f ∷ fs)) k ks in
@@ -67,7 +67,7 @@ module _ (r : Rule) (p : Fact → Bool) where
       let t = and_parts (is_rolled r f) (same_cell (cell_of r f) k) s.0 in
       (same_cell-eq (cell_of r f) k t.1, ap₂ (λ a b. a && b) t.0 s.1)
 
-  nowhere : (ks : List Cell) (f : Fact) → (Among (cell_of r f) ks → ⊥) → places ks f ≡ 0
+  nowhere : (ks : List Cell) (f : Fact) → (Among (cell_of r f) ks → ⊥) → cursors ks f ≡ 0
   unfolding one_if
   nowhere [] f out = refl
   nowhere (k ∷ ks) f out =
@@ -77,12 +77,12 @@ module _ (r : Rule) (p : Fact → Bool) where
       let none : one_if (here k f) ≡ 0 = ap one_if not_here in
       omega (arith, b, rest, none)
 
-  at_most_one : (ks : List Cell) (f : Fact) → AllDistinct ks → places ks f ≤ one_if (rolled f)
+  at_most_one : (ks : List Cell) (f : Fact) → AllDistinct ks → cursors ks f ≤ one_if (rolled f)
   unfolding one_if
   at_most_one [] f d = omega arith
   at_most_one (k ∷ ks) f d =
       let b = sum_by-cons (λ (q : Cell). one_if (here q f)) k ks in
-      elim (here k f) as (λ x. here k f ≡ x → places (k ∷ ks) f ≤ one_if (rolled f)) [
+      elim (here k f) as (λ x. here k f ≡ x → cursors (k ∷ ks) f ≤ one_if (rolled f)) [
         | true ↦ λ e.
             let own = in_own k f e in
             let rest = nowhere ks f (λ a. d.0 (subst (λ (q : Cell). Among q ks) own.0 a)) in

@@ -9,9 +9,9 @@ use Rattle.ts_core.proofs.lists.MembersLemmas.{Among-append}
 use Rattle.std.proofs.lemmas.Cmp.{nat_list_cmp_total}
 use Rattle.ts_store.specs.image.Building.{Built, with_column}
 use Rattle.ts_image.specs.Images.{ImageColumn}
-use Rattle.ts_image.specs.ImageTests.{AreRising}
-use Rattle.ts_image.specs.Pictures.{points_in}
-use Rattle.ts_image.specs.StoresMade.{is_waiting, with_columns}
+use Rattle.ts_store.specs.image.SavedContent.{AreRising}
+use Rattle.ts_image.specs.Pictures.{image_points_in}
+use Rattle.ts_image.specs.StoresMade.{is_column_waiting, with_image_columns}
 use Rattle.ts_image.proofs.Rising.{rising_mid}
 
 pub nothing_left : {X : Type 0} (l : List X) → length l ≡ 0 → l ≡ []
@@ -36,7 +36,7 @@ some_at (x ∷ xs) (suc n) lt = some_at xs n (omega arith)
 
 -- ---- columns of a series
 
-pub no_columns : (s : Series) (b : Built) → b ≡ with_columns s [] b
+pub no_columns : (s : Series) (b : Built) → b ≡ with_image_columns s [] b
 no_columns s b i = record {
   settings = b.settings;
   marks = b.marks;
@@ -48,15 +48,15 @@ no_columns s b i = record {
   cells = b.cells;
 }
 
-pub columns_more : (s : Series) (cs : List ImageColumn) (c : ImageColumn) (b : Built) → with_column (points_in s c) (is_waiting c) (with_columns s cs b) ≡ with_columns s (cs ++ c ∷ []) b
+pub columns_more : (s : Series) (cs : List ImageColumn) (c : ImageColumn) (b : Built) → with_column (image_points_in s c) (is_column_waiting c) (with_image_columns s cs b) ≡ with_image_columns s (cs ++ c ∷ []) b
 columns_more s cs c b i = record {
   settings = b.settings;
   marks = b.marks;
   running = b.running;
   accepted = b.accepted;
   series = b.series;
-  columns = (append_assoc b.columns (map (points_in s) cs) (points_in s c ∷ []) ∙ ap (λ (xs : List ColumnPoints). b.columns ++ xs) (sym (map-append (points_in s) cs (c ∷ [])))) i;
-  waits = (append_assoc b.waits (map is_waiting cs) (is_waiting c ∷ []) ∙ ap (λ (xs : List Bool). b.waits ++ xs) (sym (map-append is_waiting cs (c ∷ [])))) i;
+  columns = (append_assoc b.columns (map (image_points_in s) cs) (image_points_in s c ∷ []) ∙ ap (λ (xs : List ColumnPoints). b.columns ++ xs) (sym (map-append (image_points_in s) cs (c ∷ [])))) i;
+  waits = (append_assoc b.waits (map is_column_waiting cs) (is_column_waiting c ∷ []) ∙ ap (λ (xs : List Bool). b.waits ++ xs) (sym (map-append is_column_waiting cs (c ∷ [])))) i;
   cells = b.cells;
 }
 
@@ -64,20 +64,20 @@ fields_of : {P : Type 0} (v : P → ImageColumn) (ps : List P) → map (λ (x : 
 fields_of v [] = refl
 fields_of {P} v (p ∷ ps) = ap (λ (ts : List Text). (v p).field ∷ ts) (fields_of v ps)
 
-pub field_among : (s : Series) (f : Text) (cs : List ImageColumn) → Among (record { series = s; field = f }) (map column_of (map (points_in s) cs)) → Among f (map (λ (c : ImageColumn). c.field) cs)
+pub field_among : (s : Series) (f : Text) (cs : List ImageColumn) → Among (record { series = s; field = f }) (map column_of (map (image_points_in s) cs)) → Among f (map (λ (c : ImageColumn). c.field) cs)
 field_among s f [] a = a
 field_among s f (c ∷ cs) a = ⊎_elim {C = Among f (map (λ (x : ImageColumn). x.field) (c ∷ cs))} (λ e. inl (ap (λ (x : Column). x.field) e)) (λ k. inr (field_among s f cs k)) a
 
 -- the next column of a series is new
 pub column_absent : {P : Type 0} (v : P → ImageColumn) (s : Series) (xs : List P) (p : P) (ys : List P) (b c : Built)
     → ((k : Column) → Among k (map column_of b.columns) → k.series ≡ s → ⊥)
-    → AreRising text_cmp (map (λ (x : ImageColumn). x.field) (map v (xs ++ p ∷ ys))) → c ≡ with_columns s (map v xs) b
+    → AreRising text_cmp (map (λ (x : ImageColumn). x.field) (map v (xs ++ p ∷ ys))) → c ≡ with_image_columns s (map v xs) b
     → Among (record { series = s; field = (v p).field }) (map column_of c.columns) → ⊥
 column_absent {P} v s xs p ys b c none rising e a =
     let name : Column = record { series = s; field = (v p).field } in
-    let a2 : Among name (map column_of b.columns ++ map column_of (map (points_in s) (map v xs))) =
-    subst (Among name) (map-append column_of b.columns (map (points_in s) (map v xs))) (subst (λ (z : Built). Among name (map column_of z.columns)) e a) in
+    let a2 : Among name (map column_of b.columns ++ map column_of (map (image_points_in s) (map v xs))) =
+    subst (Among name) (map-append column_of b.columns (map (image_points_in s) (map v xs))) (subst (λ (z : Built). Among name (map column_of z.columns)) e a) in
     ⊎_elim {C = ⊥}
     (λ l. none name l refl)
     (λ r. rising_mid nat_list_cmp_total (λ (x : P). (v x).field) xs p ys (subst (AreRising text_cmp) (sym (fields_of v (xs ++ p ∷ ys))) rising) (subst (Among (v p).field) (sym (fields_of v xs)) (field_among s (v p).field (map v xs) r)))
-    (Among-append name (map column_of b.columns) (map column_of (map (points_in s) (map v xs))) a2)
+    (Among-append name (map column_of b.columns) (map column_of (map (image_points_in s) (map v xs))) a2)

@@ -11,7 +11,7 @@ use Rattle.std.proofs.Math.Facts.{sfits_to_z, Fits-of_z, Fits-of_lt, Fits-lt-pow
 use Rattle.std.proofs.lemmas.Nat.{be_bytes_4, be_bytes_8, from_be_bytes-to_be_bytes_4, from_be_bytes-to_be_bytes_8}
 use Rattle.std.proofs.lemmas.Str.{IsUtf8-nil, IsUtf8-from_is_utf8, is_utf8-from_IsUtf8}
 use Rattle.ts_core.specs.facts.Facts.{Text}
-use Rattle.ts_image.specs.Formats.{Place, behind, concat, Read, ◌>>=◌, Format, spelling, read_number, number, signed, is_text, read_text, text, nothing}
+use Rattle.ts_image.specs.Formats.{Cursor, behind, concat, Read, ◌>>=◌, Format, spelling, read_number, number, signed_number, is_text, read_text, text, nothing}
 use Rattle.ts_image.specs.FormatLaws.{AreBytes, reach, IsFormat}
 
 pub AreBytes-drop : (n : ℕ) (bytes : List ℕ) → AreBytes bytes → AreBytes (drop n bytes)
@@ -25,7 +25,7 @@ AreBytes-take n bytes h i =
     ]
 
 -- the value of a step that did not fail
-pub bind_ok : {A B : Type 0} (r : Read A) (f : A × Place → Read B) (y : B × Place) → (r >>= f) ≡ Ok y → (x : A × Place) × (r ≡ Ok x) × (f x ≡ Ok y)
+pub bind_ok : {A B : Type 0} (r : Read A) (f : A × Cursor → Read B) (y : B × Cursor) → (r >>= f) ≡ Ok y → (x : A × Cursor) × (r ≡ Ok x) × (f x ≡ Ok y)
 bind_ok (Ok x) f y e = (x, refl, e)
 bind_ok (Err d) f y e = absurd cc
 
@@ -36,9 +36,9 @@ pub err_is : {A : Type 0} (m n : ℕ) → failed {A = A} m ≡ failed n → m �
 err_is m n e = cc
 
 -- which step failed
-pub bind_err : {A B : Type 0} (r : Read A) (f : A × Place → Read B) (n : ℕ) → (r >>= f) ≡ Err n → (r ≡ Err n) ⊎ ((x : A × Place) × (r ≡ Ok x) × (f x ≡ Err n))
+pub bind_err : {A B : Type 0} (r : Read A) (f : A × Cursor → Read B) (n : ℕ) → (r >>= f) ≡ Err n → (r ≡ Err n) ⊎ ((x : A × Cursor) × (r ≡ Ok x) × (f x ≡ Err n))
 bind_err (Ok x) f n e = inr (x, refl, e)
-bind_err {A} {B} (Err d) f n e = inl (let same : d ≡ n = err_is {A = B × Place} d n e in ap (λ m. Err m) same)
+bind_err {A} {B} (Err d) f n e = inl (let same : d ≡ n = err_is {A = B × Cursor} d n e in ap (λ m. Err m) same)
 
 abbrev pub done : {A : Type 0} → A → Result A ℕ
 done x = Ok x
@@ -60,10 +60,10 @@ pub record IsField {X : Type 0} (f : Format X) (word : X → List ℕ) : Type 0 
   pub one : (x : X) → f.fields x ≡ word x ∷ []
   pub some : X
   pub some_fits : f.fits some
-  pub takes : (p q : Place) (x : X) → AreBytes p.rest → f.read p ≡ Ok (x, q) → f.fits x × (p.rest ≡ word x ++ q.rest) × (q.at ≡ p.at + length (word x))
-  pub again : (p : Place) (x : X) (rest : List ℕ) → f.fits x → p.rest ≡ word x ++ rest → f.read p ≡ Ok (x, record { at = p.at + length (word x); rest = rest })
-  pub fails : (p : Place) (n : ℕ) → f.read p ≡ Err n → n ≡ p.at
-  pub onward : (p : Place) → p.at ≤ reach (f.read p)
+  pub takes : (p q : Cursor) (x : X) → AreBytes p.rest → f.read p ≡ Ok (x, q) → f.fits x × (p.rest ≡ word x ++ q.rest) × (q.at ≡ p.at + length (word x))
+  pub again : (p : Cursor) (x : X) (rest : List ℕ) → f.fits x → p.rest ≡ word x ++ rest → f.read p ≡ Ok (x, record { at = p.at + length (word x); rest = rest })
+  pub fails : (p : Cursor) (n : ℕ) → f.read p ≡ Err n → n ≡ p.at
+  pub onward : (p : Cursor) → p.at ≤ reach (f.read p)
 
 joined_one : (w : List ℕ) → concat (w ∷ []) ≡ w
 joined_one w = append-nil w
@@ -131,13 +131,13 @@ wide64 = record {
   below = λ bytes fits. omega (arith, fits 0, fits 1, fits 2, fits 3, fits 4, fits 5, fits 6, fits 7);
 }
 
-pub number_takes : (w : Width) → IsWide w → (p q : Place) (n : ℕ) → AreBytes p.rest → read_number w p ≡ Ok (n, q) → (n < 2 ^ bits w) × (p.rest ≡ to_be_bytes w n ++ q.rest) × (q.at ≡ p.at + length (to_be_bytes w n))
+pub number_takes : (w : Width) → IsWide w → (p q : Cursor) (n : ℕ) → AreBytes p.rest → read_number w p ≡ Ok (n, q) → (n < 2 ^ bits w) × (p.rest ≡ to_be_bytes w n ++ q.rest) × (q.at ≡ p.at + length (to_be_bytes w n))
 number_takes w wide p q n fits e =
     let g = guard_ok (ltb (length p.rest) (byte_len w)) p.at (from_be_bytes w (take (byte_len w) p.rest), behind (byte_len w) p) (n, q) e in
     let long : byte_len w ≤ length p.rest = ltb-false _ _ g.0 in
-    let n-is : from_be_bytes w (take (byte_len w) p.rest) ≡ n = ap (λ (r : ℕ × Place). r.0) g.1 in
-    let rest-is : drop (byte_len w) p.rest ≡ q.rest = ap (λ (r : ℕ × Place). r.1.rest) g.1 in
-    let at-is : p.at + byte_len w ≡ q.at = ap (λ (r : ℕ × Place). r.1.at) g.1 in
+    let n-is : from_be_bytes w (take (byte_len w) p.rest) ≡ n = ap (λ (r : ℕ × Cursor). r.0) g.1 in
+    let rest-is : drop (byte_len w) p.rest ≡ q.rest = ap (λ (r : ℕ × Cursor). r.1.rest) g.1 in
+    let at-is : p.at + byte_len w ≡ q.at = ap (λ (r : ℕ × Cursor). r.1.at) g.1 in
     let front : to_be_bytes w n ≡ take (byte_len w) p.rest = rw (← n-is) (wide.back (take (byte_len w) p.rest) (omega (arith, length-take (byte_len w) p.rest)) (AreBytes-take (byte_len w) p.rest fits)) in
     let len = wide.len n in (
       subst (λ m. m < 2 ^ bits w) n-is (wide.below (take (byte_len w) p.rest) (AreBytes-take (byte_len w) p.rest fits)),
@@ -145,17 +145,17 @@ number_takes w wide p q n fits e =
       sym at-is ∙ ap (λ m. p.at + m) (sym len),
     )
 
-pub number_again : (w : Width) → IsWide w → (p : Place) (n : ℕ) (rest : List ℕ) → n < 2 ^ bits w → p.rest ≡ to_be_bytes w n ++ rest → read_number w p ≡ Ok (n, record { at = p.at + length (to_be_bytes w n); rest = rest })
+pub number_again : (w : Width) → IsWide w → (p : Cursor) (n : ℕ) (rest : List ℕ) → n < 2 ^ bits w → p.rest ≡ to_be_bytes w n ++ rest → read_number w p ≡ Ok (n, record { at = p.at + length (to_be_bytes w n); rest = rest })
 number_again w wide p n rest lt e =
     let len = wide.len n in
     let long : ltb (length (to_be_bytes w n ++ rest)) (byte_len w) ≡ false = le-ltb _ _ (omega (arith, length-append (to_be_bytes w n) rest)) in
     ap (λ bytes. read_number w (record { at = p.at; rest = bytes })) e
     ∙ rw (long, take_at (to_be_bytes w n) rest (byte_len w) len, drop_at (to_be_bytes w n) rest (byte_len w) len, wide.again n lt, len) refl
 
-number_fails : (w : Width) (p : Place) (n : ℕ) → read_number w p ≡ Err n → n ≡ p.at
+number_fails : (w : Width) (p : Cursor) (n : ℕ) → read_number w p ≡ Err n → n ≡ p.at
 number_fails w p n e = sym (guard_err (ltb (length p.rest) (byte_len w)) p.at n (from_be_bytes w (take (byte_len w) p.rest), behind (byte_len w) p) e).1
 
-number_onward : (w : Width) (p : Place) → p.at ≤ reach (read_number w p)
+number_onward : (w : Width) (p : Cursor) → p.at ≤ reach (read_number w p)
 number_onward w p = elim (ltb (length p.rest) (byte_len w)) as (λ b. p.at ≤ reach (cond b (failed p.at) (done (from_be_bytes w (take (byte_len w) p.rest), behind (byte_len w) p)))) [ true ↦ omega arith | false ↦ omega arith ]
 
 pub number_format : (w : Width) → IsWide w → IsFormat (number w)
@@ -181,20 +181,20 @@ nil_front (f ∷ fs) gs e = absurd cc
 abbrev signed_word : Width → ℤ → List ℕ
 signed_word w z = to_be_bytes w (cast_unsigned w z)
 
-pub signed_format : (w : Width) → IsWide w → IsFormat (signed w)
-signed_format w wide = field_format (signed w) (signed_word w) (record {
+pub signed_format : (w : Width) → IsWide w → IsFormat (signed_number w)
+signed_format w wide = field_format (signed_number w) (signed_word w) (record {
   one = λ z. refl;
   some = cast_signed w (from_be_bytes w []);
   some_fits = sfits_to_z {w = w} (Fits-of_lt {w = w} (wide.below [] (λ i. omega arith)));
   takes = λ p q z b e.
       let s = bind_ok (read_number w p) (λ n. done (cast_signed w n.0, n.1)) (z, q) e in
       let t = number_takes w wide p s.0.1 s.0.0 b s.1 in
-      let z-is : cast_signed w s.0.0 ≡ z = ap (λ (r : ℤ × Place). r.0) (ok_is (cast_signed w s.0.0, s.0.1) (z, q) s.2) in
-      let q-is : s.0.1 ≡ q = ap (λ (r : ℤ × Place). r.1) (ok_is (cast_signed w s.0.0, s.0.1) (z, q) s.2) in
+      let z-is : cast_signed w s.0.0 ≡ z = ap (λ (r : ℤ × Cursor). r.0) (ok_is (cast_signed w s.0.0, s.0.1) (z, q) s.2) in
+      let q-is : s.0.1 ≡ q = ap (λ (r : ℤ × Cursor). r.1) (ok_is (cast_signed w s.0.0, s.0.1) (z, q) s.2) in
       let n-is : s.0.0 ≡ cast_unsigned w z = sym (of_z-to_z w s.0.0 t.0) ∙ ap (cast_unsigned w) z-is in (
         subst (FitsSigned w) z-is (sfits_to_z {w = w} (Fits-of_lt {w = w} t.0)),
-        subst (λ (m : ℕ). p.rest ≡ to_be_bytes w m ++ q.rest) n-is (subst (λ (x : Place). p.rest ≡ to_be_bytes w s.0.0 ++ x.rest) q-is t.1),
-        subst (λ (m : ℕ). q.at ≡ p.at + length (to_be_bytes w m)) n-is (subst (λ (x : Place). x.at ≡ p.at + length (to_be_bytes w s.0.0)) q-is t.2),
+        subst (λ (m : ℕ). p.rest ≡ to_be_bytes w m ++ q.rest) n-is (subst (λ (x : Cursor). p.rest ≡ to_be_bytes w s.0.0 ++ x.rest) q-is t.1),
+        subst (λ (m : ℕ). q.at ≡ p.at + length (to_be_bytes w m)) n-is (subst (λ (x : Cursor). x.at ≡ p.at + length (to_be_bytes w s.0.0)) q-is t.2),
       );
   again = λ p z rest h e.
       ap (λ r. r >>= λ n. done (cast_signed w n.0, n.1)) (number_again w wide p (cast_unsigned w z) rest (Fits-lt-pow {w = w} (Fits-of_z {w = w} h)) e)
@@ -227,7 +227,7 @@ text_guard_err : {A : Type 0} (b : Bool) (d n : ℕ) (x : A) → cond b (done x)
 text_guard_err true d n x e = absurd cc
 text_guard_err false d n x e = cc
 
-text_onward : (p : Place) (n : ℕ) (m : Place) → p.at ≤ m.at → p.at ≤ reach (read_text p (n, m))
+text_onward : (p : Cursor) (n : ℕ) (m : Cursor) → p.at ≤ m.at → p.at ≤ reach (read_text p (n, m))
 text_onward p n m le = elim (is_text n m.rest) as (λ b. p.at ≤ reach (cond b (done (take n m.rest, behind n m)) (failed p.at))) [ true ↦ omega arith | false ↦ omega arith ]
 
 pub text_format : IsFormat text
@@ -238,7 +238,7 @@ text_format = field_format text text_word (record {
   takes = λ p q t b e.
       let s = bind_ok (read_number w64 p) (read_text p) (t, q) e in
       let n : ℕ = s.0.0 in
-      let m : Place = s.0.1 in
+      let m : Cursor = s.0.1 in
       let k = number_takes w64 wide64 p m n b s.1 in
       let g = text_guard (is_text n m.rest) p.at (take n m.rest, behind n m) (t, q) s.2 in
       let u = is_text-true n m.rest g.0 in
@@ -248,7 +248,7 @@ text_format = field_format text text_word (record {
         k.1 ∙ ap (λ (x : List ℕ). to_be_bytes w64 n ++ x) (sym (take-append-drop n m.rest)) ∙ sym (append_assoc (to_be_bytes w64 n) (take n m.rest) (drop n m.rest)) ∙ ap (λ (x : ℕ). (to_be_bytes w64 x ++ take n m.rest) ++ drop n m.rest) (sym len),
         let at = k.2 in let l1 = wide64.len n in let l2 = wide64.len (length (take n m.rest)) in let la = length-append (to_be_bytes w64 (length (take n m.rest))) (take n m.rest) in omega (arith, at, l1, l2, la, len),
       ) in
-      subst (λ (r : List ℕ × Place). (IsUtf8 r.0 × (length r.0 < 2 ^ 64)) × (p.rest ≡ text_word r.0 ++ r.1.rest) × (r.1.at ≡ p.at + length (text_word r.0))) g.1 made;
+      subst (λ (r : List ℕ × Cursor). (IsUtf8 r.0 × (length r.0 < 2 ^ 64)) × (p.rest ≡ text_word r.0 ++ r.1.rest) × (r.1.at ≡ p.at + length (text_word r.0))) g.1 made;
   again = λ p t rest h e.
       let parts : p.rest ≡ to_be_bytes w64 (length t) ++ (t ++ rest) = e ∙ append_assoc (to_be_bytes w64 (length t)) t rest in
       let k = number_again w64 wide64 p (length t) (t ++ rest) h.1 parts in
@@ -266,7 +266,7 @@ pub nothing_format : {X : Type 0} (x : X) → IsFormat (nothing x)
 nothing_format {X} x = record {
   some = x;
   some_fits = refl;
-  takes = λ p q y b e. let s = ok_is (x, p) (y, q) e in record { fits = sym (ap (λ (r : X × Place). r.0) s); rest = ap (λ (r : X × Place). r.1.rest) s; at = let a : p.at ≡ q.at = ap (λ (r : X × Place). r.1.at) s in omega arith };
+  takes = λ p q y b e. let s = ok_is (x, p) (y, q) e in record { fits = sym (ap (λ (r : X × Cursor). r.0) s); rest = ap (λ (r : X × Cursor). r.1.rest) s; at = let a : p.at ≡ q.at = ap (λ (r : X × Cursor). r.1.at) s in omega arith };
   again = λ p y rest h e. let z : p.at ≡ p.at + 0 = omega arith in ap (λ (a : X). done (a, p)) (sym h) ∙ ap (λ (bytes : List ℕ). done (y, record { at = p.at; rest = bytes })) e ∙ ap (λ (n : ℕ). done (y, record { at = n; rest = rest })) z;
   fails = λ p n b e. absurd (not_err (x, p) n e);
   bound = λ p n r. let none : r.before ≡ [] = nil_front r.before r.after (sym r.fields) in let l : length (concat r.before) ≡ 0 = ap (λ (fs : List (List ℕ)). length (concat fs)) none in let a = r.at in omega arith;

@@ -27,7 +27,7 @@ use Rattle.ts_core.proofs.lists.MembersLemmas.{Among-map, map_back}
 use Rattle.ts_core.proofs.settings.SettingsLaws.{settings_are}
 use Rattle.ts_core.proofs.store.StateLemmas.{raw_duration_of}
 use Rattle.ts_core.proofs.moves.StepStands.{few_accepted}
-use Rattle.ts_line.specs.Names.{IsNamed}
+use Rattle.ts_line.specs.Names.{IsStatable}
 use Rattle.ts_image.specs.Images.{ImageCell}
 use Rattle.ts_image.specs.Pictures.{part_at}
 use Rattle.ts_image.specs.SavedImages.{IsWellFormed}
@@ -140,7 +140,7 @@ module _ (opening : Settings) (h : History) (k : StoreData) (st : StandsFor open
 
 -- ---- the whole
 
-few_tags : (s : Series) → IsNamed s → length s.tags < 256
+few_tags : (s : Series) → IsStatable s → length s.tags < 256
 few_tags s named = let few = named.few in omega (arith, few)
 
 pub written_fits : (opening : Settings) (h : History) (k : StoreData) (order : List SavedSeries) → StandsFor opening h (state_of k) → IsWellFormed k → IsOrder k order → FitsImage k order

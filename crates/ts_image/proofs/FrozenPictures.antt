@@ -23,7 +23,7 @@ use Rattle.ts_core.proofs.plans.PieceCells.{same_cell-eq}
 use Rattle.ts_core.proofs.store.StateLemmas.{earlier_mark-le, le_trans}
 use Rattle.ts_image.specs.Images.{ImageRule, ImageCell}
 use Rattle.ts_image.specs.ImageTests.{IsKeyName, IsFrozenTime, IsImageCell, rule_in}
-use Rattle.ts_image.specs.Pictures.{part_of}
+use Rattle.ts_image.specs.Pictures.{cell_part_of}
 
 -- ---- accepted facts have valid times
 
@@ -98,19 +98,19 @@ first_upto a b v w (inl l) = omega (arith, ints)
 first_upto a b v w (inr e) = let q = e.0 in omega (arith, ints)
 
 -- some fact is there
-pub frozen_some : (opening : Settings) (h : History) (waiting : List Column) (r : Rule) (c : ImageCell) → part_of c ≡ frozen_of (kept_from opening h waiting) r c.cell (latest_of h) → (f : Fact) × IsFrozenFact opening h r c.cell f
+pub frozen_some : (opening : Settings) (h : History) (waiting : List Column) (r : Rule) (c : ImageCell) → cell_part_of c ≡ frozen_of (kept_from opening h waiting) r c.cell (latest_of h) → (f : Fact) × IsFrozenFact opening h r c.cell f
 frozen_some opening h waiting r c e =
     let fs : List Fact = frozen_facts (kept_from opening h waiting) r c.cell (latest_of h) in
-    let is : IsAggregateOf fs (part_of c) = subst (IsAggregateOf fs) (sym e) (aggregate_of-is fs) in
+    let is : IsAggregateOf fs (cell_part_of c) = subst (IsAggregateOf fs) (sym e) (aggregate_of-is fs) in
     let s = map_back (λ (f : Fact). (f.time, f.value)) fs c.extremes.first is.extremes.reached.first in
     (s.0, frozen_fact opening h waiting r c.cell s.0 s.1)
 
 pub frozen_cell : (opening : Settings) (h : History) (waiting : List Column) (r : ImageRule) (low : ℤ) (c : ImageCell) → IsLawful opening h → low ≤ℤ c.cell.index → IsKeyName c.cell.field
-    → part_of c ≡ frozen_of (kept_from opening h waiting) (rule_in r) c.cell (latest_of h) → IsImageCell (raw_mark opening h) r low c
+    → cell_part_of c ≡ frozen_of (kept_from opening h waiting) (rule_in r) c.cell (latest_of h) → IsImageCell (raw_mark opening h) r low c
 frozen_cell opening h waiting r low c lawful kept name e =
     let fs : List Fact = frozen_facts (kept_from opening h waiting) (rule_in r) c.cell (latest_of h) in
-    let is : IsAggregateOf fs (part_of c) = subst (IsAggregateOf fs) (sym e) (aggregate_of-is fs) in
-    let sound : IsSound (part_of c) = subst IsSound (sym e) (facts_possible fs) in
+    let is : IsAggregateOf fs (cell_part_of c) = subst (IsAggregateOf fs) (sym e) (aggregate_of-is fs) in
+    let sound : IsSound (cell_part_of c) = subst IsSound (sym e) (facts_possible fs) in
     let ends : AreExtremesOf (points_of fs) c.extremes = is.extremes in
     let each : (f : Fact) → Among f fs → IsFrozenFact opening h (rule_in r) c.cell f = λ f a. frozen_fact opening h waiting (rule_in r) c.cell f a in
     let first = ends.within c.extremes.first ends.reached.first in

@@ -13,10 +13,10 @@ use Rattle.ts_image.specs.declared.image_reading.Head.{Head}
 use Rattle.ts_image.specs.declared.image_reading.Head.TheVariants as head
 use Rattle.ts_image.specs.declared.field_fault.FieldFault.{FieldFault}
 use Rattle.ts_image.specs.declared.field_fault.FieldFault.TheVariants.{Misshapen, Device, Turns, OutOfMemory}
-use Rattle.ts_image.specs.Formats.{Place, read_number, number}
+use Rattle.ts_image.specs.Formats.{Cursor, read_number, number}
 use Rattle.ts_image.specs.Images.{image_mark, version_byte}
-use Rattle.ts_image.specs.FieldReading.{FieldsRead, place_of, IsKnown, CallsSource, UsesBytes, Gives, Reads}
-use Rattle.ts_image.specs.HeadReading.{GivesHead, ReadsHead}
+use Rattle.ts_image.specs.FieldReading.{FieldsRead, cursor_of, IsKnown, CallsSource, UsesBytes, GivesReading, ReadsField}
+use Rattle.ts_image.specs.HeadReading.{GivesHead, ReadsImageHead}
 use Rattle.ts_image.proofs.Fields.{done, failed, err_is, ok_is}
 use Rattle.ts_image.proofs.Reading.{fine, faulty, nothing_yet, front_of, stays_known, calls_more, calls_ok, calls_on}
 
@@ -39,59 +39,59 @@ read_first b bs at =
     let e : from_be_bytes w8 (b ∷ []) ≡ b = omega arith in
     rw long (ap (λ (x : ℕ). done (x, record { at = at + 1; rest = bs })) e)
 
-byte_there : (bytes : List ℕ) (at n : ℕ) (q : Place) → read_number w8 (record { at = at; rest = bytes }) ≡ Ok (n, q) → (bytes ≡ n ∷ q.rest) × (q.at ≡ at + 1)
+byte_there : (bytes : List ℕ) (at n : ℕ) (q : Cursor) → read_number w8 (record { at = at; rest = bytes }) ≡ Ok (n, q) → (bytes ≡ n ∷ q.rest) × (q.at ≡ at + 1)
 byte_there [] at n q e = absurd (failed_not_done at (n, q) e)
 byte_there (b ∷ bs) at n q e =
     let r : (b, record { at = at + 1; rest = bs }) ≡ (n, q) = ok_is (b, record { at = at + 1; rest = bs }) (n, q) (sym (read_first b bs at) ∙ e) in
-    (ap (λ (x : ℕ × Place). x.0 ∷ x.1.rest) r, sym (ap (λ (x : ℕ × Place). x.1.at) r))
+    (ap (λ (x : ℕ × Cursor). x.0 ∷ x.1.rest) r, sym (ap (λ (x : ℕ × Cursor). x.1.at) r))
 
 no_byte : (bytes : List ℕ) (at n : ℕ) → read_number w8 (record { at = at; rest = bytes }) ≡ Err n → (bytes ≡ []) × (n ≡ at)
-no_byte [] at n e = (refl, sym (err_is {A = ℕ × Place} at n e))
+no_byte [] at n e = (refl, sym (err_is {A = ℕ × Cursor} at n e))
 no_byte (b ∷ bs) at n e = absurd (done_not_failed (b, record { at = at + 1; rest = bs }) n (sym (read_first b bs at) ∙ e))
 
-module _ (a b : FieldsRead) (s t : Input) (room : List ℕ) (len : length room ≡ 4) (uses : UsesBytes a s room b t) (calls : CallsSource a.ahead s nothing_yet b.ahead t) where
-  first_four : IsKnown a s → take 4 (place_of a s).rest ≡ room
-  first_four k = ap (take 4) (front_of a b s t room uses k) ∙ take_at room (place_of b t).rest 4 len
+module _ (a b : FieldsRead) (s t : Input) (buffer : List ℕ) (len : length buffer ≡ 4) (uses : UsesBytes a s buffer b t) (calls : CallsSource a.ahead s nothing_yet b.ahead t) where
+  first_four : IsKnown a s → take 4 (cursor_of a s).rest ≡ buffer
+  first_four k = ap (take 4) (front_of a b s t buffer uses k) ∙ take_at buffer (cursor_of b t).rest 4 len
 
-  pub no_head : (room ≡ image_mark → ⊥) → ReadsHead a s (fine head.None) b t
+  pub no_head : (buffer ≡ image_mark → ⊥) → ReadsImageHead a s (fine head.None) b t
   no_head other = record { stays = λ k. tt; value = λ k e. other (sym (first_four k) ∙ e); calls = calls_ok a.ahead b.ahead s t tt head.None calls }
 
-  module _ (mark : room ≡ image_mark) (c : FieldsRead) (u : Input) where
-    version_here : (n : ℕ) → Reads (number w8) (λ (m : ℕ). m) b t (fine n) c u → IsKnown a s → ((place_of a s).rest ≡ image_mark ++ (n ∷ (place_of c u).rest)) × ((place_of c u).at ≡ (place_of a s).at + 5)
+  module _ (mark : buffer ≡ image_mark) (c : FieldsRead) (u : Input) where
+    version_here : (n : ℕ) → ReadsField (number w8) (λ (m : ℕ). m) b t (fine n) c u → IsKnown a s → ((cursor_of a s).rest ≡ image_mark ++ (n ∷ (cursor_of c u).rest)) × ((cursor_of c u).at ≡ (cursor_of a s).at + 5)
     version_here n r k =
-        let d = byte_there (place_of b t).rest b.at n (place_of c u) (r.value (stays_known a b s t room uses k)) in
+        let d = byte_there (cursor_of b t).rest b.at n (cursor_of c u) (r.value (stays_known a b s t buffer uses k)) in
         let e = uses.at in (
-          front_of a b s t room uses k ∙ ap₂ (λ (x : List ℕ) (y : List ℕ). x ++ y) mark d.0,
+          front_of a b s t buffer uses k ∙ ap₂ (λ (x : List ℕ) (y : List ℕ). x ++ y) mark d.0,
           let f = d.1 in omega (arith, f, e, len),
         )
 
-    pub head_of : (v : Version) (n : ℕ) → Reads (number w8) (λ (m : ℕ). m) b t (fine n) c u → n ≡ version_byte v → ReadsHead a s (fine (head.Of v)) c u
+    pub head_of : (v : Version) (n : ℕ) → ReadsField (number w8) (λ (m : ℕ). m) b t (fine n) c u → n ≡ version_byte v → ReadsImageHead a s (fine (head.Of v)) c u
     head_of v n r e = record {
-      stays = λ k. r.stays (stays_known a b s t room uses k);
-      value = λ k. let h = version_here n r k in (h.0 ∙ ap (λ (x : ℕ). image_mark ++ (x ∷ (place_of c u).rest)) e, h.1);
+      stays = λ k. r.stays (stays_known a b s t buffer uses k);
+      value = λ k. let h = version_here n r k in (h.0 ∙ ap (λ (x : ℕ). image_mark ++ (x ∷ (cursor_of c u).rest)) e, h.1);
       calls = calls_more a.ahead b.ahead c.ahead s t u tt (fine (head.Of v)) calls (calls_ok b.ahead c.ahead t u n (head.Of v) r.calls);
     }
 
-    pub other_head : (n : ℕ) → Reads (number w8) (λ (m : ℕ). m) b t (fine n) c u → n ≢ 1 → n ≢ 2 → ReadsHead a s (fine head.Other) c u
+    pub other_head : (n : ℕ) → ReadsField (number w8) (λ (m : ℕ). m) b t (fine n) c u → n ≢ 1 → n ≢ 2 → ReadsImageHead a s (fine head.Other) c u
     other_head n r e f = record {
       stays = λ k. tt;
-      value = λ k. (n, (place_of c u).rest, (version_here n r k).0, e, f);
+      value = λ k. (n, (cursor_of c u).rest, (version_here n r k).0, e, f);
       calls = calls_more a.ahead b.ahead c.ahead s t u tt (fine head.Other) calls (calls_ok b.ahead c.ahead t u n head.Other r.calls);
     }
 
-    cut_here : (e : FieldFault) → IsKnown a s → Gives (λ (m : ℕ). m) (faulty ℕ e) (place_of c u) (read_number w8 (place_of b t)) → GivesHead (faulty Head e) (place_of a s) (place_of c u)
+    cut_here : (e : FieldFault) → IsKnown a s → GivesReading (λ (m : ℕ). m) (faulty ℕ e) (cursor_of c u) (read_number w8 (cursor_of b t)) → GivesHead (faulty Head e) (cursor_of a s) (cursor_of c u)
     cut_here (Misshapen n) k g =
-        let d = no_byte (place_of b t).rest b.at n g in
+        let d = no_byte (cursor_of b t).rest b.at n g in
         let x = uses.at in
         let y = d.1 in
-        (front_of a b s t room uses k ∙ ap₂ (λ (x : List ℕ) (y : List ℕ). x ++ y) mark d.0 ∙ append-nil image_mark, omega (arith, x, y, len))
+        (front_of a b s t buffer uses k ∙ ap₂ (λ (x : List ℕ) (y : List ℕ). x ++ y) mark d.0 ∙ append-nil image_mark, omega (arith, x, y, len))
     cut_here Device k g = tt
     cut_here Turns k g = tt
     cut_here OutOfMemory k g = tt
 
-    pub cut_head : (e : FieldFault) → Reads (number w8) (λ (m : ℕ). m) b t (faulty ℕ e) c u → ReadsHead a s (faulty Head e) c u
+    pub cut_head : (e : FieldFault) → ReadsField (number w8) (λ (m : ℕ). m) b t (faulty ℕ e) c u → ReadsImageHead a s (faulty Head e) c u
     cut_head e r = record {
       stays = λ k. tt;
-      value = λ k. cut_here e k (r.value (stays_known a b s t room uses k));
+      value = λ k. cut_here e k (r.value (stays_known a b s t buffer uses k));
       calls = calls_more a.ahead b.ahead c.ahead s t u tt (faulty Head e) calls (calls_on ℕ Head b.ahead c.ahead t u e r.calls);
     }

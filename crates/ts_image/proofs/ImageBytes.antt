@@ -7,7 +7,7 @@ use Rattle.std.proofs.lemmas.Bool.{and_parts, cases_lt, ltb-true, ltb-false, le-
 use lib.Utf8.{scalar, scalars, scalar_cases, next, encode, encodes}
 use Rattle.ts_core.specs.facts.Facts.{Text}
 use Rattle.ts_core.specs.store.Marks.{Marks}
-use Rattle.ts_image.specs.Formats.{concat, Format, number, signed, text, nothing, and, also, iso, FitAlong, fields_along, along, times, list_of}
+use Rattle.ts_image.specs.Formats.{concat, Format, number, signed_number, text, nothing, and, also, iso, FitAlong, fields_along, along, times, list_of}
 use Rattle.ts_image.specs.FormatLaws.{AreBytes}
 use Rattle.ts_image.specs.declared.version.Version.{Version}
 use Rattle.ts_image.specs.declared.version.Version.TheVariants.{V1, V2}
@@ -76,7 +76,7 @@ alone bs h = both_small bs [] h tt
 number_spells : (w : Width) → Spells (number w)
 number_spells w n h = alone (to_be_bytes w n) (number_small _ n)
 
-signed_spells : (w : Width) → Spells (signed w)
+signed_spells : (w : Width) → Spells (signed_number w)
 signed_spells w z h = alone (to_be_bytes w (cast_unsigned w z)) (number_small _ (cast_unsigned w z))
 
 text_spells : Spells text
@@ -103,31 +103,31 @@ flag_spells V2 x h = number_spells w8 x h
 
 -- ---- images
 
-abbrev long : Spells (signed w64)
+abbrev long : Spells (signed_number w64)
 long = signed_spells w64
 
 rule_spells : Spells image_rule
 rule_spells r h =
-    also_spells text (also text (also (signed w64) (also (signed w64) (also (signed w64) (list_of w8 text))))) text_spells
-    (also_spells text (also (signed w64) (also (signed w64) (also (signed w64) (list_of w8 text)))) text_spells
-    (also_spells (signed w64) (also (signed w64) (also (signed w64) (list_of w8 text))) long
-    (also_spells (signed w64) (also (signed w64) (list_of w8 text)) long (also_spells (signed w64) (list_of w8 text) long (list_spells w8 text text_spells)))))
+    also_spells text (also text (also (signed_number w64) (also (signed_number w64) (also (signed_number w64) (list_of w8 text))))) text_spells
+    (also_spells text (also (signed_number w64) (also (signed_number w64) (also (signed_number w64) (list_of w8 text)))) text_spells
+    (also_spells (signed_number w64) (also (signed_number w64) (also (signed_number w64) (list_of w8 text))) long
+    (also_spells (signed_number w64) (also (signed_number w64) (list_of w8 text)) long (also_spells (signed_number w64) (list_of w8 text) long (list_spells w8 text text_spells)))))
     (r.name, (r.measurement, (r.interval, (r.offset, (r.duration, r.kept_tags))))) h
 
 settings_spells : Spells image_settings
-settings_spells s h = also_spells (signed w64) (list_of w8 image_rule) long (list_spells w8 image_rule rule_spells) (s.raw_duration, s.rules) h
+settings_spells s h = also_spells (signed_number w64) (list_of w8 image_rule) long (list_spells w8 image_rule rule_spells) (s.raw_duration, s.rules) h
 
 abbrev low : ImageRule → Format ℤ
-low r = signed w64
+low r = signed_number w64
 
 marks_spells : (rules : List ImageRule) → Spells (image_marks rules)
-marks_spells rules m h = also_spells (signed w64) (along low rules) long (along_spells low (λ r. long) rules) (m.raw, m.lows) h
+marks_spells rules m h = also_spells (signed_number w64) (along low rules) long (along_spells low (λ r. long) rules) (m.raw, m.lows) h
 
 key_spells : Spells image_series_key
 key_spells s h = also_spells text (list_of w8 (also text text)) text_spells (list_spells w8 (also text text) (also_spells text text text_spells text_spells)) (s.measurement, s.tags) h
 
 point_spells : Spells image_point
-point_spells = also_spells (signed w64) (signed w64) long long
+point_spells = also_spells (signed_number w64) (signed_number w64) long long
 
 column_spells : (v : Version) → Spells (image_column v)
 column_spells v c h =
@@ -142,19 +142,19 @@ value tag = text
 
 cell_key_spells : (r : ImageRule) → Spells (image_cell_key r)
 cell_key_spells r k h =
-    also_spells (signed w64) (also text (along value r.kept_tags)) long (also_spells text (along value r.kept_tags) text_spells (along_spells value (λ tag. text_spells) r.kept_tags))
+    also_spells (signed_number w64) (also text (along value r.kept_tags)) long (also_spells text (along value r.kept_tags) text_spells (along_spells value (λ tag. text_spells) r.kept_tags))
     (k.index, (k.field, k.group)) h
 
 extremes_spells : Spells image_extremes
 extremes_spells e h =
-    also_spells (signed w64) (also (signed w64) (also image_point image_point)) long
-    (also_spells (signed w64) (also image_point image_point) long (also_spells image_point image_point point_spells point_spells))
+    also_spells (signed_number w64) (also (signed_number w64) (also image_point image_point)) long
+    (also_spells (signed_number w64) (also image_point image_point) long (also_spells image_point image_point point_spells point_spells))
     (e.min, (e.max, (e.first, e.last))) h
 
 cell_spells : (r : ImageRule) → Spells (image_cell r)
 cell_spells r c h =
-    also_spells (image_cell_key r) (also (number w64) (also (signed w128) image_extremes)) (cell_key_spells r)
-    (also_spells (number w64) (also (signed w128) image_extremes) (number_spells w64) (also_spells (signed w128) image_extremes (signed_spells w128) extremes_spells))
+    also_spells (image_cell_key r) (also (number w64) (also (signed_number w128) image_extremes)) (cell_key_spells r)
+    (also_spells (number w64) (also (signed_number w128) image_extremes) (number_spells w64) (also_spells (signed_number w128) image_extremes (signed_spells w128) extremes_spells))
     (c.cell, (c.count, (c.sum, c.extremes))) h
 
 abbrev cells : ImageRule → Format (List ImageCell)

@@ -2,7 +2,7 @@
 use Rattle.std.proofs.Common.{List, refl}
 use Rattle.std.specs.Int.{w8, w32, w64, w128}
 use Rattle.ts_core.specs.facts.Facts.{Text}
-use Rattle.ts_image.specs.Formats.{Format, number, signed, text, also, list_of}
+use Rattle.ts_image.specs.Formats.{Format, number, signed_number, text, also, list_of}
 use Rattle.ts_image.specs.FormatLaws.{IsFormat}
 use Rattle.ts_image.specs.declared.version.Version.{Version}
 use Rattle.ts_image.specs.declared.version.Version.TheVariants.{V1, V2}
@@ -23,10 +23,10 @@ n32 = number_format w32 wide32
 n64 : IsFormat (number w64)
 n64 = number_format w64 wide64
 
-s64 : IsFormat (signed w64)
+s64 : IsFormat (signed_number w64)
 s64 = signed_format w64 wide64
 
-s128 : IsFormat (signed w128)
+s128 : IsFormat (signed_number w128)
 s128 = signed_format w128 wide128
 
 flag_format : (v : Version) → IsFormat (flag v)
@@ -40,7 +40,7 @@ settings_format : IsFormat image_settings
 settings_format = iso_format _ _ _ (also_format _ _ s64 (counted_format w8 image_rule n8 rule_format)) (λ a k. refl) (λ x. refl)
 
 marks_format : (rules : List ImageRule) → IsFormat (image_marks rules)
-marks_format rules = iso_format _ _ _ (also_format _ _ s64 (along_format (λ (r : ImageRule). signed w64) (λ r. s64) rules)) (λ a k. refl) (λ x. refl)
+marks_format rules = iso_format _ _ _ (also_format _ _ s64 (along_format (λ (r : ImageRule). signed_number w64) (λ r. s64) rules)) (λ a k. refl) (λ x. refl)
 
 key_format : IsFormat image_series_key
 key_format = iso_format _ _ _ (also_format _ _ text_format (counted_format w8 (also text text) n8 (also_format _ _ text_format text_format))) (λ a k. refl) (λ x. refl)

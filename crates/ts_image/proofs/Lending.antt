@@ -1,15 +1,15 @@
 -- Lists of borrowed texts, with one more text.
 use Rattle.std.proofs.Common.{◌≡◌, ℕ, zero, suc, add-one, ◌+◌, ◌<◌, ◌≤◌, List, [], ◌∷◌, ◌++◌, length, map, take, get_or, refl, sym, ap, ◌∙◌, arith, Bor}
 use Rattle.ts_core.specs.facts.Facts.{Text}
-use Rattle.ts_core.specs.text.Texts.{lent_pairs}
+use Rattle.ts_core.specs.text.Texts.{borrowed_pairs}
 
-pub lent_length : (xs : List (Bor Text × Bor Text)) → length (lent_pairs xs) ≡ length xs
-lent_length [] = refl
-lent_length (x ∷ xs) = ap suc (lent_length xs)
+pub borrowed_length : (xs : List (Bor Text × Bor Text)) → length (borrowed_pairs xs) ≡ length xs
+borrowed_length [] = refl
+borrowed_length (x ∷ xs) = ap suc (borrowed_length xs)
 
-pub lent_more : (xs : List (Bor Text × Bor Text)) (y : Bor Text × Bor Text) → lent_pairs (xs ++ y ∷ []) ≡ lent_pairs xs ++ (y.0.now, y.1.now) ∷ []
-lent_more [] y = refl
-lent_more (x ∷ xs) y = ap (λ (zs : List (Text × Text)). (x.0.now, x.1.now) ∷ zs) (lent_more xs y)
+pub borrowed_more : (xs : List (Bor Text × Bor Text)) (y : Bor Text × Bor Text) → borrowed_pairs (xs ++ y ∷ []) ≡ borrowed_pairs xs ++ (y.0.now, y.1.now) ∷ []
+borrowed_more [] y = refl
+borrowed_more (x ∷ xs) y = ap (λ (zs : List (Text × Text)). (x.0.now, x.1.now) ∷ zs) (borrowed_more xs y)
 
 module _ {P X : Type 0} (f : P → X) where
   step : (ps : List P) (i : ℕ) (p : P) → i < length ps → p ≡ get_or ps i p → map f (take (suc i) ps) ≡ map f (take i ps) ++ f p ∷ []

@@ -11,9 +11,9 @@ use Rattle.ts_image.specs.declared.version.Version.{Version}
 use Rattle.ts_image.specs.declared.load_fault.LoadFault.{LoadFault}
 use Rattle.ts_image.specs.declared.load_fault.LoadFault.TheVariants.{Contradiction, Turns, OutOfMemory}
 use Rattle.ts_image.specs.FormatLaws.{AreBytes}
-use Rattle.ts_image.specs.RuleParts.{rule_of, settings_of_parts}
-use Rattle.ts_image.specs.ImageTests.{IsPossible, rule_in, settings_in}
-use Rattle.ts_image.specs.TestParts.{IsLong}
+use Rattle.ts_image.specs.RuleParts.{rule_from_parts, settings_of_parts}
+use Rattle.ts_image.specs.ImageTests.{IsPossible, rule_in, settings_of_image}
+use Rattle.ts_image.specs.TestParts.{HasLongInterval}
 use Rattle.ts_image.specs.ImageFaults.{IsImageOf, IsFaultOf}
 use Rattle.ts_core.specs.store.StoreData.{StoreData, StaysFor}
 use Rattle.ts_image.specs.Images.{ImageData}
@@ -25,7 +25,7 @@ use Rattle.ts_image.proofs.PictureLemmas.{pictured_stands}
 use Rattle.ts_image.proofs.Unambiguous.{are_unambiguous}
 
 -- intervals of a nanosecond or more are those of the parts
-pub long_from : {A : Type 0} (rs : List (RuleParts A)) → AllByRecursion (λ (r : Rule). pos 1 ≤ℤ r.interval) (map rule_in (map rule_of rs)) → AllByRecursion IsLong rs
+pub long_from : {A : Type 0} (rs : List (RuleParts A)) → AllByRecursion (λ (r : Rule). pos 1 ≤ℤ r.interval) (map rule_in (map rule_from_parts rs)) → AllByRecursion HasLongInterval rs
 long_from [] h = tt
 long_from (r ∷ rs) h = (h.0, long_from rs h.1)
 
@@ -43,8 +43,8 @@ turns_again S T e h = ap (λ (x : LoadFault). Err x) (ap (fault_or e) h)
 never_turns : (S : Type 0) → (let r : Result S LoadFault = Err Contradiction in r ≡ Err Turns) → ⊥
 never_turns S h = cc
 
-no_room : (S : Type 0) → (let r : Result S LoadFault = Err OutOfMemory in r ≡ Err Turns) → ⊥
-no_room S h = cc
+no_memory_left : (S : Type 0) → (let r : Result S LoadFault = Err OutOfMemory in r ≡ Err Turns) → ⊥
+no_memory_left S h = cc
 
 never_read : (S : Type 0) (x : S) → (let r : Result S LoadFault = Ok x in r ≡ Err Turns) → ⊥
 never_read S x h = cc
@@ -55,7 +55,7 @@ module _ (A : Type 0) (s : Input) (turns : ℕ) (t : Input) where
   not_read e p = record { ok = tt; err = p.err; rest = p.rest; failures = p.failures; ends = tt; within = p.within; spent = λ z. p.spent (turns_again (LoadedImage A) (Version × ImageParts A) e z) }
 
   module _ (v : Version) (parts : ImageParts A) (p : LoadsParts s turns (Ok (v, parts)) t) where
-    pub is_loaded : (settings : Settings) → IsPossible v (image_of parts) → settings ≡ settings_in (settings_of_parts parts.settings)
+    pub is_loaded : (settings : Settings) → IsPossible v (image_of parts) → settings ≡ settings_of_image (settings_of_parts parts.settings)
         → LoadsImage {A = A} s turns (Ok (record { version = v; settings = settings; parts = parts })) t
     is_loaded settings is made = record {
       ok = record { bytes = p.ok; possible = is; settings = made };
@@ -86,7 +86,7 @@ module _ (A : Type 0) (s : Input) (turns : ℕ) (t : Input) where
       failures = p.failures;
       ends = tt;
       within = p.within;
-      spent = λ z. absurd (no_room (LoadedImage A) z);
+      spent = λ z. absurd (no_memory_left (LoadedImage A) z);
     }
 
 -- ---- the store that is made of it
@@ -108,15 +108,15 @@ module _ (s : Input) (turns : ℕ) (t : Input) where
       spent = λ z. absurd (never_read StoreData k z);
     }
 
-    pub no_room_for_store : LoadsStore s turns (Err OutOfMemory) t
-    no_room_for_store = record {
+    pub no_memory_for_store : LoadsStore s turns (Err OutOfMemory) t
+    no_memory_for_store = record {
       ok = tt;
       err = if_some s.remaining (λ bytes. AreBytes bytes → IsImageOf image.version (image_of image.parts) bytes) (λ bytes. AreBytes bytes → IsFaultOf bytes OutOfMemory) (λ bytes is are. tt) p.ok.bytes;
       rest = p.rest;
       failures = p.failures;
       ends = tt;
       within = p.within;
-      spent = λ z. absurd (no_room StoreData z);
+      spent = λ z. absurd (no_memory_left StoreData z);
     }
 
     -- the image of a store is loaded as a store that stands for the same

@@ -14,8 +14,8 @@ use Rattle.ts_store.specs.store.CellCounts.{HoldsFew, HoldFew}
 use Rattle.ts_store.specs.store.CellIndices.{HasIndices, HaveIndices}
 use Rattle.ts_image.specs.declared.version.Version.{Version}
 use Rattle.ts_image.specs.Images.{ImageRule, ImageSeries, ImageCell, ImageData}
-use Rattle.ts_image.specs.ImageTests.{rule_in, AreLows, AreImageCells, IsImageCell, CellsAre, AreCounted, frozen_in, points_of_measurement}
-use Rattle.ts_image.specs.Pictures.{columns_in, part_of, part_at}
+use Rattle.ts_image.specs.ImageTests.{rule_in, AreLows, AreImageCells, IsImageCell, CellsAre, AreCounted, count_frozen, points_of_measurement}
+use Rattle.ts_image.specs.Pictures.{columns_of_image, cell_part_of, part_at}
 use Rattle.ts_image.specs.StoresMade.{parts_of, with_image_cells, cells_in}
 use Rattle.ts_image.proofs.Counted.{few_in_cell}
 use Rattle.ts_image.proofs.Orders.{all_among, rising_distinct}
@@ -69,7 +69,7 @@ missing cs k n = elsewhere cs finmap.empty k n ∙ get-empty cell_cmp k
 pub from_image : (cs : List ImageCell) (k : Cell) → (finmap.get (cells_in cs) k ≡ None → ⊥) → HasCell cs k
 from_image cs k some = ⊎_elim {C = HasCell cs k} (λ h. h) (λ n. absurd (some (missing cs k n))) (found cs k)
 
-pub part_there : (cs : List ImageCell) → AllDistinct (map cell_at cs) → (c : ImageCell) → Among c cs → part_at (cells_in cs) c.cell ≡ part_of c
+pub part_there : (cs : List ImageCell) → AllDistinct (map cell_at cs) → (c : ImageCell) → Among c cs → part_at (cells_in cs) c.cell ≡ cell_part_of c
 part_there cs d c a = ap (λ (o : Option CellParts). (or_else no_parts o).frozen) (there cs d c a)
 
 pub part_missing : (cs : List ImageCell) (k : Cell) → (Among k (map cell_at cs) → ⊥) → part_at (cells_in cs) k ≡ empty_aggregate
@@ -85,7 +85,7 @@ part_from cs k some =
 pub cells_once : (mark : ℤ) (r : ImageRule) (low : ℤ) (cs : List ImageCell) → AreImageCells mark r low cs → AllDistinct (map cell_at cs)
 cells_once mark r low cs are = rising_distinct cells_total (map cell_at cs) are.rising
 
-few_held : (n : ℕ) (ss : List ImageSeries) (r : ImageRule) (cs : List ImageCell) → AllDistinct (map cell_at cs) → frozen_in cs + points_of_measurement r.measurement ss ≤ n → HoldsFew n (columns_in ss) (rule_in r) (cells_in cs)
+few_held : (n : ℕ) (ss : List ImageSeries) (r : ImageRule) (cs : List ImageCell) → AllDistinct (map cell_at cs) → count_frozen cs + points_of_measurement r.measurement ss ≤ n → HoldsFew n (columns_of_image ss) (rule_in r) (cells_in cs)
 few_held n ss r cs once most k = few_in_cell n (rule_in r) ss (cells_in cs) cs most (part_there cs once) (λ q some. part_from cs q some) k
 
 timed : (mark : ℤ) (r : ImageRule) (low : ℤ) (cs : List ImageCell) → AreImageCells mark r low cs → HasIndices (rule_in r) (cells_in cs)
@@ -94,7 +94,7 @@ timed mark r low cs are k a =
     let first = (all_among (IsImageCell mark r low) cs are.each h.0 h.1).first in
     (h.0.extremes.first.0, first.valid, first.bucket ∙ ap (λ (c : Cell). c.index) h.2)
 
-pub all_held : (v : Version) (d : ImageData) (mark : ℤ) (rs : List ImageRule) (lows : List ℤ) (cs : List (List ImageCell)) → AreLows v mark rs lows → CellsAre mark rs lows cs → AreCounted d rs cs → HoldFew d.accepted (columns_in d.series) (map rule_in rs) (map cells_in cs)
+pub all_held : (v : Version) (d : ImageData) (mark : ℤ) (rs : List ImageRule) (lows : List ℤ) (cs : List (List ImageCell)) → AreLows v mark rs lows → CellsAre mark rs lows cs → AreCounted d rs cs → HoldFew d.accepted (columns_of_image d.series) (map rule_in rs) (map cells_in cs)
 all_held v d mark [] lows cs low are few = tt
 all_held v d mark (r ∷ rs) [] cs low are few = absurd low
 all_held v d mark (r ∷ rs) (l ∷ lows) [] low are few = tt

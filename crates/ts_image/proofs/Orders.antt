@@ -9,7 +9,7 @@ use Rattle.std.proofs.lemmas.Cmp.{tied_itself}
 use Rattle.ts_core.specs.lists.Members.{Among, AllDistinct}
 use Rattle.ts_core.proofs.lists.MembersLemmas.{Split, split_at, out_of_middle, Among-map, map_back}
 use Rattle.ts_core.proofs.lists.Places.{both_of}
-use Rattle.ts_image.specs.ImageTests.{AreRising}
+use Rattle.ts_store.specs.image.SavedContent.{AreRising}
 
 -- ---- tests
 

@@ -2,7 +2,7 @@
 use Rattle.std.proofs.Common.{◌≡◌, ℕ, zero, suc, ◌+◌, ◌≤◌, List, [], ◌∷◌, ◌++◌, length, replicate, Ok, Err, refl, sym, ap, ap₂, subst, ◌∙◌, append_assoc, arith, inl, inr, ◌⊎◌, ⊎_elim}
 use Rattle.std.specs.Int.{Width}
 use Rattle.std.proofs.lemmas.List.{length-append, length-replicate}
-use Rattle.ts_image.specs.Formats.{Place, concat, Read, ◌>>=◌, Format, spelling, number, nothing, and, iso, FitAlong, read_along, along, times, list_of}
+use Rattle.ts_image.specs.Formats.{Cursor, concat, Read, ◌>>=◌, Format, spelling, number, nothing, and, iso, FitAlong, read_along, along, times, list_of}
 use Rattle.ts_image.specs.FormatLaws.{AreBytes, reach, Takes, Reaches, IsFormat}
 use Rattle.ts_image.proofs.Fields.{bind_ok, bind_err, done, failed, ok_is, nothing_format}
 
@@ -24,20 +24,20 @@ AreBytes-behind : (a b : List ℕ) → AreBytes (a ++ b) → AreBytes b
 AreBytes-behind [] b h = h
 AreBytes-behind (x ∷ a) b h = AreBytes-behind a b (λ i. h (suc i))
 
-pub taken_bytes : {X : Type 0} (f : Format X) (p : Place) (x : X) (q : Place) → Takes f p x q → AreBytes p.rest → AreBytes q.rest
+pub taken_bytes : {X : Type 0} (f : Format X) (p : Cursor) (x : X) (q : Cursor) → Takes f p x q → AreBytes p.rest → AreBytes q.rest
 taken_bytes f p x q t b = AreBytes-behind (spelling f x) q.rest (subst AreBytes t.rest b)
 
 -- reading never goes back
-pub onward : {X : Type 0} (f : Format X) → IsFormat f → (p : Place) → p.at ≤ reach (f.read p)
+pub onward : {X : Type 0} (f : Format X) → IsFormat f → (p : Cursor) → p.at ≤ reach (f.read p)
 onward f law p =
     let z : p.at + 0 ≡ p.at = omega arith in
     let b = law.bound p p.at (record { value = law.some; fits = law.some_fits; before = []; after = f.fields law.some; fields = refl; rest = p.rest; bytes = refl; at = sym z }) in b
 
-reach-done : {A B : Type 0} (r : Read A) (h : A × Place → B) → reach (r >>= λ a. done (h a, a.1)) ≡ reach r
+reach-done : {A B : Type 0} (r : Read A) (h : A × Cursor → B) → reach (r >>= λ a. done (h a, a.1)) ≡ reach r
 reach-done (Ok x) h = refl
 reach-done (Err n) h = refl
 
-reach-more : {A B : Type 0} (r : Read A) (k : A × Place → Read B) → ((a : A × Place) → a.1.at ≤ reach (k a)) → reach r ≤ reach (r >>= k)
+reach-more : {A B : Type 0} (r : Read A) (k : A × Cursor → Read B) → ((a : A × Cursor) → a.1.at ≤ reach (k a)) → reach r ≤ reach (r >>= k)
 reach-more (Ok x) k h = h x
 reach-more (Err n) k h = omega arith
 
@@ -47,45 +47,45 @@ not_err x n e = cc
 -- ---- a part, and then another
 
 module _ {A B : Type 0} (f : Format A) (g : A → Format B) (lf : IsFormat f) (lg : (a : A) → IsFormat (g a)) where
-  abbrev last : A → B × Place → Read (A × B)
+  abbrev last : A → B × Cursor → Read (A × B)
   last a b = done ((a, b.0), b.1)
 
-  abbrev paired : A → B × Place → A × B
+  abbrev paired : A → B × Cursor → A × B
   paired a b = (a, b.0)
 
-  abbrev rest_of : A × Place → Read (A × B)
+  abbrev rest_of : A × Cursor → Read (A × B)
   rest_of a = (g a.0).read a.1 >>= last a.0
 
   spelled : (a : A) (b : B) → concat (f.fields a ++ (g a).fields b) ≡ spelling f a ++ spelling (g a) b
   spelled a b = concat-append (f.fields a) ((g a).fields b)
 
-  both_take : (p : Place) (a : A) (m : Place) (b : B) (q : Place) → Takes f p a m → Takes (g a) m b q → Takes (and f g) p (a, b) q
+  both_take : (p : Cursor) (a : A) (m : Cursor) (b : B) (q : Cursor) → Takes f p a m → Takes (g a) m b q → Takes (and f g) p (a, b) q
   both_take p a m b q s t = record {
     fits = (s.fits, t.fits);
     rest = s.rest ∙ ap (λ (x : List ℕ). spelling f a ++ x) t.rest ∙ sym (append_assoc (spelling f a) (spelling (g a) b) q.rest) ∙ ap (λ (x : List ℕ). x ++ q.rest) (sym (spelled a b));
     at = let e = ap length (spelled a b) in let l = length-append (spelling f a) (spelling (g a) b) in let x = s.at in let y = t.at in omega (arith, e, l, x, y);
   }
 
-  and_takes : (p q : Place) (x : A × B) → AreBytes p.rest → (and f g).read p ≡ Ok (x, q) → Takes (and f g) p x q
+  and_takes : (p q : Cursor) (x : A × B) → AreBytes p.rest → (and f g).read p ≡ Ok (x, q) → Takes (and f g) p x q
   and_takes p q x bytes e =
       let s = bind_ok (f.read p) rest_of (x, q) e in
       let t = bind_ok ((g s.0.0).read s.0.1) (last s.0.0) (x, q) s.2 in
       let first = lf.takes p s.0.1 s.0.0 bytes s.1 in
       let second = (lg s.0.0).takes s.0.1 t.0.1 t.0.0 (taken_bytes f p s.0.0 s.0.1 first bytes) t.1 in
-      subst (λ (r : (A × B) × Place). Takes (and f g) p r.0 r.1) (ok_is ((s.0.0, t.0.0), t.0.1) (x, q) t.2) (both_take p s.0.0 s.0.1 t.0.0 t.0.1 first second)
+      subst (λ (r : (A × B) × Cursor). Takes (and f g) p r.0 r.1) (ok_is ((s.0.0, t.0.0), t.0.1) (x, q) t.2) (both_take p s.0.0 s.0.1 t.0.0 t.0.1 first second)
 
-  and_again : (p : Place) (x : A × B) (rest : List ℕ) → (and f g).fits x → p.rest ≡ spelling (and f g) x ++ rest → (and f g).read p ≡ Ok (x, record { at = p.at + length (spelling (and f g) x); rest = rest })
+  and_again : (p : Cursor) (x : A × B) (rest : List ℕ) → (and f g).fits x → p.rest ≡ spelling (and f g) x ++ rest → (and f g).read p ≡ Ok (x, record { at = p.at + length (spelling (and f g) x); rest = rest })
   and_again p x rest h e =
       let sa : List ℕ = spelling f x.0 in
       let sb : List ℕ = spelling (g x.0) x.1 in
       let parts : p.rest ≡ sa ++ (sb ++ rest) = e ∙ ap (λ (y : List ℕ). y ++ rest) (spelled x.0 x.1) ∙ append_assoc sa sb rest in
-      let m : Place = record { at = p.at + length sa; rest = sb ++ rest } in
+      let m : Cursor = record { at = p.at + length sa; rest = sb ++ rest } in
       let k = lf.again p x.0 (sb ++ rest) h.0 parts in
       let j = (lg x.0).again m x.1 rest h.1 refl in
       let at : p.at + length sa + length sb ≡ p.at + length (spelling (and f g) x) = let e2 = ap length (spelled x.0 x.1) in let l = length-append sa sb in omega (arith, e2, l) in
       ap (λ r. r >>= rest_of) k ∙ ap (λ r. r >>= last x.0) j ∙ ap (λ (n : ℕ). done (x, record { at = n; rest = rest })) at
 
-  and_fails : (p : Place) (n : ℕ) → AreBytes p.rest → (and f g).read p ≡ Err n → Reaches (and f g) p n
+  and_fails : (p : Cursor) (n : ℕ) → AreBytes p.rest → (and f g).read p ≡ Err n → Reaches (and f g) p n
   and_fails p n bytes e =
       ⊎_elim {C = Reaches (and f g) p n}
       (λ first.
@@ -121,7 +121,7 @@ module _ {A B : Type 0} (f : Format A) (g : A → Format B) (lf : IsFormat f) (l
       (bind_err ((g s.0.0).read s.0.1) (last s.0.0) n s.2))
       (bind_err (f.read p) rest_of n e)
 
-  and_bound : (p : Place) (n : ℕ) → Reaches (and f g) p n → n ≤ reach ((and f g).read p)
+  and_bound : (p : Cursor) (n : ℕ) → Reaches (and f g) p n → n ≤ reach ((and f g).read p)
   and_bound p n r =
       let a : A = r.value.0 in
       let b : B = r.value.1 in
@@ -133,7 +133,7 @@ module _ {A B : Type 0} (f : Format A) (g : A → Format B) (lf : IsFormat f) (l
       (λ s.
       let t : List (List ℕ) = s.0 in
       let whole : concat r.before ≡ spelling f a ++ concat t = ap concat s.1 ∙ concat-append (f.fields a) t in
-      let m : Place = record { at = p.at + length (spelling f a); rest = concat t ++ r.rest } in
+      let m : Cursor = record { at = p.at + length (spelling f a); rest = concat t ++ r.rest } in
       let k = lf.again p a (concat t ++ r.rest) r.fits.0 (r.bytes ∙ ap (λ (x : List ℕ). x ++ r.rest) whole ∙ append_assoc (spelling f a) (concat t) r.rest) in
       let at : n ≡ m.at + length (concat t) = let e2 = ap length whole in let l = length-append (spelling f a) (concat t) in let x = r.at in omega (arith, e2, l, x) in
       let second = (lg a).bound m n (record { value = b; fits = r.fits.1; before = t; after = r.after; fields = s.2; rest = r.rest; bytes = refl; at = at }) in
@@ -149,34 +149,34 @@ module _ {A B : Type 0} (f : Format A) (g : A → Format B) (lf : IsFormat f) (l
 
 -- the second format reads and spells as the first does, converted by a function
 pub record IsMapped {A X : Type 0} (f : Format A) (h : Format X) (to : A → X) : Type 0 where
-  pub read : (p : Place) → h.read p ≡ (f.read p >>= λ a. done (to a.0, a.1))
+  pub read : (p : Cursor) → h.read p ≡ (f.read p >>= λ a. done (to a.0, a.1))
   pub fits : (a : A) → f.fits a → h.fits (to a)
   pub fields : (a : A) → f.fits a → h.fields (to a) ≡ f.fields a
   pub back : (x : X) → h.fits x → (a : A) × f.fits a × (to a ≡ x)
 
 module _ {A X : Type 0} (f : Format A) (h : Format X) (to : A → X) (law : IsFormat f) (mapped : IsMapped f h to) where
-  abbrev stays : A × Place → Read X
+  abbrev stays : A × Cursor → Read X
   stays a = done (to a.0, a.1)
 
   same_spelling : (a : A) → f.fits a → spelling h (to a) ≡ spelling f a
   same_spelling a k = ap concat (mapped.fields a k)
 
-  mapped_takes : (p q : Place) (x : X) → AreBytes p.rest → h.read p ≡ Ok (x, q) → Takes h p x q
+  mapped_takes : (p q : Cursor) (x : X) → AreBytes p.rest → h.read p ≡ Ok (x, q) → Takes h p x q
   mapped_takes p q x bytes e =
       let s = bind_ok (f.read p) stays (x, q) (sym (mapped.read p) ∙ e) in
       let t = law.takes p s.0.1 s.0.0 bytes s.1 in
       let w = same_spelling s.0.0 t.fits in
-      subst (λ (r : X × Place). Takes h p r.0 r.1) (ok_is (to s.0.0, s.0.1) (x, q) s.2)
+      subst (λ (r : X × Cursor). Takes h p r.0 r.1) (ok_is (to s.0.0, s.0.1) (x, q) s.2)
       (record { fits = mapped.fits s.0.0 t.fits; rest = t.rest ∙ ap (λ (y : List ℕ). y ++ s.0.1.rest) (sym w); at = t.at ∙ ap (λ (y : List ℕ). p.at + length y) (sym w) })
 
-  mapped_again : (p : Place) (x : X) (rest : List ℕ) → h.fits x → p.rest ≡ spelling h x ++ rest → h.read p ≡ Ok (x, record { at = p.at + length (spelling h x); rest = rest })
+  mapped_again : (p : Cursor) (x : X) (rest : List ℕ) → h.fits x → p.rest ≡ spelling h x ++ rest → h.read p ≡ Ok (x, record { at = p.at + length (spelling h x); rest = rest })
   mapped_again p x rest k e =
       let b = mapped.back x k in
       let w : spelling h x ≡ spelling f b.0 = ap (spelling h) (sym b.2) ∙ same_spelling b.0 b.1 in
       let r = law.again p b.0 rest b.1 (e ∙ ap (λ (y : List ℕ). y ++ rest) w) in
       mapped.read p ∙ ap (λ y. y >>= stays) r ∙ ap₂ (λ (y : X) (z : List ℕ). done (y, record { at = p.at + length z; rest = rest })) b.2 (sym w)
 
-  mapped_fails : (p : Place) (n : ℕ) → AreBytes p.rest → h.read p ≡ Err n → Reaches h p n
+  mapped_fails : (p : Cursor) (n : ℕ) → AreBytes p.rest → h.read p ≡ Err n → Reaches h p n
   mapped_fails p n bytes e =
       ⊎_elim {C = Reaches h p n}
       (λ s. let r = law.fails p n bytes s in
@@ -184,7 +184,7 @@ module _ {A X : Type 0} (f : Format A) (h : Format X) (to : A → X) (law : IsFo
       (λ s. absurd (not_err (to s.0.0, s.0.1) n s.2))
       (bind_err (f.read p) stays n (sym (mapped.read p) ∙ e))
 
-  mapped_bound : (p : Place) (n : ℕ) → Reaches h p n → n ≤ reach (h.read p)
+  mapped_bound : (p : Cursor) (n : ℕ) → Reaches h p n → n ≤ reach (h.read p)
   mapped_bound p n r =
       let b = mapped.back r.value r.fits in
       let s = law.bound p n (record { value = b.0; fits = b.1; before = r.before; after = r.after; fields = sym (mapped.fields b.0 b.1) ∙ ap (λ y. h.fields y) b.2 ∙ r.fields; rest = r.rest; bytes = r.bytes; at = r.at }) in
@@ -210,11 +210,11 @@ module _ {X Y : Type 0} (f : Y → Format X) (law : (y : Y) → IsFormat (f y)) 
   abbrev with_first : X × List X → List X
   with_first a = a.0 ∷ a.1
 
-  after_first : (x : X × Place) (r : Read (List X)) → (r >>= λ xs. done (x.0 ∷ xs.0, xs.1)) ≡ ((r >>= λ xs. done ((x.0, xs.0), xs.1)) >>= λ a. done (with_first a.0, a.1))
+  after_first : (x : X × Cursor) (r : Read (List X)) → (r >>= λ xs. done (x.0 ∷ xs.0, xs.1)) ≡ ((r >>= λ xs. done ((x.0, xs.0), xs.1)) >>= λ a. done (with_first a.0, a.1))
   after_first x (Ok xs) = refl
   after_first x (Err n) = refl
 
-  reassociated : (r : Read X) (k : X × Place → Read (List X)) → (r >>= λ x. k x >>= λ xs. done (x.0 ∷ xs.0, xs.1)) ≡ ((r >>= λ x. k x >>= λ xs. done ((x.0, xs.0), xs.1)) >>= λ a. done (with_first a.0, a.1))
+  reassociated : (r : Read X) (k : X × Cursor → Read (List X)) → (r >>= λ x. k x >>= λ xs. done (x.0 ∷ xs.0, xs.1)) ≡ ((r >>= λ x. k x >>= λ xs. done ((x.0, xs.0), xs.1)) >>= λ a. done (with_first a.0, a.1))
   reassociated (Ok x) k = after_first x (k x)
   reassociated (Err n) k = refl
 

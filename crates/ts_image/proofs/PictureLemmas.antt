@@ -62,8 +62,8 @@ read_back k n d p m =
     let marks : n.marks ≡ k.marks = sym q.marks ∙ p.marks in
     let columns : (c : ColumnPoints) → Among c n.columns ↔ Among c k.columns = λ c. through (p.columns c) (q.columns c) in
     let cells : PictureCells k.marks.lows n.cells d.cells = subst (λ (x : Marks). PictureCells x.lows n.cells d.cells) marks q.cells in
-    let rooms : HaveCells k.settings.rules k.marks.lows (facts_of n.columns) n.cells =
-    subst (λ (x : Marks). HaveCells k.settings.rules x.lows (facts_of n.columns) n.cells) marks (subst (λ (x : Settings). HaveCells x.rules n.marks.lows (facts_of n.columns) n.cells) settings m.rooms) in
+    let has_cells : HaveCells k.settings.rules k.marks.lows (facts_of n.columns) n.cells =
+    subst (λ (x : Marks). HaveCells k.settings.rules x.lows (facts_of n.columns) n.cells) marks (subst (λ (x : Settings). HaveCells x.rules n.marks.lows (facts_of n.columns) n.cells) settings m.has_cells) in
     record {
       settings = settings;
       marks = marks;
@@ -74,7 +74,7 @@ read_back k n d p m =
       series = λ s a. (q.series s).0 ((p.series s).1 a);
       columns_once = m.columns_once;
       columns = columns;
-      cells = same_parts k.settings.rules k.marks.lows (facts_of k.columns) (facts_of n.columns) k.cells n.cells d.cells (facts_same k.columns n.columns (λ c a. (columns c).1 a)) p.cells cells rooms;
+      cells = same_parts k.settings.rules k.marks.lows (facts_of k.columns) (facts_of n.columns) k.cells n.cells d.cells (facts_same k.columns n.columns (λ c a. (columns c).1 a)) p.cells cells has_cells;
       live = subst (λ (x : Settings). AreLive n.columns x.rules n.cells) settings m.live;
     }
 

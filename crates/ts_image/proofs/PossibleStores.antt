@@ -11,9 +11,9 @@ use Rattle.ts_store.specs.image.Building.{IsLowIndex, AreLowIndices, IsBuildable
 use Rattle.ts_image.specs.declared.version.Version.{Version}
 use Rattle.ts_image.specs.declared.version.Version.TheVariants.{V1, V2}
 use Rattle.ts_image.specs.Images.{ImageRule, ImageColumn, ImageSeries, ImageCell, ImageData}
-use Rattle.ts_image.specs.ImageTests.{rule_in, IsLow, AreLows, IsImagePoint, IsImageColumn, IsImageSeries, IsImageCell, CellsAre, AreCounted, frozen_in, IsPossible}
+use Rattle.ts_image.specs.ImageTests.{rule_in, IsLow, AreLows, IsImagePoint, IsImageColumn, IsImageSeries, IsImageCell, CellsAre, AreCounted, count_frozen, IsPossible}
 use Rattle.ts_image.specs.PartsMade.{HasPart}
-use Rattle.ts_image.specs.StoresMade.{is_waiting, waits_in, cells_in, with_each, built_in, IsAddedColumn, IsAddedSeries, AreAddedCells}
+use Rattle.ts_image.specs.StoresMade.{is_column_waiting, waits_in, cells_in, with_each, built_in, IsAddedColumn, IsAddedSeries, AreAddedCells}
 use Rattle.ts_image.proofs.Counted.{few_frozen}
 use Rattle.ts_image.proofs.MadeCells.{all_held, all_timed}
 use Rattle.ts_image.proofs.Orders.{all_among, among_all}
@@ -43,13 +43,13 @@ both_all : (us vs : List Bool) → AllByRecursion (λ (w : Bool). w ≡ false) u
 both_all [] vs a b = b
 both_all (u ∷ us) vs a b = (a.0, both_all us vs a.1 b)
 
-idle_columns : (mark : ℤ) (runs : ℕ) → runs ≡ 0 → (cs : List ImageColumn) → AllByRecursion (IsImageColumn mark runs) cs → AllByRecursion (λ (w : Bool). w ≡ false) (map is_waiting cs)
+idle_columns : (mark : ℤ) (runs : ℕ) → runs ≡ 0 → (cs : List ImageColumn) → AllByRecursion (IsImageColumn mark runs) cs → AllByRecursion (λ (w : Bool). w ≡ false) (map is_column_waiting cs)
 idle_columns mark runs e [] h = tt
 idle_columns mark runs e (c ∷ cs) h = (not_flagged c.waits runs h.0.waits e, idle_columns mark runs e cs h.1)
 
 idle_series : (mark : ℤ) (runs : ℕ) → runs ≡ 0 → (ss : List ImageSeries) → AllByRecursion (IsImageSeries mark runs) ss → AllByRecursion (λ (w : Bool). w ≡ false) (waits_in ss)
 idle_series mark runs e [] h = tt
-idle_series mark runs e (s ∷ ss) h = both_all (map is_waiting s.columns) (waits_in ss) (idle_columns mark runs e s.columns h.0.columns) (idle_series mark runs e ss h.1)
+idle_series mark runs e (s ∷ ss) h = both_all (map is_column_waiting s.columns) (waits_in ss) (idle_columns mark runs e s.columns h.0.columns) (idle_series mark runs e ss h.1)
 
 -- ---- a store can be made of the parts
 
@@ -79,7 +79,7 @@ added_series mark runs (s ∷ ss) h = (record { key = h.0.key; columns = record 
 
 -- ---- each of its cells can be added
 
-has_part : (n : ℕ) (mark : ℤ) (r : ImageRule) (low : ℤ) (cs : List ImageCell) → AllByRecursion (IsImageCell mark r low) cs → frozen_in cs ≤ n → n ≤ 2 ^ 62 → (c : ImageCell) → Among c cs → HasPart c
+has_part : (n : ℕ) (mark : ℤ) (r : ImageRule) (low : ℤ) (cs : List ImageCell) → AllByRecursion (IsImageCell mark r low) cs → count_frozen cs ≤ n → n ≤ 2 ^ 62 → (c : ImageCell) → Among c cs → HasPart c
 has_part n mark r low cs each most few c a =
     let is = all_among (IsImageCell mark r low) cs each c a in
     let part = few_frozen cs c a in

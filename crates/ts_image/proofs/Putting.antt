@@ -10,7 +10,7 @@ use Rattle.ts_core.specs.declared.io.sink.Refused.{Refused}
 use Rattle.ts_core.specs.io.OutputBuffering.{IsBuffered}
 use Rattle.ts_core.proofs.io.OutputBufferLemmas.{done, refused, puts_join, refused_part, no_put}
 use Rattle.ts_image.specs.Formats.{Format, concat, spelling, number, text, and, also, iso, FitAlong, fields_along, along, times, list_of}
-use Rattle.ts_image.specs.FieldWriting.{Puts, PutsAll}
+use Rattle.ts_image.specs.FieldWriting.{PutsField, PutsAll}
 use Rattle.ts_image.proofs.Parts.{concat-append}
 
 abbrev pub Answer : Type 0
@@ -26,50 +26,50 @@ on_both P Q (Err e) p q = tt
 
 -- ---- a field, a pair, and a converted value
 
-pub put_field : {X : Type 0} (f : Format X) (x : X) (word written : Text) (a c : Output) (k m : Text) (r : Answer) → f.fields x ≡ word ∷ [] → f.fits x → written ≡ word → IsBuffered a k r written c m → Puts f x a k r c m
+pub put_field : {X : Type 0} (f : Format X) (x : X) (word written : Text) (a c : Output) (k m : Text) (r : Answer) → f.fields x ≡ word ∷ [] → f.fits x → written ≡ word → IsBuffered a k r written c m → PutsField f x a k r c m
 put_field f x word written a c k m r e fits w p = record {
   sent = subst (λ (t : Text). IsBuffered a k r t c m) (w ∙ sym (ap concat e ∙ append-nil word)) p;
   fits = on_ok r fits;
 }
 
 -- the number of bytes, and the bytes
-pub text_puts : (t head bytes : Text) (a b c : Output) (k l m : Text) (r : Answer) → IsUtf8 t → length t < 2 ^ 64 → head ≡ to_be_bytes w64 (length t) → bytes ≡ t → IsBuffered a k done head b l → IsBuffered b l r bytes c m → Puts text t a k r c m
+pub text_puts : (t head bytes : Text) (a b c : Output) (k l m : Text) (r : Answer) → IsUtf8 t → length t < 2 ^ 64 → head ≡ to_be_bytes w64 (length t) → bytes ≡ t → IsBuffered a k done head b l → IsBuffered b l r bytes c m → PutsField text t a k r c m
 text_puts t head bytes a b c k l m r u lt e f p q =
     put_field text t (to_be_bytes w64 (length t) ++ t) (head ++ bytes) a c k m r refl (u, lt) (ap (λ (x : Text). x ++ bytes) e ∙ ap (λ (x : Text). to_be_bytes w64 (length t) ++ x) f) (puts_join a b c k l m r head bytes p q)
 
-pub text_stops : (t head : Text) (a c : Output) (k m : Text) (e d : Refused) → head ≡ to_be_bytes w64 (length t) → IsBuffered a k (refused e) head c m → Puts text t a k (refused d) c m
+pub text_stops : (t head : Text) (a c : Output) (k m : Text) (e d : Refused) → head ≡ to_be_bytes w64 (length t) → IsBuffered a k (refused e) head c m → PutsField text t a k (refused d) c m
 text_stops t head a c k m e d h p = record {
   sent = subst (λ (x : Text). IsBuffered a k (refused d) x c m) (ap (λ (x : Text). x ++ t) h ∙ sym (append-nil (to_be_bytes w64 (length t) ++ t))) (refused_part a c k m e d head t p);
   fits = tt;
 }
 
 -- the same of an equal value
-pub puts_at : {X : Type 0} {f : Format X} {x y : X} {a c : Output} {k m : Text} {r : Answer} → x ≡ y → Puts f x a k r c m → Puts f y a k r c m
-puts_at {X} {f} {x} {y} {a} {c} {k} {m} {r} e p = subst (λ (z : X). Puts f z a k r c m) e p
+pub puts_at : {X : Type 0} {f : Format X} {x y : X} {a c : Output} {k m : Text} {r : Answer} → x ≡ y → PutsField f x a k r c m → PutsField f y a k r c m
+puts_at {X} {f} {x} {y} {a} {c} {k} {m} {r} e p = subst (λ (z : X). PutsField f z a k r c m) e p
 
-pub and_puts : {A B : Type 0} {f : Format A} (g : A → Format B) {x : A} {y : B} {a b c : Output} {k l m : Text} {r : Answer} → Puts f x a k done b l → Puts (g x) y b l r c m → Puts (and f g) (x, y) a k r c m
+pub and_puts : {A B : Type 0} {f : Format A} (g : A → Format B) {x : A} {y : B} {a b c : Output} {k l m : Text} {r : Answer} → PutsField f x a k done b l → PutsField (g x) y b l r c m → PutsField (and f g) (x, y) a k r c m
 and_puts {A} {B} {f} g {x} {y} {a} {b} {c} {k} {l} {m} {r} p q = record {
   sent = subst (λ (t : Text). IsBuffered a k r t c m) (sym (concat-append (f.fields x) ((g x).fields y))) (puts_join a b c k l m r (spelling f x) (spelling (g x) y) p.sent q.sent);
   fits = on_both (f.fits x) ((g x).fits y) r p.fits q.fits;
 }
 
-pub and_stops : {A B : Type 0} {f : Format A} (g : A → Format B) {x : A} (y : B) {a c : Output} {k m : Text} {e : Refused} (d : Refused) → Puts f x a k (refused e) c m → Puts (and f g) (x, y) a k (refused d) c m
+pub and_stops : {A B : Type 0} {f : Format A} (g : A → Format B) {x : A} (y : B) {a c : Output} {k m : Text} {e : Refused} (d : Refused) → PutsField f x a k (refused e) c m → PutsField (and f g) (x, y) a k (refused d) c m
 and_stops {A} {B} {f} g {x} y {a} {c} {k} {m} {e} d p = record {
   sent = subst (λ (t : Text). IsBuffered a k (refused d) t c m) (sym (concat-append (f.fields x) ((g x).fields y))) (refused_part a c k m e d (spelling f x) (spelling (g x) y) p.sent);
   fits = tt;
 }
 
-pub also_puts : {A B : Type 0} {f : Format A} {g : Format B} {x : A} {y : B} {a b c : Output} {k l m : Text} {r : Answer} → Puts f x a k done b l → Puts g y b l r c m → Puts (also f g) (x, y) a k r c m
+pub also_puts : {A B : Type 0} {f : Format A} {g : Format B} {x : A} {y : B} {a b c : Output} {k l m : Text} {r : Answer} → PutsField f x a k done b l → PutsField g y b l r c m → PutsField (also f g) (x, y) a k r c m
 also_puts {A} {B} {f} {g} p q = and_puts {f = f} (λ (x : A). g) p q
 
-pub also_stops : {A B : Type 0} {f : Format A} (g : Format B) {x : A} (y : B) {a c : Output} {k m : Text} {e : Refused} (d : Refused) → Puts f x a k (refused e) c m → Puts (also f g) (x, y) a k (refused d) c m
+pub also_stops : {A B : Type 0} {f : Format A} (g : Format B) {x : A} (y : B) {a c : Output} {k m : Text} {e : Refused} (d : Refused) → PutsField f x a k (refused e) c m → PutsField (also f g) (x, y) a k (refused d) c m
 also_stops {A} {B} {f} g y d p = and_stops {f = f} (λ (x : A). g) y d p
 
-pub iso_puts : {A X : Type 0} {f : Format A} (to : A → X) (from : X → A) (x : X) {a c : Output} {k m : Text} {r : Answer} → Puts f (from x) a k r c m → Puts (iso f to from) x a k r c m
+pub iso_puts : {A X : Type 0} {f : Format A} (to : A → X) (from : X → A) (x : X) {a c : Output} {k m : Text} {r : Answer} → PutsField f (from x) a k r c m → PutsField (iso f to from) x a k r c m
 iso_puts to from x p = record { sent = p.sent; fits = p.fits }
 
 -- which fault it is doesn't matter
-pub stops : {X : Type 0} {f : Format X} {x : X} {a c : Output} {k m : Text} {e : Refused} (d : Refused) → Puts f x a k (refused e) c m → Puts f x a k (refused d) c m
+pub stops : {X : Type 0} {f : Format X} {x : X} {a c : Output} {k m : Text} {e : Refused} (d : Refused) → PutsField f x a k (refused e) c m → PutsField f x a k (refused d) c m
 stops d p = record { sent = record { ok = tt; err = p.sent.err; lost = p.sent.lost; failures = p.sent.failures }; fits = tt }
 
 -- ---- one after another
@@ -98,23 +98,23 @@ module _ {X : Type 0} (f : Format X) where
     pub none_put : PutsAll f [] a k done a k
     none_put = record { sent = no_put a k; fits = tt }
 
-    pub one_more : (xs : List X) (x : X) (b c : Output) (l m : Text) → PutsAll f xs a k done b l → Puts f x b l done c m → PutsAll f (xs ++ x ∷ []) a k done c m
+    pub one_more : (xs : List X) (x : X) (b c : Output) (l m : Text) → PutsAll f xs a k done b l → PutsField f x b l done c m → PutsAll f (xs ++ x ∷ []) a k done c m
     one_more xs x b c l m p q = record {
       sent = subst (λ (t : Text). IsBuffered a k done t c m) (ap (λ (t : Text). spelled xs ++ t) (sym (spelled-one x)) ∙ sym (spelled-append xs (x ∷ []))) (puts_join a b c k l m done (spelled xs) (spelling f x) p.sent q.sent);
       fits = fit-more xs x p.fits q.fits;
     }
 
-    pub one_refused : (xs ys : List X) (x : X) (b c : Output) (l m : Text) (e d : Refused) → PutsAll f xs a k done b l → Puts f x b l (refused e) c m → PutsAll f (xs ++ x ∷ ys) a k (refused d) c m
+    pub one_refused : (xs ys : List X) (x : X) (b c : Output) (l m : Text) (e d : Refused) → PutsAll f xs a k done b l → PutsField f x b l (refused e) c m → PutsAll f (xs ++ x ∷ ys) a k (refused d) c m
     one_refused xs ys x b c l m e d p q = record {
       sent = subst (λ (t : Text). IsBuffered a k (refused d) t c m) (ap (λ (t : Text). spelled xs ++ t) (ap (λ (t : Text). t ++ spelled ys) (sym (spelled-one x)) ∙ sym (spelled-append (x ∷ []) ys)) ∙ sym (spelled-append xs (x ∷ ys))) (puts_join a b c k l m (refused d) (spelled xs) (spelling f x ++ spelled ys) p.sent (refused_part b c l m e d (spelling f x) (spelled ys) q.sent));
       fits = tt;
     }
 
 -- a list: its length, and its members
-pub list_puts : {X : Type 0} (w : Width) (f : Format X) {xs : List X} {a b c : Output} {k l m : Text} {r : Answer} → Puts (number w) (length xs) a k done b l → PutsAll f xs b l r c m → Puts (list_of w f) xs a k r c m
+pub list_puts : {X : Type 0} (w : Width) (f : Format X) {xs : List X} {a b c : Output} {k l m : Text} {r : Answer} → PutsField (number w) (length xs) a k done b l → PutsAll f xs b l r c m → PutsField (list_of w f) xs a k r c m
 list_puts w f {xs} p q = iso_puts _ _ xs (and_puts {f = number w} (λ (n : ℕ). times n f) p q)
 
-pub list_stops : {X : Type 0} (w : Width) (f : Format X) (xs : List X) {a c : Output} {k m : Text} {e : Refused} (d : Refused) → Puts (number w) (length xs) a k (refused e) c m → Puts (list_of w f) xs a k (refused d) c m
+pub list_stops : {X : Type 0} (w : Width) (f : Format X) (xs : List X) {a c : Output} {k m : Text} {e : Refused} (d : Refused) → PutsField (number w) (length xs) a k (refused e) c m → PutsField (list_of w f) xs a k (refused d) c m
 list_stops w f xs d p = iso_puts _ _ xs (and_stops {f = number w} (λ (n : ℕ). times n f) xs d p)
 
 -- ---- a value for each member of a list, all in the same format
@@ -136,7 +136,7 @@ module _ {X Y : Type 0} (f : Format X) where
   fit_ok (Ok x) ys xs e h = along-fit ys xs e h
   fit_ok (Err x) ys xs e h = tt
 
-  pub along_puts : (ys : List Y) (xs : List X) (a c : Output) (k m : Text) (r : Answer) → length xs ≡ length ys → PutsAll f xs a k r c m → Puts (along (λ (y : Y). f) ys) xs a k r c m
+  pub along_puts : (ys : List Y) (xs : List X) (a c : Output) (k m : Text) (r : Answer) → length xs ≡ length ys → PutsAll f xs a k r c m → PutsField (along (λ (y : Y). f) ys) xs a k r c m
   along_puts ys xs a c k m r e p = record {
     sent = subst (λ (t : Text). IsBuffered a k r t c m) (ap concat (sym (along-fields ys xs e))) p.sent;
     fits = fit_ok r ys xs e p.fits;
@@ -155,10 +155,10 @@ module _ {P X : Type 0} (f : Format X) (v : P → X) (a : Output) (k : Text) whe
   one_further (x ∷ xs) zero p lt e = ap (λ (y : P). v y ∷ []) (sym e)
   one_further (x ∷ xs) (suc i) p lt e = ap (λ (t : List X). v x ∷ t) (one_further xs i p (omega arith) e)
 
-  pub loop_more : (ps : List P) (i : ℕ) (p : P) (b c : Output) (l m : Text) → i < length ps → p ≡ get_or ps i p → PutsAll f (map v (take i ps)) a k done b l → Puts f (v p) b l done c m → PutsAll f (map v (take (i + 1) ps)) a k done c m
+  pub loop_more : (ps : List P) (i : ℕ) (p : P) (b c : Output) (l m : Text) → i < length ps → p ≡ get_or ps i p → PutsAll f (map v (take i ps)) a k done b l → PutsField f (v p) b l done c m → PutsAll f (map v (take (i + 1) ps)) a k done c m
   loop_more ps i p b c l m lt e s q = subst (λ (xs : List X). PutsAll f xs a k done c m) (sym (ap (λ (n : ℕ). map v (take n ps)) (add-one i) ∙ one_further ps i p lt e)) (one_more f a k (map v (take i ps)) (v p) b c l m s q)
 
-  pub loop_stops : (ps : List P) (i : ℕ) (p : P) (b c : Output) (l m : Text) (x d : Refused) → i < length ps → p ≡ get_or ps i p → PutsAll f (map v (take i ps)) a k done b l → Puts f (v p) b l (refused x) c m → PutsAll f (map v ps) a k (refused d) c m
+  pub loop_stops : (ps : List P) (i : ℕ) (p : P) (b c : Output) (l m : Text) (x d : Refused) → i < length ps → p ≡ get_or ps i p → PutsAll f (map v (take i ps)) a k done b l → PutsField f (v p) b l (refused x) c m → PutsAll f (map v ps) a k (refused d) c m
   loop_stops ps i p b c l m x d lt e s q = subst (λ (xs : List X). PutsAll f xs a k (refused d) c m) (sym (split_at ps i p lt e)) (one_refused f a k (map v (take i ps)) (map v (drop (suc i) ps)) (v p) b c l m x d s q)
 
   pub loop_ends : (ps : List P) (i : ℕ) (b : Output) (l : Text) → length ps ≤ i → PutsAll f (map v (take i ps)) a k done b l → PutsAll f (map v ps) a k done b l
@@ -180,14 +180,14 @@ module _ {P X : Type 0} (f : Format X) (v : P → X) (a : Output) (k : Text) whe
   map-more [] ys = refl
   map-more (x ∷ xs) ys = ap (λ (t : List X). v x ∷ t) (map-more xs ys)
 
-  pub going_on : (all left rest : List P) (p : P) (b c : Output) (l m : Text) → left ≡ p ∷ rest → Going all left b l → Puts f (v p) b l done c m → Going all rest c m
+  pub going_on : (all left rest : List P) (p : P) (b c : Output) (l m : Text) → left ≡ p ∷ rest → Going all left b l → PutsField f (v p) b l done c m → Going all rest c m
   going_on all left rest p b c l m e g q = record {
     given = g.given ++ p ∷ [];
     whole = g.whole ∙ ap (λ (t : List P). g.given ++ t) e ∙ sym (append_assoc g.given (p ∷ []) rest);
     put = subst (λ (xs : List X). PutsAll f xs a k done c m) (sym (map-more g.given (p ∷ []))) (one_more f a k (map v g.given) (v p) b c l m g.put q);
   }
 
-  pub going_stops : (all left rest : List P) (p : P) (b c : Output) (l m : Text) (x d : Refused) → left ≡ p ∷ rest → Going all left b l → Puts f (v p) b l (refused x) c m → PutsAll f (map v all) a k (refused d) c m
+  pub going_stops : (all left rest : List P) (p : P) (b c : Output) (l m : Text) (x d : Refused) → left ≡ p ∷ rest → Going all left b l → PutsField f (v p) b l (refused x) c m → PutsAll f (map v all) a k (refused d) c m
   going_stops all left rest p b c l m x d e g q = subst (λ (xs : List X). PutsAll f xs a k (refused d) c m) (sym (ap (map v) (g.whole ∙ ap (λ (t : List P). g.given ++ t) e) ∙ map-more g.given (p ∷ rest))) (one_refused f a k (map v g.given) (map v rest) (v p) b c l m x d g.put q)
 
   pub going_ends : (all left : List P) (b : Output) (l : Text) → left ≡ [] → Going all left b l → PutsAll f (map v all) a k done b l
@@ -196,11 +196,11 @@ module _ {P X : Type 0} (f : Format X) (v : P → X) (a : Output) (k : Text) whe
 -- ---- a value for each member of a list, in a format of its own
 
 module _ {X Y : Type 0} (f : Y → Format X) where
-  pub along_none : (a : Output) (k : Text) → Puts (along f []) [] a k done a k
+  pub along_none : (a : Output) (k : Text) → PutsField (along f []) [] a k done a k
   along_none a k = record { sent = no_put a k; fits = tt }
 
-  pub along_more : (y : Y) (ys : List Y) {x : X} {xs : List X} {a b c : Output} {k l m : Text} {r : Answer} → Puts (f y) x a k done b l → Puts (along f ys) xs b l r c m → Puts (along f (y ∷ ys)) (x ∷ xs) a k r c m
+  pub along_more : (y : Y) (ys : List Y) {x : X} {xs : List X} {a b c : Output} {k l m : Text} {r : Answer} → PutsField (f y) x a k done b l → PutsField (along f ys) xs b l r c m → PutsField (along f (y ∷ ys)) (x ∷ xs) a k r c m
   along_more y ys {x} {xs} {a} {b} {c} {k} {l} {m} {r} p q = let s = also_puts p q in record { sent = s.sent; fits = s.fits }
 
-  pub along_stops : (y : Y) (ys : List Y) {x : X} (xs : List X) {a c : Output} {k m : Text} {e : Refused} (d : Refused) → Puts (f y) x a k (refused e) c m → Puts (along f (y ∷ ys)) (x ∷ xs) a k (refused d) c m
+  pub along_stops : (y : Y) (ys : List Y) {x : X} (xs : List X) {a c : Output} {k m : Text} {e : Refused} (d : Refused) → PutsField (f y) x a k (refused e) c m → PutsField (along f (y ∷ ys)) (x ∷ xs) a k (refused d) c m
   along_stops y ys {x} xs d p = let s = also_stops (along f ys) xs d p in record { sent = s.sent; fits = tt }

@@ -12,8 +12,8 @@ use Rattle.ts_core.specs.io.Devices.{Input}
 use Rattle.ts_core.specs.io.ReadingAhead.{Ahead, EndIsEnd}
 use Rattle.ts_image.specs.declared.field_fault.FieldFault.{FieldFault}
 use Rattle.ts_image.specs.declared.field_fault.FieldFault.TheVariants.{Misshapen, Device, Turns, OutOfMemory}
-use Rattle.ts_image.specs.Formats.{Place, Read, ◌>>=◌, read_number, number, signed, read_text, text}
-use Rattle.ts_image.specs.FieldReading.{FieldsRead, to_come, known_bytes, place_of, IsKnown, one_if_failed, CallsSource, UsesBytes, FindsEnd, FillsRoom, IsShaped, Gives, Reads}
+use Rattle.ts_image.specs.Formats.{Cursor, Read, ◌>>=◌, read_number, number, signed_number, read_text, text}
+use Rattle.ts_image.specs.FieldReading.{FieldsRead, bytes_to_come, known_bytes, cursor_of, IsKnown, one_if_failed, CallsSource, UsesBytes, FindsEnd, FillsBuffer, IsShaped, GivesReading, ReadsField}
 use Rattle.ts_image.proofs.Fields.{done, failed}
 
 consumes_more : (a b c : Option (List ℕ)) (xs ys : List ℕ) → Consumes a b xs → Consumes b c ys → Consumes a c (xs ++ ys)
@@ -24,7 +24,7 @@ consumes_more (Some x) (Some y) (Some z) xs ys p q = p ∙ ap (λ (t : List ℕ)
 
 pub uses_more : (a b c : FieldsRead) (s t u : Input) (xs ys : List ℕ) → UsesBytes a s xs b t → UsesBytes b t ys c u → UsesBytes a s (xs ++ ys) c u
 uses_more a b c s t u xs ys p q = record {
-  used = consumes_more (to_come a s) (to_come b t) (to_come c u) xs ys p.used q.used;
+  used = consumes_more (bytes_to_come a s) (bytes_to_come b t) (bytes_to_come c u) xs ys p.used q.used;
   at = let x = p.at in let y = q.at in let l = length-append xs ys in omega (arith, x, y, l);
 }
 
@@ -33,7 +33,7 @@ consumes_none None = tt
 consumes_none (Some x) = refl
 
 pub uses_none : (a : FieldsRead) (s : Input) → UsesBytes a s [] a s
-uses_none a s = record { used = consumes_none (to_come a s); at = let e : a.at ≡ a.at + 0 = omega arith in e }
+uses_none a s = record { used = consumes_none (bytes_to_come a s); at = let e : a.at ≡ a.at + 0 = omega arith in e }
 
 -- where bytes that were used are all that there is
 all_used : (a b c : Option (List ℕ)) (xs : List ℕ) → Consumes a b xs → Keeps b c → IsAtEnd c → IsSome a → known_bytes a ≡ xs
@@ -42,8 +42,8 @@ all_used (Some x) None c xs p q e k = absurd p
 all_used (Some x) (Some y) None xs p q e k = absurd q
 all_used (Some x) (Some y) (Some z) xs p q e k = p ∙ ap (λ (t : List ℕ). xs ++ t) (sym q ∙ e) ∙ append-nil xs
 
-pub ends_short : (a b c : FieldsRead) (s t u : Input) (xs : List ℕ) → UsesBytes a s xs b t → FindsEnd b t c u → IsKnown a s → (place_of a s).rest ≡ xs
-ends_short a b c s t u xs p q k = all_used (to_come a s) (to_come b t) (to_come c u) xs p.used q.bytes q.end k
+pub ends_short : (a b c : FieldsRead) (s t u : Input) (xs : List ℕ) → UsesBytes a s xs b t → FindsEnd b t c u → IsKnown a s → (cursor_of a s).rest ≡ xs
+ends_short a b c s t u xs p q k = all_used (bytes_to_come a s) (bytes_to_come b t) (bytes_to_come c u) xs p.used q.bytes q.end k
 
 -- known bytes stay known
 known_after : (a b : Option (List ℕ)) (xs : List ℕ) → Consumes a b xs → IsSome a → IsSome b
@@ -52,15 +52,15 @@ known_after (Some x) None xs p k = absurd p
 known_after (Some x) (Some y) xs p k = refl
 
 pub stays_known : (a b : FieldsRead) (s t : Input) (xs : List ℕ) → UsesBytes a s xs b t → IsKnown a s → IsKnown b t
-stays_known a b s t xs p k = known_after (to_come a s) (to_come b t) xs p.used k
+stays_known a b s t xs p k = known_after (bytes_to_come a s) (bytes_to_come b t) xs p.used k
 
 front_known : (a b : Option (List ℕ)) (xs : List ℕ) → Consumes a b xs → IsSome a → known_bytes a ≡ xs ++ known_bytes b
 front_known None b xs p k = absurd cc
 front_known (Some x) None xs p k = absurd p
 front_known (Some x) (Some y) xs p k = p
 
-pub front_of : (a b : FieldsRead) (s t : Input) (xs : List ℕ) → UsesBytes a s xs b t → IsKnown a s → (place_of a s).rest ≡ xs ++ (place_of b t).rest
-front_of a b s t xs p k = front_known (to_come a s) (to_come b t) xs p.used k
+pub front_of : (a b : FieldsRead) (s t : Input) (xs : List ℕ) → UsesBytes a s xs b t → IsKnown a s → (cursor_of a s).rest ≡ xs ++ (cursor_of b t).rest
+front_of a b s t xs p k = front_known (bytes_to_come a s) (bytes_to_come b t) xs p.used k
 
 -- ---- the counts of a source
 
@@ -133,111 +133,111 @@ calls_ok a b s t x y p = record { end = p.end; allowed = p.allowed; within = p.w
 -- ---- numbers
 
 -- bytes that were used are read as a number
-pub number_read : (w : Width) (a b : FieldsRead) (s t : Input) (bytes : List ℕ) → length bytes ≡ byte_len w → UsesBytes a s bytes b t → IsKnown a s → read_number w (place_of a s) ≡ Ok (from_be_bytes w bytes, place_of b t)
+pub number_read : (w : Width) (a b : FieldsRead) (s t : Input) (bytes : List ℕ) → length bytes ≡ byte_len w → UsesBytes a s bytes b t → IsKnown a s → read_number w (cursor_of a s) ≡ Ok (from_be_bytes w bytes, cursor_of b t)
 number_read w a b s t bytes len u k =
-    let rest : List ℕ = (place_of b t).rest in
+    let rest : List ℕ = (cursor_of b t).rest in
     let front = front_of a b s t bytes u k in
     let long : ltb (length (bytes ++ rest)) (byte_len w) ≡ false = le-ltb _ _ (omega (arith, length-append bytes rest)) in
     let at : a.at + byte_len w ≡ b.at = let e = u.at in omega (arith, e, len) in
     ap (λ (x : List ℕ). read_number w (record { at = a.at; rest = x })) front
     ∙ rw (long, take_at bytes rest (byte_len w) len, drop_at bytes rest (byte_len w) len, at) refl
 
-pub number_short : (w : Width) (p : Place) (room : List ℕ) (n : ℕ) → length room ≡ byte_len w → n ≡ p.at → length p.rest < length room → read_number w p ≡ Err n
-number_short w p room n len e short =
+pub number_short : (w : Width) (p : Cursor) (buffer : List ℕ) (n : ℕ) → length buffer ≡ byte_len w → n ≡ p.at → length p.rest < length buffer → read_number w p ≡ Err n
+number_short w p buffer n len e short =
     let less : ltb (length p.rest) (byte_len w) ≡ true = lt-ltb _ _ (omega (arith, short, len)) in
     rw less (ap (λ (m : ℕ). failed m) (sym e))
 
 -- a number as its format says
-pub number_reads : (w : Width) (a b : FieldsRead) (s t : Input) (bytes : List ℕ) → length bytes ≡ byte_len w → UsesBytes a s bytes b t → CallsSource a.ahead s nothing_yet b.ahead t → Reads (number w) (λ (n : ℕ). n) a s (fine (from_be_bytes w bytes)) b t
+pub number_reads : (w : Width) (a b : FieldsRead) (s t : Input) (bytes : List ℕ) → length bytes ≡ byte_len w → UsesBytes a s bytes b t → CallsSource a.ahead s nothing_yet b.ahead t → ReadsField (number w) (λ (n : ℕ). n) a s (fine (from_be_bytes w bytes)) b t
 number_reads w a b s t bytes len u q = record { stays = λ k. stays_known a b s t bytes u k; value = λ k. number_read w a b s t bytes len u k; calls = calls_ok a.ahead b.ahead s t tt (from_be_bytes w bytes) q }
 
-pub signed_reads : (w : Width) (a b : FieldsRead) (s t : Input) (bytes : List ℕ) → length bytes ≡ byte_len w → UsesBytes a s bytes b t → CallsSource a.ahead s nothing_yet b.ahead t → Reads (signed w) (λ (z : ℤ). z) a s (fine (cast_signed w (from_be_bytes w bytes))) b t
+pub signed_reads : (w : Width) (a b : FieldsRead) (s t : Input) (bytes : List ℕ) → length bytes ≡ byte_len w → UsesBytes a s bytes b t → CallsSource a.ahead s nothing_yet b.ahead t → ReadsField (signed_number w) (λ (z : ℤ). z) a s (fine (cast_signed w (from_be_bytes w bytes))) b t
 signed_reads w a b s t bytes len u q = record { stays = λ k. stays_known a b s t bytes u k; value = λ k. ap (λ r. r >>= λ n. done (cast_signed w n.0, n.1)) (number_read w a b s t bytes len u k); calls = calls_ok a.ahead b.ahead s t tt (cast_signed w (from_be_bytes w bytes)) q }
 
 -- or the input ends before
-number_gives : (w : Width) (e : FieldFault) (a b : FieldsRead) (s t : Input) (room : List ℕ) → length room ≡ byte_len w → FillsRoom a s (Err e) room b t → IsKnown a s → Gives (λ (n : ℕ). n) (faulty ℕ e) (place_of b t) (read_number w (place_of a s))
-number_gives w (Misshapen n) a b s t room len f k = number_short w (place_of a s) room n len f.0 (f.1 k)
-number_gives w Device a b s t room len f k = tt
-number_gives w Turns a b s t room len f k = tt
-number_gives w OutOfMemory a b s t room len f k = tt
+number_gives : (w : Width) (e : FieldFault) (a b : FieldsRead) (s t : Input) (buffer : List ℕ) → length buffer ≡ byte_len w → FillsBuffer a s (Err e) buffer b t → IsKnown a s → GivesReading (λ (n : ℕ). n) (faulty ℕ e) (cursor_of b t) (read_number w (cursor_of a s))
+number_gives w (Misshapen n) a b s t buffer len f k = number_short w (cursor_of a s) buffer n len f.0 (f.1 k)
+number_gives w Device a b s t buffer len f k = tt
+number_gives w Turns a b s t buffer len f k = tt
+number_gives w OutOfMemory a b s t buffer len f k = tt
 
-signed_gives : (w : Width) (e : FieldFault) (a b : FieldsRead) (s t : Input) (room : List ℕ) → length room ≡ byte_len w → FillsRoom a s (Err e) room b t → IsKnown a s → Gives (λ (z : ℤ). z) (faulty ℤ e) (place_of b t) ((signed w).read (place_of a s))
-signed_gives w (Misshapen n) a b s t room len f k = ap (λ r. r >>= λ m. done (cast_signed w m.0, m.1)) (number_short w (place_of a s) room n len f.0 (f.1 k))
-signed_gives w Device a b s t room len f k = tt
-signed_gives w Turns a b s t room len f k = tt
-signed_gives w OutOfMemory a b s t room len f k = tt
+signed_gives : (w : Width) (e : FieldFault) (a b : FieldsRead) (s t : Input) (buffer : List ℕ) → length buffer ≡ byte_len w → FillsBuffer a s (Err e) buffer b t → IsKnown a s → GivesReading (λ (z : ℤ). z) (faulty ℤ e) (cursor_of b t) ((signed_number w).read (cursor_of a s))
+signed_gives w (Misshapen n) a b s t buffer len f k = ap (λ r. r >>= λ m. done (cast_signed w m.0, m.1)) (number_short w (cursor_of a s) buffer n len f.0 (f.1 k))
+signed_gives w Device a b s t buffer len f k = tt
+signed_gives w Turns a b s t buffer len f k = tt
+signed_gives w OutOfMemory a b s t buffer len f k = tt
 
-pub number_cut : (w : Width) (e : FieldFault) (a b : FieldsRead) (s t : Input) (room : List ℕ) → length room ≡ byte_len w → FillsRoom a s (Err e) room b t → CallsSource a.ahead s (faulty (Unit {0}) e) b.ahead t → Reads (number w) (λ (n : ℕ). n) a s (faulty ℕ e) b t
-number_cut w e a b s t room len f q = record { stays = λ k. tt; value = number_gives w e a b s t room len f; calls = calls_on (Unit {0}) ℕ a.ahead b.ahead s t e q }
+pub number_cut : (w : Width) (e : FieldFault) (a b : FieldsRead) (s t : Input) (buffer : List ℕ) → length buffer ≡ byte_len w → FillsBuffer a s (Err e) buffer b t → CallsSource a.ahead s (faulty (Unit {0}) e) b.ahead t → ReadsField (number w) (λ (n : ℕ). n) a s (faulty ℕ e) b t
+number_cut w e a b s t buffer len f q = record { stays = λ k. tt; value = number_gives w e a b s t buffer len f; calls = calls_on (Unit {0}) ℕ a.ahead b.ahead s t e q }
 
-pub signed_cut : (w : Width) (e : FieldFault) (a b : FieldsRead) (s t : Input) (room : List ℕ) → length room ≡ byte_len w → FillsRoom a s (Err e) room b t → CallsSource a.ahead s (faulty (Unit {0}) e) b.ahead t → Reads (signed w) (λ (z : ℤ). z) a s (faulty ℤ e) b t
-signed_cut w e a b s t room len f q = record { stays = λ k. tt; value = signed_gives w e a b s t room len f; calls = calls_on (Unit {0}) ℤ a.ahead b.ahead s t e q }
+pub signed_cut : (w : Width) (e : FieldFault) (a b : FieldsRead) (s t : Input) (buffer : List ℕ) → length buffer ≡ byte_len w → FillsBuffer a s (Err e) buffer b t → CallsSource a.ahead s (faulty (Unit {0}) e) b.ahead t → ReadsField (signed_number w) (λ (z : ℤ). z) a s (faulty ℤ e) b t
+signed_cut w e a b s t buffer len f q = record { stays = λ k. tt; value = signed_gives w e a b s t buffer len f; calls = calls_on (Unit {0}) ℤ a.ahead b.ahead s t e q }
 
 -- ---- texts
 
-text_made : (p m q : Place) (n : ℕ) (bytes : List ℕ) → read_number w64 p ≡ Ok (n, m) → m.rest ≡ bytes ++ q.rest → length bytes ≡ n → q.at ≡ m.at + length bytes → IsUtf8 bytes → text.read p ≡ Ok (bytes, q)
+text_made : (p m q : Cursor) (n : ℕ) (bytes : List ℕ) → read_number w64 p ≡ Ok (n, m) → m.rest ≡ bytes ++ q.rest → length bytes ≡ n → q.at ≡ m.at + length bytes → IsUtf8 bytes → text.read p ≡ Ok (bytes, q)
 text_made p m q n bytes e rest len at u =
     let long : ltb (length (bytes ++ q.rest)) (length bytes) ≡ false = le-ltb _ _ (omega (arith, length-append bytes q.rest)) in
     let here : m ≡ record { at = m.at; rest = bytes ++ q.rest } = ap (λ (x : List ℕ). record { at = m.at; rest = x }) rest in
     let there : read_text p (length bytes, record { at = m.at; rest = bytes ++ q.rest }) ≡ Ok (bytes, q) =
     rw (long, take_at bytes q.rest (length bytes) refl, drop_at bytes q.rest (length bytes) refl, is_utf8-from_IsUtf8 bytes u) (ap (λ (x : ℕ). done (bytes, record { at = x; rest = q.rest })) (sym at)) in
-    ap (λ r. r >>= read_text p) e ∙ ap₂ (λ (x : ℕ) (y : Place). read_text p (x, y)) (sym len) here ∙ there
+    ap (λ r. r >>= read_text p) e ∙ ap₂ (λ (x : ℕ) (y : Cursor). read_text p (x, y)) (sym len) here ∙ there
 
-text_bad : (p m q : Place) (n : ℕ) (bytes : List ℕ) → read_number w64 p ≡ Ok (n, m) → m.rest ≡ bytes ++ q.rest → length bytes ≡ n → (IsUtf8 bytes → ⊥) → text.read p ≡ Err p.at
+text_bad : (p m q : Cursor) (n : ℕ) (bytes : List ℕ) → read_number w64 p ≡ Ok (n, m) → m.rest ≡ bytes ++ q.rest → length bytes ≡ n → (IsUtf8 bytes → ⊥) → text.read p ≡ Err p.at
 text_bad p m q n bytes e rest len not_text =
     let long : ltb (length (bytes ++ q.rest)) (length bytes) ≡ false = le-ltb _ _ (omega (arith, length-append bytes q.rest)) in
     let here : m ≡ record { at = m.at; rest = bytes ++ q.rest } = ap (λ (x : List ℕ). record { at = m.at; rest = x }) rest in
     let bad : is_utf8 bytes ≡ false = elim (is_utf8 bytes) as (λ b. is_utf8 bytes ≡ b → b ≡ false) [ true ↦ λ y. absurd (not_text (IsUtf8-from_is_utf8 bytes y)) | false ↦ λ y. refl ] refl in
     let there : read_text p (length bytes, record { at = m.at; rest = bytes ++ q.rest }) ≡ Err p.at = rw (long, take_at bytes q.rest (length bytes) refl, bad) refl in
-    ap (λ r. r >>= read_text p) e ∙ ap₂ (λ (x : ℕ) (y : Place). read_text p (x, y)) (sym len) here ∙ there
+    ap (λ r. r >>= read_text p) e ∙ ap₂ (λ (x : ℕ) (y : Cursor). read_text p (x, y)) (sym len) here ∙ there
 
-text_cut : (p m : Place) (n : ℕ) → read_number w64 p ≡ Ok (n, m) → length m.rest < n → text.read p ≡ Err p.at
+text_cut : (p m : Cursor) (n : ℕ) → read_number w64 p ≡ Ok (n, m) → length m.rest < n → text.read p ≡ Err p.at
 text_cut p m n e short =
     let less : ltb (length m.rest) n ≡ true = lt-ltb _ _ short in
     let there : read_text p (n, m) ≡ Err p.at = rw less refl in
     ap (λ r. r >>= read_text p) e ∙ there
 
-module _ {X : Type 0} (view : X → Text) (a b c : FieldsRead) (s t u : Input) (n : ℕ) (first : Reads (number w64) (λ (m : ℕ). m) a s (fine n) b t) where
-  pub text_reads : (bytes : List ℕ) (x : X) → UsesBytes b t bytes c u → length bytes ≡ n → IsUtf8 bytes → view x ≡ bytes → CallsSource b.ahead t (fine true) c.ahead u → Reads text view a s (fine x) c u
+module _ {X : Type 0} (view : X → Text) (a b c : FieldsRead) (s t u : Input) (n : ℕ) (first : ReadsField (number w64) (λ (m : ℕ). m) a s (fine n) b t) where
+  pub text_reads : (bytes : List ℕ) (x : X) → UsesBytes b t bytes c u → length bytes ≡ n → IsUtf8 bytes → view x ≡ bytes → CallsSource b.ahead t (fine true) c.ahead u → ReadsField text view a s (fine x) c u
   text_reads bytes x uses len ok e q = record {
     stays = λ k. stays_known b c t u bytes uses (first.stays k);
-    value = λ k. text_made (place_of a s) (place_of b t) (place_of c u) n bytes (first.value k) (front_of b c t u bytes uses (first.stays k)) len uses.at ok ∙ ap (λ (y : Text). done (y, place_of c u)) (sym e);
+    value = λ k. text_made (cursor_of a s) (cursor_of b t) (cursor_of c u) n bytes (first.value k) (front_of b c t u bytes uses (first.stays k)) len uses.at ok ∙ ap (λ (y : Text). done (y, cursor_of c u)) (sym e);
     calls = calls_more a.ahead b.ahead c.ahead s t u n (fine x) first.calls (calls_ok b.ahead c.ahead t u true x q);
   }
 
-  pub text_is_none : (bytes : List ℕ) → UsesBytes b t bytes c u → length bytes ≡ n → (IsUtf8 bytes → ⊥) → CallsSource b.ahead t (fine true) c.ahead u → (at : ℕ) → at ≡ a.at → Reads text view a s (faulty X (Misshapen at)) c u
+  pub text_is_none : (bytes : List ℕ) → UsesBytes b t bytes c u → length bytes ≡ n → (IsUtf8 bytes → ⊥) → CallsSource b.ahead t (fine true) c.ahead u → (at : ℕ) → at ≡ a.at → ReadsField text view a s (faulty X (Misshapen at)) c u
   text_is_none bytes uses len not_text q at same = record {
     stays = λ k. tt;
-    value = λ k. text_bad (place_of a s) (place_of b t) (place_of c u) n bytes (first.value k) (front_of b c t u bytes uses (first.stays k)) len not_text ∙ ap (λ (m : ℕ). failed m) (sym same);
+    value = λ k. text_bad (cursor_of a s) (cursor_of b t) (cursor_of c u) n bytes (first.value k) (front_of b c t u bytes uses (first.stays k)) len not_text ∙ ap (λ (m : ℕ). failed m) (sym same);
     calls = calls_more a.ahead b.ahead c.ahead s t u n (faulty X (Misshapen at)) first.calls (calls_as X b.ahead c.ahead t u true at q);
   }
 
-  pub text_ends : (IsKnown b t → length (place_of b t).rest < n) → CallsSource b.ahead t (fine false) c.ahead u → (at : ℕ) → at ≡ a.at → Reads text view a s (faulty X (Misshapen at)) c u
+  pub text_ends : (IsKnown b t → length (cursor_of b t).rest < n) → CallsSource b.ahead t (fine false) c.ahead u → (at : ℕ) → at ≡ a.at → ReadsField text view a s (faulty X (Misshapen at)) c u
   text_ends short q at same = record {
     stays = λ k. tt;
-    value = λ k. text_cut (place_of a s) (place_of b t) n (first.value k) (short (first.stays k)) ∙ ap (λ (m : ℕ). failed m) (sym same);
+    value = λ k. text_cut (cursor_of a s) (cursor_of b t) n (first.value k) (short (first.stays k)) ∙ ap (λ (m : ℕ). failed m) (sym same);
     calls = calls_more a.ahead b.ahead c.ahead s t u n (faulty X (Misshapen at)) first.calls (calls_as X b.ahead c.ahead t u false at q);
   }
 
-  unshaped : (e : FieldFault) → IsShaped (faulty Bool e) → (r : Read Text) → Gives view (faulty X e) (place_of c u) r
+  unshaped : (e : FieldFault) → IsShaped (faulty Bool e) → (r : Read Text) → GivesReading view (faulty X e) (cursor_of c u) r
   unshaped (Misshapen m) k r = absurd k
   unshaped Device k r = tt
   unshaped Turns k r = tt
   unshaped OutOfMemory k r = tt
 
-  pub text_fails : (e : FieldFault) → IsShaped (faulty Bool e) → CallsSource b.ahead t (faulty Bool e) c.ahead u → Reads text view a s (faulty X e) c u
+  pub text_fails : (e : FieldFault) → IsShaped (faulty Bool e) → CallsSource b.ahead t (faulty Bool e) c.ahead u → ReadsField text view a s (faulty X e) c u
   text_fails e k q = record {
     stays = λ z. tt;
-    value = λ z. unshaped e k (text.read (place_of a s));
+    value = λ z. unshaped e k (text.read (cursor_of a s));
     calls = calls_more a.ahead b.ahead c.ahead s t u n (faulty X e) first.calls (calls_on Bool X b.ahead c.ahead t u e q);
   }
 
 -- its length can't be read
-length_gives : {X : Type 0} (view : X → Text) (a b : FieldsRead) (s t : Input) (e : FieldFault) → Gives (λ (m : ℕ). m) (faulty ℕ e) (place_of b t) (read_number w64 (place_of a s)) → Gives view (faulty X e) (place_of b t) (text.read (place_of a s))
-length_gives view a b s t (Misshapen n) g = ap (λ r. r >>= read_text (place_of a s)) g
+length_gives : {X : Type 0} (view : X → Text) (a b : FieldsRead) (s t : Input) (e : FieldFault) → GivesReading (λ (m : ℕ). m) (faulty ℕ e) (cursor_of b t) (read_number w64 (cursor_of a s)) → GivesReading view (faulty X e) (cursor_of b t) (text.read (cursor_of a s))
+length_gives view a b s t (Misshapen n) g = ap (λ r. r >>= read_text (cursor_of a s)) g
 length_gives view a b s t Device g = tt
 length_gives view a b s t Turns g = tt
 length_gives view a b s t OutOfMemory g = tt
 
-pub text_starts_not : {X : Type 0} (view : X → Text) (a b : FieldsRead) (s t : Input) (e : FieldFault) → Reads (number w64) (λ (m : ℕ). m) a s (faulty ℕ e) b t → Reads text view a s (faulty X e) b t
+pub text_starts_not : {X : Type 0} (view : X → Text) (a b : FieldsRead) (s t : Input) (e : FieldFault) → ReadsField (number w64) (λ (m : ℕ). m) a s (faulty ℕ e) b t → ReadsField text view a s (faulty X e) b t
 text_starts_not {X} view a b s t e r = record { stays = λ k. tt; value = λ k. length_gives view a b s t e (r.value k); calls = calls_on ℕ X a.ahead b.ahead s t e r.calls }

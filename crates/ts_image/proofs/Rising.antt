@@ -4,7 +4,7 @@ use Rattle.std.specs.declared.cmp.Ordering.{Ordering}
 use Rattle.std.specs.Cmp.{IsTotalOrder}
 use Rattle.std.specs.List.{AllByRecursion}
 use Rattle.ts_core.specs.lists.Members.{Among}
-use Rattle.ts_image.specs.ImageTests.{AreRising}
+use Rattle.ts_store.specs.image.SavedContent.{AreRising}
 use Rattle.ts_image.proofs.Orders.{rising_distinct, rising_rest}
 
 -- a property of all members is one of a member in the middle

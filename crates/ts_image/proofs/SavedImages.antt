@@ -33,8 +33,9 @@ use Rattle.ts_line.specs.Names.{IsKey}
 use Rattle.ts_image.specs.declared.version.Version.{Version}
 use Rattle.ts_image.specs.declared.version.Version.TheVariants.{V2}
 use Rattle.ts_image.specs.Images.{ImageRule, ImageColumn, ImageSeries, ImageCell, ImageData}
-use Rattle.ts_image.specs.ImageTests.{AreRising, IsKeyName, rule_in, settings_in, IsImageRule, AreImageSettings, AreLows, IsImagePoint, IsImageColumn, IsImageSeries, IsImageCell, AreImageCells, points_in_all, points_of_measurement, frozen_in, AreCounted, CellsAre, IsPossible}
-use Rattle.ts_image.specs.Pictures.{column_in, points_in, columns_in, part_of, part_at, PicturesCells, PictureCells, IsPictureOf}
+use Rattle.ts_image.specs.ImageTests.{IsKeyName, rule_in, settings_of_image, IsImageRule, AreImageSettings, AreLows, IsImagePoint, IsImageColumn, IsImageSeries, IsImageCell, AreImageCells, points_in_all, points_of_measurement, count_frozen, AreCounted, CellsAre, IsPossible}
+use Rattle.ts_store.specs.image.SavedContent.{AreRising}
+use Rattle.ts_image.specs.Pictures.{column_of_image, image_points_in, columns_of_image, cell_part_of, part_at, PicturesCells, PictureCells, IsPictureOf}
 use Rattle.ts_image.specs.SavedImages.{IsOrderlyColumn, IsOrderlySeries, AreOrderlyCells, IsOrderly, IsWellFormed, SavedImagesArePossible}
 use Rattle.ts_image.proofs.CellSums.{number_of, AreFrom, latest-few, rule_counted}
 use Rattle.ts_image.proofs.FrozenPictures.{latest_valid, frozen_some, frozen_cell}
@@ -78,7 +79,7 @@ pub from_low : (low : ℤ) (cs : List ImageCell) → AllByRecursion (λ (c : Ima
 from_low low [] h = tt
 from_low low (c ∷ cs) h = (h.0, from_low low cs h.1)
 
-frozen_sum : (m : CellMap) (cs : List ImageCell) → ((c : ImageCell) → Among c cs → part_at m c.cell ≡ part_of c) → sum_by (λ (k : Cell). (part_at m k).count) (map (λ (c : ImageCell). c.cell) cs) ≡ frozen_in cs
+frozen_sum : (m : CellMap) (cs : List ImageCell) → ((c : ImageCell) → Among c cs → part_at m c.cell ≡ cell_part_of c) → sum_by (λ (k : Cell). (part_at m k).count) (map (λ (c : ImageCell). c.cell) cs) ≡ count_frozen cs
 frozen_sum m [] each = refl
 frozen_sum m (c ∷ cs) each =
     let here : (part_at m c.cell).count ≡ c.count = ap (λ (a : Aggregate). a.count) (each c (inl refl)) in
@@ -103,10 +104,10 @@ module _ (opening : Settings) (h : History) (k : StoreData) (d : ImageData) (st 
   mark_is : d.marks.raw ≡ raw_mark opening h
   mark_is = ap (λ (m : Marks). m.raw) (p.marks ∙ st.marks)
 
-  settings_are_those : settings_in d.settings ≡ settings_of opening h
+  settings_are_those : settings_of_image d.settings ≡ settings_of opening h
   settings_are_those = p.settings ∙ st.settings
 
-  faultless : settings_fault (settings_in d.settings) ≡ None
+  faultless : settings_fault (settings_of_image d.settings) ≡ None
   faultless = ap settings_fault settings_are_those ∙ settings_faultless opening h st.lawful
 
   settings_possible : AreImageSettings d.settings
@@ -116,8 +117,8 @@ module _ (opening : Settings) (h : History) (k : StoreData) (d : ImageData) (st 
 
   lows_possible : AreLows V2 d.marks.raw d.settings.rules d.marks.lows
   lows_possible =
-      let are = settings_are (settings_in d.settings) faultless in
-      let raw : (settings_in d.settings).raw_duration ≡ opening.raw_duration = ap (λ (s : Settings). s.raw_duration) settings_are_those ∙ raw_duration_of opening h in
+      let are = settings_are (settings_of_image d.settings) faultless in
+      let raw : (settings_of_image d.settings).raw_duration ≡ opening.raw_duration = ap (λ (s : Settings). s.raw_duration) settings_are_those ∙ raw_duration_of opening h in
       let lasting : AllByRecursion (λ (r : Rule). Outlasts r.duration opening.raw_duration) (map rule_in d.settings.rules) = subst (λ (n : ℕ). AllByRecursion (λ (r : Rule). Outlasts r.duration n) (map rule_in d.settings.rules)) raw are.lasting in
       let lows : d.marks.lows ≡ map (low_of opening h) (map rule_in d.settings.rules) =
       ap (λ (m : Marks). m.lows) (p.marks ∙ st.marks) ∙ ap (λ (s : Settings). map (low_of opening h) s.rules) (sym settings_are_those) in
@@ -142,13 +143,13 @@ module _ (opening : Settings) (h : History) (k : StoreData) (d : ImageData) (st 
       let same = length-map d.series series_of in
       omega (arith, few, most, same)
 
-  in_store : (s : ImageSeries) (c : ImageColumn) → Among s d.series → Among c s.columns → Among (points_in s.series c) k.columns
-  in_store s c a b = (p.columns (points_in s.series c)).0 (column_here d.series s c a b)
+  in_store : (s : ImageSeries) (c : ImageColumn) → Among s d.series → Among c s.columns → Among (image_points_in s.series c) k.columns
+  in_store s c a b = (p.columns (image_points_in s.series c)).0 (column_here d.series s c a b)
 
   -- a column that waits has the flag
-  flag_of_waiting : (s : ImageSeries) (c : ImageColumn) → Among s d.series → Among c s.columns → Among (column_in s.series c) k.waiting → c.waits ≡ 1
+  flag_of_waiting : (s : ImageSeries) (c : ImageColumn) → Among s d.series → Among c s.columns → Among (column_of_image s.series c) k.waiting → c.waits ≡ 1
   flag_of_waiting s c a b w =
-      let from = waiting_from d.series (column_in s.series c) ((p.waiting (column_in s.series c)).1 w) in
+      let from = waiting_from d.series (column_of_image s.series c) ((p.waiting (column_of_image s.series c)).1 w) in
       let same : c ≡ from.1 = one_column d.series keys_distinct fields_distinct s from.0 c from.1 a from.2 b from.3 (sym from.4) in
       one_of c.waits (ap (λ (x : ImageColumn). x.waits == 1) same ∙ from.5)
 
@@ -163,17 +164,17 @@ module _ (opening : Settings) (h : History) (k : StoreData) (d : ImageData) (st 
   flags_upto : (s : ImageSeries) (c : ImageColumn) → Among s d.series → Among c s.columns → c.waits ≤ 1 → c.waits ≤ d.runs
   flags_upto s c a b few =
       elim (c.waits == 1) as (λ t. (c.waits == 1) ≡ t → c.waits ≤ d.runs) [
-        | true ↦ λ e. let begun = running (column_in s.series c) ((p.waiting (column_in s.series c)).0 (waiting_here d.series s c a b e)) in let one = one_of c.waits e in omega (arith, begun, one)
+        | true ↦ λ e. let begun = running (column_of_image s.series c) ((p.waiting (column_of_image s.series c)).0 (waiting_here d.series s c a b e)) in let one = one_of c.waits e in omega (arith, begun, one)
         | false ↦ λ e. let none = not_one c.waits e few in omega (arith, none)
       ] refl
 
   -- a point of a column, as a raw fact
-  raw_fact : (s : ImageSeries) (c : ImageColumn) (q : ℤ × ℤ) → Among s d.series → Among c s.columns → Among q c.points → Among (fact_at (column_in s.series c) q) (facts_of k.columns)
-  raw_fact s c q a b i = facts_of-there k.columns (points_in s.series c) (fact_at (column_in s.series c) q) (in_store s c a b) (Among-map (fact_at (column_in s.series c)) q c.points i)
+  raw_fact : (s : ImageSeries) (c : ImageColumn) (q : ℤ × ℤ) → Among s d.series → Among c s.columns → Among q c.points → Among (fact_at (column_of_image s.series c) q) (facts_of k.columns)
+  raw_fact s c q a b i = facts_of-there k.columns (image_points_in s.series c) (fact_at (column_of_image s.series c) q) (in_store s c a b) (Among-map (fact_at (column_of_image s.series c)) q c.points i)
 
   point_possible : (s : ImageSeries) (c : ImageColumn) → Among s d.series → Among c s.columns → (q : ℤ × ℤ) → Among q c.points → IsImagePoint (raw_mark opening h) c.waits q
   point_possible s c a b q i =
-      let w : Column = column_in s.series c in
+      let w : Column = column_of_image s.series c in
       let only = held.only (fact_at w q) (raw_fact s c q a b i) in (
         latest_valid opening h st.lawful (fact_at w q) only.0,
         elim (is_waiting k.waiting w) as (λ t. is_waiting k.waiting w ≡ t → (c.waits ≡ 1) ⊎ (raw_mark opening h ≤ℤ q.0)) [
@@ -186,7 +187,7 @@ module _ (opening : Settings) (h : History) (k : StoreData) (d : ImageData) (st 
   column_possible s a c b =
       let mine = all_among IsOrderlyColumn s.columns (orderly s a).columns c b in
       record {
-        field = name_of c.field (well.sized.keys (column_in s.series c) (column_there k.columns (points_in s.series c) (in_store s c a b)));
+        field = name_of c.field (well.sized.keys (column_of_image s.series c) (column_there k.columns (image_points_in s.series c) (in_store s c a b)));
         waits = flags_upto s c a b mine.flag;
         points = among_all (IsImagePoint (raw_mark opening h) c.waits) c.points (point_possible s c a b);
         rising = mine.rising;
@@ -201,18 +202,18 @@ module _ (opening : Settings) (h : History) (k : StoreData) (d : ImageData) (st 
 
   -- ---- counts
 
-  forth : SameMembers (columns_in d.series) k.columns
+  forth : SameMembers (columns_of_image d.series) k.columns
   forth c a = (p.columns c).0 a
 
-  back : SameMembers k.columns (columns_in d.series)
+  back : SameMembers k.columns (columns_of_image d.series)
   back c a = (p.columns c).1 a
 
-  facts_distinct : AllDistinct (facts_of (columns_in d.series))
-  facts_distinct = facts_once (columns_in d.series) (columns_once d.series keys_distinct fields_distinct) (λ c a. column_once k.columns c st.once (forth c a))
+  facts_distinct : AllDistinct (facts_of (columns_of_image d.series))
+  facts_distinct = facts_once (columns_of_image d.series) (columns_once d.series keys_distinct fields_distinct) (λ c a. column_once k.columns c st.once (forth c a))
 
   points_few : points_in_all d.series ≤ d.accepted
   points_few =
-      let most = distinct_few (facts_of (columns_in d.series)) (latest_of h) facts_distinct (λ f a. (held.only f (facts_same (columns_in d.series) k.columns forth f a)).0) in
+      let most = distinct_few (facts_of (columns_of_image d.series)) (latest_of h) facts_distinct (λ f a. (held.only f (facts_same (columns_of_image d.series) k.columns forth f a)).0) in
       let points = points_counted d.series in
       let latest = latest-few (accepted h) in
       let same = p.accepted in
@@ -222,17 +223,17 @@ module _ (opening : Settings) (h : History) (k : StoreData) (d : ImageData) (st 
   accepted_few : d.accepted ≤ 2 ^ 62
   accepted_few = let same = p.accepted in let all = st.accepted in let few = few_accepted opening h st.lawful in omega (arith, same, all, few)
 
-  rolled_same : (r : Rule) → number_of (is_rolled r) (facts_of (columns_in d.series)) ≡ number_of (is_rolled r) (facts_of k.columns)
+  rolled_same : (r : Rule) → number_of (is_rolled r) (facts_of (columns_of_image d.series)) ≡ number_of (is_rolled r) (facts_of k.columns)
   rolled_same r =
       let t : Fact → Bool = is_rolled r in
-      let mine : List Fact = facts_of (columns_in d.series) in
+      let mine : List Fact = facts_of (columns_of_image d.series) in
       let its : List Fact = facts_of k.columns in
       length-same (filter t mine) (filter t its) (AllDistinct-filter t mine facts_distinct) (AllDistinct-filter t its st.once)
-      (λ f a. Among-filter_stays t f its (facts_same (columns_in d.series) k.columns forth f (Among-filter_was t f mine a)) (Among-filter_passes t f mine a))
-      (λ f a. Among-filter_stays t f mine (facts_same k.columns (columns_in d.series) back f (Among-filter_was t f its a)) (Among-filter_passes t f its a))
+      (λ f a. Among-filter_stays t f its (facts_same (columns_of_image d.series) k.columns forth f (Among-filter_was t f mine a)) (Among-filter_passes t f mine a))
+      (λ f a. Among-filter_stays t f mine (facts_same k.columns (columns_of_image d.series) back f (Among-filter_was t f its a)) (Among-filter_passes t f its a))
 
   rule_few : (r : ImageRule) (low : ℤ) (m : CellMap) (cs : List ImageCell) → ((q : Cell) → low ≤ℤ q.index → part_at m q ≡ frozen_of cut (rule_in r) q (latest_of h)) → PicturesCells low m cs
-      → AllByRecursion (λ (c : ImageCell). low ≤ℤ c.cell.index) cs → AreRising cell_cmp (map (λ (c : ImageCell). c.cell) cs) → frozen_in cs + points_of_measurement r.measurement d.series ≤ d.accepted
+      → AllByRecursion (λ (c : ImageCell). low ≤ℤ c.cell.index) cs → AreRising cell_cmp (map (λ (c : ImageCell). c.cell) cs) → count_frozen cs + points_of_measurement r.measurement d.series ≤ d.accepted
   rule_few r low m cs parts pictures kept rising =
       let few = rule_counted opening h k st (rule_in r) low m parts (map (λ (c : ImageCell). c.cell) cs) (rising_distinct cells_total (map (λ (c : ImageCell). c.cell) cs) rising) (from_low low cs kept) in
       let sum = frozen_sum m cs pictures.each in
@@ -243,7 +244,7 @@ module _ (opening : Settings) (h : History) (k : StoreData) (d : ImageData) (st 
 
   -- ---- cells
 
-  cell_name : (r : Rule) (c : ImageCell) → part_of c ≡ frozen_of cut r c.cell (latest_of h) → IsKeyName c.cell.field
+  cell_name : (r : Rule) (c : ImageCell) → cell_part_of c ≡ frozen_of cut r c.cell (latest_of h) → IsKeyName c.cell.field
   cell_name r c e =
       let some = frozen_some opening h k.waiting r c e in
       let name : IsKey some.0.column.field = well.sized.keys some.0.column (st.columns_there some.0 some.1.there) in
@@ -254,7 +255,7 @@ module _ (opening : Settings) (h : History) (k : StoreData) (d : ImageData) (st 
   rule_cells_possible r low m cs parts pictures kept rising = record {
     each = among_all (IsImageCell (raw_mark opening h) r low) cs (λ c a.
         let above = all_among (λ (x : ImageCell). low ≤ℤ x.cell.index) cs kept c a in
-        let part : part_of c ≡ frozen_of cut (rule_in r) c.cell (latest_of h) = sym (pictures.each c a) ∙ parts c.cell above in
+        let part : cell_part_of c ≡ frozen_of cut (rule_in r) c.cell (latest_of h) = sym (pictures.each c a) ∙ parts c.cell above in
         frozen_cell opening h k.waiting r low c st.lawful above (cell_name (rule_in r) c part) part);
     rising = rising;
   }

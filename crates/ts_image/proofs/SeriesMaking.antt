@@ -8,9 +8,9 @@ use Rattle.ts_core.proofs.lists.MembersLemmas.{Among-append}
 use Rattle.ts_core.proofs.facts.Ids.{series_total}
 use Rattle.ts_store.specs.image.Building.{Built, with_series}
 use Rattle.ts_image.specs.Images.{ImageColumn, ImageSeries}
-use Rattle.ts_image.specs.ImageTests.{AreRising}
-use Rattle.ts_image.specs.Pictures.{points_in, columns_in}
-use Rattle.ts_image.specs.StoresMade.{is_waiting, waits_in, with_columns, key_in, with_all_series}
+use Rattle.ts_store.specs.image.SavedContent.{AreRising}
+use Rattle.ts_image.specs.Pictures.{image_points_in, columns_of_image}
+use Rattle.ts_image.specs.StoresMade.{is_column_waiting, waits_in, with_image_columns, key_in, with_all_series}
 use Rattle.ts_image.proofs.Rising.{rising_mid}
 
 pub same_key : {m n : Text} {ts us : List (Text × Text)} → m ≡ n → ts ≡ us → (let a : Series = record { measurement = m; tags = ts } in let b : Series = record { measurement = n; tags = us } in a ≡ b)
@@ -18,13 +18,13 @@ same_key a b i = record { measurement = a i; tags = b i }
 
 -- ---- more series
 
-columns_in-append : (ss ts : List ImageSeries) → columns_in (ss ++ ts) ≡ columns_in ss ++ columns_in ts
-columns_in-append [] ts = refl
-columns_in-append (s ∷ ss) ts = ap (λ (xs : List ColumnPoints). map (points_in s.series) s.columns ++ xs) (columns_in-append ss ts) ∙ sym (append_assoc (map (points_in s.series) s.columns) (columns_in ss) (columns_in ts))
+columns_of_image-append : (ss ts : List ImageSeries) → columns_of_image (ss ++ ts) ≡ columns_of_image ss ++ columns_of_image ts
+columns_of_image-append [] ts = refl
+columns_of_image-append (s ∷ ss) ts = ap (λ (xs : List ColumnPoints). map (image_points_in s.series) s.columns ++ xs) (columns_of_image-append ss ts) ∙ sym (append_assoc (map (image_points_in s.series) s.columns) (columns_of_image ss) (columns_of_image ts))
 
 waits_in-append : (ss ts : List ImageSeries) → waits_in (ss ++ ts) ≡ waits_in ss ++ waits_in ts
 waits_in-append [] ts = refl
-waits_in-append (s ∷ ss) ts = ap (λ (xs : List Bool). map is_waiting s.columns ++ xs) (waits_in-append ss ts) ∙ sym (append_assoc (map is_waiting s.columns) (waits_in ss) (waits_in ts))
+waits_in-append (s ∷ ss) ts = ap (λ (xs : List Bool). map is_column_waiting s.columns ++ xs) (waits_in-append ss ts) ∙ sym (append_assoc (map is_column_waiting s.columns) (waits_in ss) (waits_in ts))
 
 pub no_series : (b : Built) → b ≡ with_all_series [] b
 no_series b i = record {
@@ -45,21 +45,21 @@ series_more ss ts b i = record {
   running = b.running;
   accepted = b.accepted;
   series = (append_assoc b.series (map key_in ss) (map key_in ts) ∙ ap (λ (xs : List Series). b.series ++ xs) (sym (map-append key_in ss ts))) i;
-  columns = (append_assoc b.columns (columns_in ss) (columns_in ts) ∙ ap (λ (xs : List ColumnPoints). b.columns ++ xs) (sym (columns_in-append ss ts))) i;
+  columns = (append_assoc b.columns (columns_of_image ss) (columns_of_image ts) ∙ ap (λ (xs : List ColumnPoints). b.columns ++ xs) (sym (columns_of_image-append ss ts))) i;
   waits = (append_assoc b.waits (waits_in ss) (waits_in ts) ∙ ap (λ (xs : List Bool). b.waits ++ xs) (sym (waits_in-append ss ts))) i;
   cells = b.cells;
 }
 
 -- a series with its columns
-pub series_added : (s : ImageSeries) (b : Built) → with_columns s.series s.columns (with_series s.series b) ≡ with_all_series (s ∷ []) b
+pub series_added : (s : ImageSeries) (b : Built) → with_image_columns s.series s.columns (with_series s.series b) ≡ with_all_series (s ∷ []) b
 series_added s b i = record {
   settings = b.settings;
   marks = b.marks;
   running = b.running;
   accepted = b.accepted;
   series = b.series ++ s.series ∷ [];
-  columns = b.columns ++ sym (append-nil (map (points_in s.series) s.columns)) i;
-  waits = b.waits ++ sym (append-nil (map is_waiting s.columns)) i;
+  columns = b.columns ++ sym (append-nil (map (image_points_in s.series) s.columns)) i;
+  waits = b.waits ++ sym (append-nil (map is_column_waiting s.columns)) i;
   cells = b.cells;
 }
 
@@ -84,19 +84,19 @@ module _ {P : Type 0} (v : P → ImageSeries) (xs : List P) (p : P) (ys : List P
       let e = length-append xs (p ∷ ys) in
       omega (arith, a, b2, d, e, few)
 
-pub of_series : (k : Column) (s : Series) (cs : List ImageColumn) → Among k (map column_of (map (points_in s) cs)) → k.series ≡ s
+pub of_series : (k : Column) (s : Series) (cs : List ImageColumn) → Among k (map column_of (map (image_points_in s) cs)) → k.series ≡ s
 of_series k s [] a = absurd a
 of_series k s (c ∷ cs) a = ⊎_elim {C = k.series ≡ s} (λ e. ap (λ (x : Column). x.series) e) (λ r. of_series k s cs r) a
 
-pub registered_in : (k : Column) (ss : List ImageSeries) → Among k (map column_of (columns_in ss)) → Among k.series (map key_in ss)
+pub registered_in : (k : Column) (ss : List ImageSeries) → Among k (map column_of (columns_of_image ss)) → Among k.series (map key_in ss)
 registered_in k [] a = a
 registered_in k (s ∷ ss) a =
     ⊎_elim {C = Among k.series (map key_in (s ∷ ss))} (λ l. inl (of_series k s.series s.columns l)) (λ r. inr (registered_in k ss r))
-    (Among-append k (map column_of (map (points_in s.series) s.columns)) (map column_of (columns_in ss)) (subst (Among k) (map-append column_of (map (points_in s.series) s.columns) (columns_in ss)) a))
+    (Among-append k (map column_of (map (image_points_in s.series) s.columns)) (map column_of (columns_of_image ss)) (subst (Among k) (map-append column_of (map (image_points_in s.series) s.columns) (columns_of_image ss)) a))
 
 -- each column's series is registered
 pub all_registered : (ss : List ImageSeries) (b c : Built) → b.series ≡ [] → b.columns ≡ [] → c ≡ with_all_series ss b → (k : Column) → Among k (map column_of c.columns) → Among k.series c.series
 all_registered ss b c none empty so_far k a =
-    let e : c.columns ≡ columns_in ss = ap (λ (z : Built). z.columns) so_far ∙ ap (λ (xs : List ColumnPoints). xs ++ columns_in ss) empty in
+    let e : c.columns ≡ columns_of_image ss = ap (λ (z : Built). z.columns) so_far ∙ ap (λ (xs : List ColumnPoints). xs ++ columns_of_image ss) empty in
     let f : c.series ≡ map key_in ss = ap (λ (z : Built). z.series) so_far ∙ ap (λ (xs : List Series). xs ++ map key_in ss) none in
     subst (Among k.series) (sym f) (registered_in k ss (subst (λ (xs : List ColumnPoints). Among k (map column_of xs)) e a))

@@ -10,7 +10,8 @@ use Rattle.std.proofs.lemmas.List.{take_all}
 use Rattle.ts_core.specs.facts.Facts.{Text, same_text}
 use Rattle.ts_image.specs.Images.{ImageRule, ImageSeries, ImageCell, ImageData}
 use Rattle.ts_image.specs.TestParts.{points_if, IsTaken, AreCountedAll}
-use Rattle.ts_image.specs.ImageTests.{AreRising, AreCounted, points_of_series, points_of_measurement}
+use Rattle.ts_image.specs.ImageTests.{AreCounted, points_of_series, points_of_measurement}
+use Rattle.ts_store.specs.image.SavedContent.{AreRising}
 
 same_there : {P : Type 0} (ps : List P) (i : ℕ) (d e : P) → i < length ps → get_or ps i d ≡ get_or ps i e
 same_there [] i d e lt = absurd (omega arith)

@@ -4,7 +4,7 @@ use Rattle.std.specs.Prelude.{◌≢◌}
 use Rattle.std.proofs.lemmas.List.{append-nil}
 use Rattle.ts_image.specs.declared.load_fault.LoadFault.{LoadFault}
 use Rattle.ts_image.specs.declared.load_fault.LoadFault.TheVariants.{NotAnImage, OtherVersion, Misshapen, Contradiction, Device, Turns, OutOfMemory}
-use Rattle.ts_image.specs.Formats.{Place, Format, spelling}
+use Rattle.ts_image.specs.Formats.{Cursor, Format, spelling}
 use Rattle.ts_image.specs.FormatLaws.{IsMisshapen, IsFormat}
 use Rattle.ts_image.specs.declared.version.Version.{Version}
 use Rattle.ts_image.specs.declared.version.Version.TheVariants.{V1, V2}
@@ -29,10 +29,10 @@ same_version V2 V1 e = absurd (omega arith)
 -- a spelling is one value's
 one_value : {X : Type 0} (f : Format X) → IsFormat f → (x y : X) → f.fits x → f.fits y → spelling f x ≡ spelling f y → x ≡ y
 one_value {X} f law x y p q e =
-    let here : Place = record { at = 0; rest = spelling f x } in
+    let here : Cursor = record { at = 0; rest = spelling f x } in
     let a = law.again here x [] p (sym (append-nil (spelling f x))) in
     let b = law.again here y [] q (e ∙ sym (append-nil (spelling f y))) in
-    ap (λ (r : X × Place). r.0) (ok_is (x, record { at = 0 + length (spelling f x); rest = [] }) (y, record { at = 0 + length (spelling f y); rest = [] }) (sym a ∙ b))
+    ap (λ (r : X × Cursor). r.0) (ok_is (x, record { at = 0 + length (spelling f x); rest = [] }) (y, record { at = 0 + length (spelling f y); rest = [] }) (sym a ∙ b))
 
 never_other : (v : Version) → version_byte v ≢ 1 → version_byte v ≢ 2 → ⊥
 never_other V1 a b = a refl

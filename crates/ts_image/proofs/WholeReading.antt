@@ -13,12 +13,12 @@ use Rattle.ts_image.specs.declared.load_fault.LoadFault.TheVariants.{NotAnImage,
 use Rattle.ts_image.specs.declared.image_reading.Head.{Head}
 use Rattle.ts_image.specs.declared.image_reading.Head.TheVariants as head
 use Rattle.ts_image.specs.declared.image_reading.ImageParts.{ImageParts}
-use Rattle.ts_image.specs.Formats.{Format, spelling, whole_of, at_end, read_whole}
+use Rattle.ts_image.specs.Formats.{Format, spelling, whole_reading, at_end, read_whole}
 use Rattle.ts_image.specs.FormatLaws.{AreBytes, IsMisshapen, IsExact}
 use Rattle.ts_image.specs.Images.{ImageData, image, image_mark, version_byte, body}
-use Rattle.ts_image.specs.FieldReading.{FieldsRead, place_of, known_bytes, IsKnown, CallsSource, one_if_failed, GivesEnd, Reads}
-use Rattle.ts_image.specs.HeadReading.{ReadsHead}
-use Rattle.ts_image.specs.LoadFaults.{fault_of}
+use Rattle.ts_image.specs.FieldReading.{FieldsRead, cursor_of, known_bytes, IsKnown, CallsSource, one_if_failed, GivesEnd, ReadsField}
+use Rattle.ts_image.specs.HeadReading.{ReadsImageHead}
+use Rattle.ts_image.specs.LoadFaults.{load_fault_of}
 use Rattle.ts_image.specs.ImageFaults.{IsImageOf, IsFaultOf}
 use Rattle.ts_image.specs.ImageReading.{image_of, GivesWhole, ReadsWhole, one_if_device_failed, LoadsParts}
 use Rattle.ts_image.proofs.Fields.{done, failed, AreBytes-drop}
@@ -32,14 +32,14 @@ more_behind : {Y : Type 0} (y : Y) (at : ℕ) (rest : List ℕ) → 0 < length r
 more_behind y at [] lt = absurd (omega arith)
 more_behind {Y} y at (b ∷ bs) lt = ap (λ (x : Bool). cond x (done y) (failed at)) (eqb-suc-zero (length bs))
 
-module _ {X Y : Type 0} (f : Format Y) (view : X → Y) (a b c : FieldsRead) (s t u : Input) (x : X) (r : Reads f view a s (fine x) b t) where
-  goes_on_behind : (e : FieldFault) → IsKnown a s → GivesEnd (faulty (Unit {0}) e) (place_of b t) → GivesWhole view (faulty X e) (read_whole f (place_of a s))
-  goes_on_behind (field.Misshapen n) k g = ap whole_of (r.value k) ∙ more_behind (view x) b.at (place_of b t).rest g.1 ∙ ap (λ (m : ℕ). failed m) (sym g.0)
+module _ {X Y : Type 0} (f : Format Y) (view : X → Y) (a b c : FieldsRead) (s t u : Input) (x : X) (r : ReadsField f view a s (fine x) b t) where
+  goes_on_behind : (e : FieldFault) → IsKnown a s → GivesEnd (faulty (Unit {0}) e) (cursor_of b t) → GivesWhole view (faulty X e) (read_whole f (cursor_of a s))
+  goes_on_behind (field.Misshapen n) k g = ap whole_reading (r.value k) ∙ more_behind (view x) b.at (cursor_of b t).rest g.1 ∙ ap (λ (m : ℕ). failed m) (sym g.0)
   goes_on_behind field.Device k g = tt
   goes_on_behind field.Turns k g = tt
   goes_on_behind field.OutOfMemory k g = tt
 
-  pub end_stops : (e : FieldFault) → (IsKnown b t → GivesEnd (faulty (Unit {0}) e) (place_of b t)) → CallsSource b.ahead t (faulty (Unit {0}) e) c.ahead u → ReadsWhole f view a s (faulty X e) c u
+  pub end_stops : (e : FieldFault) → (IsKnown b t → GivesEnd (faulty (Unit {0}) e) (cursor_of b t)) → CallsSource b.ahead t (faulty (Unit {0}) e) c.ahead u → ReadsWhole f view a s (faulty X e) c u
   end_stops e g q = record {
     value = λ k. goes_on_behind e k (g (r.stays k));
     ended = tt;
@@ -80,7 +80,7 @@ module _ (turns : ℕ) (s : Input) where
   known_all : (bytes : List ℕ) → s.remaining ≡ Some bytes → IsKnown (before_all turns) s
   known_all bytes e = subst (λ (o : Option (List ℕ)). IsSome (prepend_known [] o)) (sym e) refl
 
-  all_rest : (bytes : List ℕ) → s.remaining ≡ Some bytes → bytes ≡ (place_of (before_all turns) s).rest
+  all_rest : (bytes : List ℕ) → s.remaining ≡ Some bytes → bytes ≡ (cursor_of (before_all turns) s).rest
   all_rest bytes e = ap (λ (o : Option (List ℕ)). known_bytes (prepend_known [] o)) (sym e)
 
   module _ {T : Type 0} (r : Result T FieldFault) (c : FieldsRead) (u : Input) (q : CallsSource (nothing_ahead turns) s r c.ahead u) where
@@ -100,13 +100,13 @@ module _ (turns : ℕ) (s : Input) where
         let z : bit c.ahead.ended ≡ 0 = ap bit w.1 in
         (let x = w.0 in omega (arith, x, a, t), omega (arith, n, z))
 
-  same_failures : (X Y : Type 0) (e : FieldFault) → one_if_failed (faulty X e) ≡ one_if_device_failed {T = Y} (Err (fault_of e))
+  same_failures : (X Y : Type 0) (e : FieldFault) → one_if_failed (faulty X e) ≡ one_if_device_failed {T = Y} (Err (load_fault_of e))
   same_failures X Y (field.Misshapen n) = refl
   same_failures X Y field.Device = refl
   same_failures X Y field.Turns = refl
   same_failures X Y field.OutOfMemory = refl
 
-  turns_alone : (X Y : Type 0) (e : FieldFault) → (let r : Result Y LoadFault = Err (fault_of e) in r ≡ Err Turns) → faulty X e ≡ Err field.Turns
+  turns_alone : (X Y : Type 0) (e : FieldFault) → (let r : Result Y LoadFault = Err (load_fault_of e) in r ≡ Err Turns) → faulty X e ≡ Err field.Turns
   turns_alone X Y (field.Misshapen n) h = absurd cc
   turns_alone X Y field.Device h = absurd cc
   turns_alone X Y field.Turns h = refl
@@ -131,7 +131,7 @@ module _ (turns : ℕ) (s : Input) where
   }
 
   module _ (A : Type 0) (b : FieldsRead) (t : Input) where
-    loads_fault : (X : Type 0) (e : FieldFault) → IsFoundAs (fault_of e) → CallsSource (nothing_ahead turns) s (faulty X e) b.ahead t → LoadsParts {A = A} s turns (Err (fault_of e)) t
+    loads_fault : (X : Type 0) (e : FieldFault) → IsFoundAs (load_fault_of e) → CallsSource (nothing_ahead turns) s (faulty X e) b.ahead t → LoadsParts {A = A} s turns (Err (load_fault_of e)) t
     loads_fault X e found q = record {
       ok = tt;
       err = found;
@@ -142,16 +142,16 @@ module _ (turns : ℕ) (s : Input) where
       spent = λ h. all_spent (faulty X e) b t q (turns_alone X (Version × ImageParts A) e h);
     }
 
-    head_found : (e : FieldFault) → ReadsHead (before_all turns) s (faulty Head e) b t → IsFoundAs (fault_of e)
+    head_found : (e : FieldFault) → ReadsImageHead (before_all turns) s (faulty Head e) b t → IsFoundAs (load_fault_of e)
     head_found (field.Misshapen n) h = if_known s.remaining (λ bytes. AreBytes bytes → IsFaultOf bytes (Misshapen n)) (λ bytes k w. let v = h.value (known_all bytes k) in inl (all_rest bytes k ∙ v.0, v.1))
     head_found field.Device h = of_none Device (λ bytes. tt)
     head_found field.Turns h = of_none Turns (λ bytes. tt)
     head_found field.OutOfMemory h = of_none OutOfMemory (λ bytes. tt)
 
-    pub head_faults : (e : FieldFault) → ReadsHead (before_all turns) s (faulty Head e) b t → LoadsParts {A = A} s turns (Err (fault_of e)) t
+    pub head_faults : (e : FieldFault) → ReadsImageHead (before_all turns) s (faulty Head e) b t → LoadsParts {A = A} s turns (Err (load_fault_of e)) t
     head_faults e h = loads_fault Head e (head_found e h) h.calls
 
-    pub not_an_image : ReadsHead (before_all turns) s (fine head.None) b t → LoadsParts {A = A} s turns (Err NotAnImage) t
+    pub not_an_image : ReadsImageHead (before_all turns) s (fine head.None) b t → LoadsParts {A = A} s turns (Err NotAnImage) t
     not_an_image h = record {
       ok = tt;
       err = if_known s.remaining (λ bytes. AreBytes bytes → IsFaultOf bytes NotAnImage) (λ bytes k w e. h.value (known_all bytes k) (ap (take 4) (sym (all_rest bytes k)) ∙ e));
@@ -162,7 +162,7 @@ module _ (turns : ℕ) (s : Input) where
       spent = λ z. absurd (none_not_turns {T = Version × ImageParts A} z);
     }
 
-    pub other_version : ReadsHead (before_all turns) s (fine head.Other) b t → LoadsParts {A = A} s turns (Err OtherVersion) t
+    pub other_version : ReadsImageHead (before_all turns) s (fine head.Other) b t → LoadsParts {A = A} s turns (Err OtherVersion) t
     other_version h = record {
       ok = tt;
       err = if_known s.remaining (λ bytes. AreBytes bytes → IsFaultOf bytes OtherVersion) (λ bytes k w. let v = h.value (known_all bytes k) in (v.0, v.1, all_rest bytes k ∙ v.2, v.3, v.4));
@@ -173,9 +173,9 @@ module _ (turns : ℕ) (s : Input) where
       spent = λ z. absurd (other_not_turns {T = Version × ImageParts A} z);
     }
 
-    module _ (v : Version) (h : ReadsHead (before_all turns) s (fine (head.Of v)) b t) (bytes : List ℕ) (known : s.remaining ≡ Some bytes) (are : AreBytes bytes) where
+    module _ (v : Version) (h : ReadsImageHead (before_all turns) s (fine (head.Of v)) b t) (bytes : List ℕ) (known : s.remaining ≡ Some bytes) (are : AreBytes bytes) where
       abbrev left : List ℕ
-      left = (place_of b t).rest
+      left = (cursor_of b t).rest
 
       known_here : IsKnown b t
       known_here = h.stays (known_all bytes known)
@@ -183,8 +183,8 @@ module _ (turns : ℕ) (s : Input) where
       text_is : bytes ≡ image_mark ++ (version_byte v ∷ left)
       text_is = all_rest bytes known ∙ (h.value (known_all bytes known)).0
 
-      place_is : place_of b t ≡ body left
-      place_is = ap (λ (n : ℕ). record { at = n; rest = left }) (h.value (known_all bytes known)).1
+      cursor_is : cursor_of b t ≡ body left
+      cursor_is = ap (λ (n : ℕ). record { at = n; rest = left }) (h.value (known_all bytes known)).1
 
       left_bytes : AreBytes left
       left_bytes = subst AreBytes (ap (drop 5) text_is) (AreBytes-drop 5 bytes are)
@@ -192,18 +192,18 @@ module _ (turns : ℕ) (s : Input) where
       whole : IsExact (image v) (body left) (read_whole (image v) (body left))
       whole = exact (image v) (image_format v) (body left) left_bytes
 
-      image_found : (d : ImageData) → read_whole (image v) (place_of b t) ≡ Ok d → IsImageOf v d bytes
+      image_found : (d : ImageData) → read_whole (image v) (cursor_of b t) ≡ Ok d → IsImageOf v d bytes
       image_found d e =
-          let read : read_whole (image v) (body left) ≡ Ok d = ap (read_whole (image v)) (sym place_is) ∙ e in
+          let read : read_whole (image v) (body left) ≡ Ok d = ap (read_whole (image v)) (sym cursor_is) ∙ e in
           let found = subst (λ (r : Result ImageData ℕ). IfOk r (λ x. (image v).fits x × (left ≡ spelling (image v) x))) read whole.found in
           record { fits = found.0; text = text_is ∙ ap (λ (x : List ℕ). image_mark ++ (version_byte v ∷ x)) found.1 }
 
-      misshapen_found : (n : ℕ) → read_whole (image v) (place_of b t) ≡ Err n → IsFaultOf bytes (Misshapen n)
+      misshapen_found : (n : ℕ) → read_whole (image v) (cursor_of b t) ≡ Err n → IsFaultOf bytes (Misshapen n)
       misshapen_found n e =
-          let read : read_whole (image v) (body left) ≡ Err n = ap (read_whole (image v)) (sym place_is) ∙ e in
+          let read : read_whole (image v) (body left) ≡ Err n = ap (read_whole (image v)) (sym cursor_is) ∙ e in
           inr (v, left, text_is, subst (λ (r : Result ImageData ℕ). IfErr r (IsMisshapen (image v) (body left))) read whole.fault)
 
-    module _ (c : FieldsRead) (u : Input) (v : Version) (h : ReadsHead (before_all turns) s (fine (head.Of v)) b t) where
+    module _ (c : FieldsRead) (u : Input) (v : Version) (h : ReadsImageHead (before_all turns) s (fine (head.Of v)) b t) where
       pub loads : (parts : ImageParts A) → ReadsWhole (image v) image_of b t (fine parts) c u → LoadsParts s turns (Ok (v, parts)) u
       loads parts w =
           let q = calls_more (nothing_ahead turns) b.ahead c.ahead s t u (head.Of v) (fine parts) h.calls w.calls in
@@ -217,12 +217,12 @@ module _ (turns : ℕ) (s : Input) where
             spent = λ z. absurd (fine_not_turns (v, parts) z);
           }
 
-      body_found : (e : FieldFault) → ReadsWhole (image v) (image_of {A = A}) b t (faulty (ImageParts A) e) c u → IsFoundAs (fault_of e)
+      body_found : (e : FieldFault) → ReadsWhole (image v) (image_of {A = A}) b t (faulty (ImageParts A) e) c u → IsFoundAs (load_fault_of e)
       body_found (field.Misshapen n) w = if_known s.remaining (λ bytes. AreBytes bytes → IsFaultOf bytes (Misshapen n)) (λ bytes k are. misshapen_found v h bytes k are n (w.value (known_here v h bytes k are)))
       body_found field.Device w = of_none Device (λ bytes. tt)
       body_found field.Turns w = of_none Turns (λ bytes. tt)
       body_found field.OutOfMemory w = of_none OutOfMemory (λ bytes. tt)
 
-  pub body_faults : {A : Type 0} (b c : FieldsRead) (t u : Input) (v : Version) → ReadsHead (before_all turns) s (fine (head.Of v)) b t → (e : FieldFault) → ReadsWhole (image v) (image_of {A = A}) b t (faulty (ImageParts A) e) c u → LoadsParts {A = A} s turns (Err (fault_of e)) u
+  pub body_faults : {A : Type 0} (b c : FieldsRead) (t u : Input) (v : Version) → ReadsImageHead (before_all turns) s (fine (head.Of v)) b t → (e : FieldFault) → ReadsWhole (image v) (image_of {A = A}) b t (faulty (ImageParts A) e) c u → LoadsParts {A = A} s turns (Err (load_fault_of e)) u
   body_faults {A} b c t u v h e w =
       loads_fault A c u (ImageParts A) e (body_found A b t c u v h e w) (calls_more (nothing_ahead turns) b.ahead c.ahead s t u (head.Of v) (faulty (ImageParts A) e) h.calls w.calls)

@@ -35,8 +35,9 @@ use Rattle.ts_core.proofs.lists.Sorted.{found_among, among_found}
 use Rattle.ts_core.proofs.store.StateLemmas.{is_waiting-there, same_head, same_rest, cons_not}
 use Rattle.ts_raw.specs.PlainColumns.{IsRising}
 use Rattle.ts_image.specs.Images.{ImageRule, ImageColumn, ImageSeries, ImageCell}
-use Rattle.ts_image.specs.ImageTests.{AreRising, rule_in, settings_in}
-use Rattle.ts_image.specs.Pictures.{column_in, points_in, columns_in, waiting_in, part_of, part_at, PicturesCells, PictureCells, IsPictureOf}
+use Rattle.ts_image.specs.ImageTests.{rule_in, settings_of_image}
+use Rattle.ts_store.specs.image.SavedContent.{AreRising}
+use Rattle.ts_image.specs.Pictures.{column_of_image, image_points_in, columns_of_image, waiting_of_image, cell_part_of, part_at, PicturesCells, PictureCells, IsPictureOf}
 use Rattle.ts_image.specs.SavedImages.{IsOrderlyColumn, IsOrderlySeries, AreOrderlyCells, IsOrderly, IsWellFormed}
 use Rattle.ts_store.specs.image.SavedContent.{SavedColumn, SavedSeries, saved_field, saved_key, SavesColumns, SavesSeries, FrozenCell, frozen_from}
 use Rattle.ts_store.specs.read.ViewResults.{no_points}
@@ -53,7 +54,7 @@ rules_back : (rs : List Rule) → map rule_in (map image_rule_of rs) ≡ rs
 rules_back [] = refl
 rules_back (r ∷ rs) = ap (λ xs. r ∷ xs) (rules_back rs)
 
-settings_back : (s : Settings) → settings_in (image_settings_of s) ≡ s
+settings_back : (s : Settings) → settings_of_image (image_settings_of s) ≡ s
 settings_back s = λ i. record { raw_duration = s.raw_duration; rules = rules_back s.rules i }
 
 lasting : (rs : List Rule) → AllByRecursion (λ (r : ImageRule). pos 0 ≤ℤ r.duration) (map image_rule_of rs)
@@ -89,19 +90,19 @@ record IsSavedAs (k : StoreData) (s : SavedSeries) (x : SavedColumn) (p : Column
   at : column_at k x ≡ p
   name : record { series = s.series; field = x.field } ≡ p.column
 
-same_points : (k : StoreData) (s : SavedSeries) (x : SavedColumn) (p : ColumnPoints) → IsSavedAs k s x p → points_in s.series (image_column_of k x) ≡ p
+same_points : (k : StoreData) (s : SavedSeries) (x : SavedColumn) (p : ColumnPoints) → IsSavedAs k s x p → image_points_in s.series (image_column_of k x) ≡ p
 same_points k s x p is = λ i. record { column = is.name i; points = (is.at i).points }
 
 module _ (k : StoreData) (order : List SavedSeries) (w : SavesSeries k.series (map column_of k.columns) order) where
   abbrev all : List ImageSeries
   all = map (image_series_of k) order
 
-  columns_of : (s : SavedSeries) → Among s order → SavesColumns (map column_of k.columns) s
-  columns_of s a = all_among (SavesColumns (map column_of k.columns)) order w.columns s a
+  column_parts_of : (s : SavedSeries) → Among s order → SavesColumns (map column_of k.columns) s
+  column_parts_of s a = all_among (SavesColumns (map column_of k.columns)) order w.columns s a
 
   saved_as : (s : SavedSeries) (x : SavedColumn) → Among s order → Among x s.columns → (p : ColumnPoints) × IsSavedAs k s x p
   saved_as s x a b =
-      let n = named_at k.columns x.number (record { series = s.series; field = x.field }) (((columns_of s a).each x).0 b) in
+      let n = named_at k.columns x.number (record { series = s.series; field = x.field }) (((column_parts_of s a).each x).0 b) in
       (n.0, record { there = at_among k.columns x.number n.0 n.1; at = get_or_from_slice_get k.columns x.number n.0 no_points n.1; name = sym n.2 })
 
   -- each column of the store is saved
@@ -111,7 +112,7 @@ module _ (k : StoreData) (order : List SavedSeries) (w : SavesSeries k.series (m
       let key = map_back saved_key order p.column.series ((w.each p.column.series).1 (registered p.column (column_there k.columns p a))) in
       let name : record { series = key.0.series; field = p.column.field } ≡ p.column = λ i. record { series = key.2 i; field = p.column.field } in
       let x : SavedColumn = record { field = p.column.field; number = at.0 } in
-      let here : Among x key.0.columns = ((columns_of key.0 key.1).each x).1 (subst (IsAt (map column_of k.columns) at.0) (sym name) (at_map_of column_of k.columns at.0 p at.1)) in
+      let here : Among x key.0.columns = ((column_parts_of key.0 key.1).each x).1 (subst (IsAt (map column_of k.columns) at.0) (sym name) (at_map_of column_of k.columns at.0 p at.1)) in
       (key.0, x, key.1, here, record { there = a; at = get_or_from_slice_get k.columns at.0 p no_points at.1; name = name })
 
   -- a column of the image is a saved one
@@ -121,36 +122,36 @@ module _ (k : StoreData) (order : List SavedSeries) (w : SavesSeries k.series (m
       let x = map_back (image_column_of k) s.0.columns c (subst (λ (u : ImageSeries). Among c u.columns) (sym s.2) b) in
       (s.0, x.0, s.1, x.1, s.2, x.2)
 
-  columns_forth : (p : ColumnPoints) → Among p (columns_in all) → Among p k.columns
+  columns_forth : (p : ColumnPoints) → Among p (columns_of_image all) → Among p k.columns
   columns_forth p a =
       let f = column_from all p a in
       let t = written_as f.0 f.1 f.2 f.3 in
       let q = saved_as t.0 t.1 t.2 t.3 in
-      let same : q.0 ≡ p = sym (same_points k t.0 t.1 q.0 q.1) ∙ (λ i. points_in (t.4 i).series (t.5 i)) ∙ f.4 in
+      let same : q.0 ≡ p = sym (same_points k t.0 t.1 q.0 q.1) ∙ (λ i. image_points_in (t.4 i).series (t.5 i)) ∙ f.4 in
       subst (λ (x : ColumnPoints). Among x k.columns) same q.1.there
 
-  columns_back : ((c : Column) → Among c (map column_of k.columns) → Among c.series k.series) → (p : ColumnPoints) → Among p k.columns → Among p (columns_in all)
+  columns_back : ((c : Column) → Among c (map column_of k.columns) → Among c.series k.series) → (p : ColumnPoints) → Among p k.columns → Among p (columns_of_image all)
   columns_back registered p a =
       let f = stored_as registered p a in
-      subst (λ (x : ColumnPoints). Among x (columns_in all)) (same_points k f.0 f.1 p f.4)
+      subst (λ (x : ColumnPoints). Among x (columns_of_image all)) (same_points k f.0 f.1 p f.4)
       (column_here all (image_series_of k f.0) (image_column_of k f.1) (Among-map (image_series_of k) f.0 order f.2) (Among-map (image_column_of k) f.1 f.0.columns f.3))
 
-  waiting_forth : (c : Column) → Among c (waiting_in all) → Among c k.waiting
+  waiting_forth : (c : Column) → Among c (waiting_of_image all) → Among c k.waiting
   waiting_forth c a =
       let f = waiting_from all c a in
       let t = written_as f.0 f.1 f.2 f.3 in
       let q = saved_as t.0 t.1 t.2 t.3 in
       let flag : is_waiting k.waiting (column_at k t.1).column ≡ true = bit_one (is_waiting k.waiting (column_at k t.1).column) (ap (λ (x : ImageColumn). x.waits == 1) t.5 ∙ f.5) in
-      let name : (column_at k t.1).column ≡ c = ap column_of q.1.at ∙ sym q.1.name ∙ (λ i. column_in (t.4 i).series (t.5 i)) ∙ f.4 in
+      let name : (column_at k t.1).column ≡ c = ap column_of q.1.at ∙ sym q.1.name ∙ (λ i. column_of_image (t.4 i).series (t.5 i)) ∙ f.4 in
       subst (λ (x : Column). Among x k.waiting) name (is_waiting-among (column_at k t.1).column k.waiting flag)
 
-  waiting_back : ((c : Column) → Among c (map column_of k.columns) → Among c.series k.series) → ((c : Column) → Among c k.waiting → Among c (map column_of k.columns)) → (c : Column) → Among c k.waiting → Among c (waiting_in all)
+  waiting_back : ((c : Column) → Among c (map column_of k.columns) → Among c.series k.series) → ((c : Column) → Among c k.waiting → Among c (map column_of k.columns)) → (c : Column) → Among c k.waiting → Among c (waiting_of_image all)
   waiting_back registered there c a =
       let p = map_back column_of k.columns c (there c a) in
       let f = stored_as registered p.0 p.1 in
       let name : (column_at k f.1).column ≡ c = ap column_of f.4.at ∙ p.2 in
       let flag : is_waiting k.waiting (column_at k f.1).column ≡ true = ap (is_waiting k.waiting) name ∙ is_waiting-there c k.waiting a in
-      subst (λ (x : Column). Among x (waiting_in all)) (f.4.name ∙ p.2)
+      subst (λ (x : Column). Among x (waiting_of_image all)) (f.4.name ∙ p.2)
       (waiting_here all (image_series_of k f.0) (image_column_of k f.1) (Among-map (image_series_of k) f.0 order f.2) (Among-map (image_column_of k) f.1 f.0.columns f.3) (ap (λ b. bit b == 1) flag))
 
   -- in the image's order
@@ -167,7 +168,7 @@ module _ (k : StoreData) (order : List SavedSeries) (w : SavesSeries k.series (m
       let s = map_back (image_series_of k) order t a in
       subst IsOrderlySeries s.2 (record {
         columns = among_all IsOrderlyColumn (map (image_column_of k) s.0.columns) (λ c b. let x = map_back (image_column_of k) s.0.columns c b in subst IsOrderlyColumn x.2 (column_orderly points s.0 x.0 s.1 x.1));
-        rising = subst (AreRising text_cmp) (sym (fields_back k s.0.columns)) (columns_of s.0 s.1).rising;
+        rising = subst (AreRising text_cmp) (sym (fields_back k s.0.columns)) (column_parts_of s.0 s.1).rising;
       })
 
 -- ---- cells
@@ -195,7 +196,7 @@ has_extremes a sound some =
       | Some x ↦ λ s. refl
     ] sound
 
-whole_part : (q : Cell) (a : Aggregate) → IsSound a → 0 < a.count → part_of (image_cell_of (record { cell = q; frozen = a })) ≡ a
+whole_part : (q : Cell) (a : Aggregate) → IsSound a → 0 < a.count → cell_part_of (image_cell_of (record { cell = q; frozen = a })) ≡ a
 whole_part q a sound some = λ i. record { count = a.count; sum = a.sum; extremes = has_extremes a sound some i }
 
 -- a written cell, by its entry in the map
@@ -216,12 +217,12 @@ module _ (cut : Column → ℤ) (fs : List Fact) (r : Rule) (low : ℤ) (m : Cel
   part_sound : (q : Cell) → low ≤ℤ q.index → IsSound (part_at m q)
   part_sound q l = subst IsSound (sym (h.frozen q l)) (facts_possible (filter (λ (f : Fact). is_in_cell r q f && not (is_kept cut f)) fs))
 
-  pub written_each : (c : ImageCell) → Among c (written low m) → part_at m c.cell ≡ part_of c
+  pub written_each : (c : ImageCell) → Among c (written low m) → part_at m c.cell ≡ cell_part_of c
   written_each c a =
       let e = entry_of low m c a in
       let part : part_at m e.0.0 ≡ e.0.1.frozen = part_is m e.0 e.1 in
       let sound : IsSound e.0.1.frozen = subst IsSound part (part_sound e.0.0 e.2) in
-      subst (λ (x : ImageCell). part_at m x.cell ≡ part_of x) e.4 (part ∙ sym (whole_part e.0.0 e.0.1.frozen sound e.3))
+      subst (λ (x : ImageCell). part_at m x.cell ≡ cell_part_of x) e.4 (part ∙ sym (whole_part e.0.0 e.0.1.frozen sound e.3))
 
   written_all : (q : Cell) → low ≤ℤ q.index → 0 < (part_at m q).count → (c : ImageCell) × Among c (written low m) × (c.cell ≡ q)
   written_all q l some =

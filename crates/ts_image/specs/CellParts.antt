@@ -26,8 +26,8 @@ extremes_of_parts e = record { min = e.min; max = e.max; first = point_of e.firs
 abbrev pub cell_of_parts : {A : Type 0} → CellParts A → ImageCell
 cell_of_parts c = record { cell = cell_key_of c.key; count = c.count; sum = c.sum; extremes = extremes_of_parts c.extremes }
 
-abbrev pub cells_of : {A : Type 0} → Vec (CellParts A) A → List ImageCell
-cells_of v = map cell_of_parts v.items
+abbrev pub cells_of_parts : {A : Type 0} → Vec (CellParts A) A → List ImageCell
+cells_of_parts v = map cell_of_parts v.items
 
 abbrev pub all_cells_of : {A : Type 0} → Vec (Vec (CellParts A) A) A → List (List ImageCell)
-all_cells_of v = map cells_of v.items
+all_cells_of v = map cells_of_parts v.items

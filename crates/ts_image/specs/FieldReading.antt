@@ -5,26 +5,26 @@ use Rattle.ts_core.specs.io.Devices.{Input}
 use Rattle.ts_core.specs.io.ReadingAhead.{Ahead, pending, EndIsEnd, bit, weight}
 use Rattle.ts_image.specs.declared.field_fault.FieldFault.{FieldFault}
 use Rattle.ts_image.specs.declared.field_fault.FieldFault.TheVariants.{Misshapen, Device, Turns, OutOfMemory}
-use Rattle.ts_image.specs.Formats.{Place, Read, Format}
+use Rattle.ts_image.specs.Formats.{Cursor, Read, Format}
 
 pub record FieldsRead : Type 0 where
   pub ahead : Ahead
   pub at : ℕ
 
 -- the bytes still to come, if known
-abbrev pub to_come : FieldsRead → Input → Option (List ℕ)
-to_come r input = pending r.ahead input
+abbrev pub bytes_to_come : FieldsRead → Input → Option (List ℕ)
+bytes_to_come r input = pending r.ahead input
 
 abbrev pub known_bytes : Option (List ℕ) → List ℕ
 known_bytes None = []
 known_bytes (Some bytes) = bytes
 
 -- the reader's position, if the bytes to come are known
-abbrev pub place_of : FieldsRead → Input → Place
-place_of r input = record { at = r.at; rest = known_bytes (to_come r input) }
+abbrev pub cursor_of : FieldsRead → Input → Cursor
+cursor_of r input = record { at = r.at; rest = known_bytes (bytes_to_come r input) }
 
 abbrev pub IsKnown : FieldsRead → Input → Type 0
-IsKnown r input = IsSome (to_come r input)
+IsKnown r input = IsSome (bytes_to_come r input)
 
 -- the number of failures that a call adds to its source's
 abbrev pub one_if_failed : {T : Type 0} → Result T FieldFault → ℕ
@@ -46,43 +46,43 @@ pub record CallsSource {T : Type 0} (old : Ahead) (source : Input) (result : Res
 
 -- these bytes were consumed
 pub record UsesBytes (old : FieldsRead) (source : Input) (bytes : List ℕ) (new : FieldsRead) (source' : Input) : Type 0 where
-  pub used : Consumes (to_come old source) (to_come new source') bytes
+  pub used : Consumes (bytes_to_come old source) (bytes_to_come new source') bytes
   pub at : new.at ≡ old.at + length bytes
 
 -- no byte was consumed, and none is left
 pub record FindsEnd (old : FieldsRead) (source : Input) (new : FieldsRead) (source' : Input) : Type 0 where
-  pub bytes : Keeps (to_come old source) (to_come new source')
+  pub bytes : Keeps (bytes_to_come old source) (bytes_to_come new source')
   pub at : new.at ≡ old.at
-  pub end : IsAtEnd (to_come new source')
+  pub end : IsAtEnd (bytes_to_come new source')
 
 -- the buffer is filled with the next bytes, or the input ends before
-abbrev pub FillsRoom : FieldsRead → Input → Result (Unit {0}) FieldFault → List ℕ → FieldsRead → Input → Type 0
-FillsRoom old source (Ok u) room new source' = UsesBytes old source room new source'
-FillsRoom old source (Err (Misshapen n)) room new source' = (n ≡ old.at) × (IsKnown old source → length (place_of old source).rest < length room)
-FillsRoom old source (Err Device) room new source' = Unit {0}
-FillsRoom old source (Err Turns) room new source' = Unit {0}
-FillsRoom old source (Err OutOfMemory) room new source' = Unit {0}
+abbrev pub FillsBuffer : FieldsRead → Input → Result (Unit {0}) FieldFault → List ℕ → FieldsRead → Input → Type 0
+FillsBuffer old source (Ok u) buffer new source' = UsesBytes old source buffer new source'
+FillsBuffer old source (Err (Misshapen n)) buffer new source' = (n ≡ old.at) × (IsKnown old source → length (cursor_of old source).rest < length buffer)
+FillsBuffer old source (Err Device) buffer new source' = Unit {0}
+FillsBuffer old source (Err Turns) buffer new source' = Unit {0}
+FillsBuffer old source (Err OutOfMemory) buffer new source' = Unit {0}
 
 -- the view of a call's result is the format's reading
-abbrev pub Gives : {X Y : Type 0} → (X → Y) → Result X FieldFault → Place → Read Y → Type 0
-Gives view (Ok x) q read = read ≡ Ok (view x, q)
-Gives view (Err (Misshapen n)) q read = read ≡ Err n
-Gives view (Err Device) q read = Unit {0}
-Gives view (Err Turns) q read = Unit {0}
-Gives view (Err OutOfMemory) q read = Unit {0}
+abbrev pub GivesReading : {X Y : Type 0} → (X → Y) → Result X FieldFault → Cursor → Read Y → Type 0
+GivesReading view (Ok x) q read = read ≡ Ok (view x, q)
+GivesReading view (Err (Misshapen n)) q read = read ≡ Err n
+GivesReading view (Err Device) q read = Unit {0}
+GivesReading view (Err Turns) q read = Unit {0}
+GivesReading view (Err OutOfMemory) q read = Unit {0}
 
 -- reads a value by its format, if the bytes to come are known
-pub record Reads {X Y : Type 0} (format : Format Y) (view : X → Y) (old : FieldsRead) (source : Input) (result : Result X FieldFault) (new : FieldsRead) (source' : Input) : Type 0 where
+pub record ReadsField {X Y : Type 0} (format : Format Y) (view : X → Y) (old : FieldsRead) (source : Input) (result : Result X FieldFault) (new : FieldsRead) (source' : Input) : Type 0 where
   pub stays : IsKnown old source → MatchResult result (λ x. IsKnown new source') (λ e. Unit {0})
-  pub value : IsKnown old source → Gives view result (place_of new source') (format.read (place_of old source))
+  pub value : IsKnown old source → GivesReading view result (cursor_of new source') (format.read (cursor_of old source))
   pub calls : CallsSource old.ahead source result new.ahead source'
 
 -- refills the empty buffer: there are more bytes, or the input ends
 pub record FillsAhead (old : FieldsRead) (source : Input) (more : Bool) (new : FieldsRead) (source' : Input) : Type 0 where
-  pub bytes : Keeps (to_come old source) (to_come new source')
+  pub bytes : Keeps (bytes_to_come old source) (bytes_to_come new source')
   pub at : new.at ≡ old.at
   pub some : more ≡ nat_lt 0 (length new.ahead.buffered)
-  pub end : more ≡ false → IsAtEnd (to_come new source')
+  pub end : more ≡ false → IsAtEnd (bytes_to_come new source')
   pub ended : more ≡ false → new.ahead.ended ≡ true
   pub less : more ≡ true → weight new.ahead < weight old.ahead
 
@@ -115,11 +115,11 @@ pub record TakesChunk (old : FieldsRead) (before : List ℕ) (most : ℕ) (new :
 -- consumes n bytes, or the input ends before
 abbrev pub FillsText : FieldsRead → Input → ℕ → Result Bool FieldFault → List ℕ → FieldsRead → Input → Type 0
 FillsText old source n (Ok true) bytes new source' = UsesBytes old source bytes new source' × (length bytes ≡ n)
-FillsText old source n (Ok false) bytes new source' = IsKnown old source → length (place_of old source).rest < n
+FillsText old source n (Ok false) bytes new source' = IsKnown old source → length (cursor_of old source).rest < n
 FillsText old source n (Err e) bytes new source' = Unit {0}
 
 -- nothing is left, or the next byte is at fault
-abbrev pub GivesEnd : Result (Unit {0}) FieldFault → Place → Type 0
+abbrev pub GivesEnd : Result (Unit {0}) FieldFault → Cursor → Type 0
 GivesEnd (Ok u) p = p.rest ≡ []
 GivesEnd (Err (Misshapen n)) p = (n ≡ p.at) × (0 < length p.rest)
 GivesEnd (Err Device) p = Unit {0}

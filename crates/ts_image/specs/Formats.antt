@@ -7,12 +7,12 @@ use Rattle.std.specs.Str.{IsUtf8, is_utf8}
 use Rattle.ts_core.specs.facts.Facts.{Text}
 
 -- a position in bytes: its offset, and the bytes from there on
-pub record Place : Type 0 where
+pub record Cursor : Type 0 where
   pub at : ℕ
   pub rest : List ℕ
 
 -- n bytes further
-abbrev pub behind : ℕ → Place → Place
+abbrev pub behind : ℕ → Cursor → Cursor
 behind n p = record { at = p.at + n; rest = drop n p.rest }
 
 -- the bytes of all fields
@@ -22,10 +22,10 @@ concat (f ∷ fs) = f ++ concat fs
 
 -- a reading: a value and the position after it, or the offset of the first field that isn't whole
 abbrev pub Read : Type 0 → Type 0
-Read X = Result (X × Place) ℕ
+Read X = Result (X × Cursor) ℕ
 
 infixl 10 ◌>>=◌
-abbrev pub ◌>>=◌ : {A B : Type 0} → Read A → (A × Place → Read B) → Read B
+abbrev pub ◌>>=◌ : {A B : Type 0} → Read A → (A × Cursor → Read B) → Read B
 (Ok x) >>= f = f x
 (Err n) >>= f = Err n
 
@@ -33,14 +33,14 @@ abbrev pub ◌>>=◌ : {A B : Type 0} → Read A → (A × Place → Read B) →
 pub record Format (X : Type 0) : Type 1 where
   pub fits : X → Type 0
   pub fields : X → List (List ℕ)
-  pub read : Place → Read X
+  pub read : Cursor → Read X
 
 abbrev pub spelling : {X : Type 0} → Format X → X → List ℕ
 spelling f x = concat (f.fields x)
 
 -- ---- one field
 
-abbrev pub read_number : Width → Place → Read ℕ
+abbrev pub read_number : Width → Cursor → Read ℕ
 read_number w p = if nat_lt (length p.rest) (byte_len w) then Err p.at else Ok (from_be_bytes w (take (byte_len w) p.rest), behind (byte_len w) p)
 
 -- an unsigned number, its highest byte first
@@ -48,14 +48,14 @@ abbrev pub number : Width → Format ℕ
 number w = record { fits = λ n. n < 2 ^ bits w; fields = λ n. to_be_bytes w n ∷ []; read = read_number w }
 
 -- a signed number, in two's complement
-abbrev pub signed : Width → Format ℤ
-signed w = record { fits = FitsSigned w; fields = λ z. to_be_bytes w (cast_unsigned w z) ∷ []; read = λ p. read_number w p >>= λ n. Ok (cast_signed w n.0, n.1) }
+abbrev pub signed_number : Width → Format ℤ
+signed_number w = record { fits = FitsSigned w; fields = λ z. to_be_bytes w (cast_unsigned w z) ∷ []; read = λ p. read_number w p >>= λ n. Ok (cast_signed w n.0, n.1) }
 
 -- n bytes are there, and they are UTF-8
 abbrev pub is_text : ℕ → List ℕ → Bool
 is_text n bytes = if nat_lt (length bytes) n then false else is_utf8 (take n bytes)
 
-abbrev pub read_text : Place → ℕ × Place → Read Text
+abbrev pub read_text : Cursor → ℕ × Cursor → Read Text
 read_text p n = if is_text n.0 n.1.rest then Ok (take n.0 n.1.rest, behind n.0 n.1) else Err p.at
 
 -- a text: its length, and its UTF-8 bytes. The two are one field
@@ -91,7 +91,7 @@ fields_along f [] xs = []
 fields_along f (y ∷ ys) [] = []
 fields_along f (y ∷ ys) (x ∷ xs) = (f y).fields x ++ fields_along f ys xs
 
-abbrev pub read_along : {X Y : Type 0} → (Y → Format X) → List Y → Place → Read (List X)
+abbrev pub read_along : {X Y : Type 0} → (Y → Format X) → List Y → Cursor → Read (List X)
 read_along f [] p = Ok ([], p)
 read_along f (y ∷ ys) p = (f y).read p >>= λ x. read_along f ys x.1 >>= λ xs. Ok (x.0 ∷ xs.0, xs.1)
 
@@ -112,12 +112,12 @@ abbrev pub also : {A B : Type 0} → Format A → Format B → Format (A × B)
 also f g = and f (λ a. g)
 
 -- no byte may follow the value; the first that does is at fault
-abbrev pub at_end : {X : Type 0} → X × Place → Result X ℕ
+abbrev pub at_end : {X : Type 0} → X × Cursor → Result X ℕ
 at_end x = if length x.1.rest == 0 then Ok x.0 else Err x.1.at
 
-abbrev pub whole_of : {X : Type 0} → Read X → Result X ℕ
-whole_of (Ok x) = at_end x
-whole_of (Err n) = Err n
+abbrev pub whole_reading : {X : Type 0} → Read X → Result X ℕ
+whole_reading (Ok x) = at_end x
+whole_reading (Err n) = Err n
 
-abbrev pub read_whole : {X : Type 0} → Format X → Place → Result X ℕ
-read_whole f p = whole_of (f.read p)
+abbrev pub read_whole : {X : Type 0} → Format X → Cursor → Result X ℕ
+read_whole f p = whole_reading (f.read p)

@@ -9,7 +9,7 @@ use Rattle.ts_image.specs.FormatLaws.{AreBytes}
 use Rattle.ts_image.specs.Images.{ImageData}
 use Rattle.ts_image.specs.RuleParts.{settings_of_parts}
 use Rattle.ts_image.specs.ImageFaults.{IsImageOf}
-use Rattle.ts_image.specs.ImageTests.{IsPossible, settings_in}
+use Rattle.ts_image.specs.ImageTests.{IsPossible, settings_of_image}
 use Rattle.ts_image.specs.ImageReading.{image_of, Loads, HadImage}
 use Rattle.ts_image.specs.Pictures.{IsPictureOf}
 use Rattle.ts_image.specs.StoresMade.{IsStoreOf}
@@ -18,7 +18,7 @@ use Rattle.ts_image.specs.StoresMade.{IsStoreOf}
 pub record IsLoaded {A : Type 0} (source : Input) (image : LoadedImage A) : Type 0 where
   pub bytes : HadImage source image.version (image_of image.parts)
   pub possible : IsPossible image.version (image_of image.parts)
-  pub settings : image.settings ≡ settings_in (settings_of_parts image.parts.settings)
+  pub settings : image.settings ≡ settings_of_image (settings_of_parts image.parts.settings)
 
 -- loads an image without contradictions
 abbrev pub LoadsImage : {A : Type 0} → Input → ℕ → Result (LoadedImage A) LoadFault → Input → Type 0

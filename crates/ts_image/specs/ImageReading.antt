@@ -11,7 +11,7 @@ use Rattle.ts_image.specs.declared.image_reading.ImageParts.{ImageParts}
 use Rattle.ts_image.specs.Formats.{Format, read_whole}
 use Rattle.ts_image.specs.FormatLaws.{AreBytes}
 use Rattle.ts_image.specs.Images.{ImageData}
-use Rattle.ts_image.specs.FieldReading.{FieldsRead, place_of, IsKnown, CallsSource}
+use Rattle.ts_image.specs.FieldReading.{FieldsRead, cursor_of, IsKnown, CallsSource}
 use Rattle.ts_image.specs.RuleParts.{settings_of_parts}
 use Rattle.ts_image.specs.SeriesParts.{all_series_of}
 use Rattle.ts_image.specs.CellParts.{marks_of_parts, all_cells_of}
@@ -30,7 +30,7 @@ GivesWhole view (Err field.OutOfMemory) read = Unit {0}
 
 -- reads a value up to the end of the input
 pub record ReadsWhole {X Y : Type 0} (format : Format Y) (view : X → Y) (old : FieldsRead) (source : Input) (result : Result X FieldFault) (new : FieldsRead) (source' : Input) : Type 0 where
-  pub value : IsKnown old source → GivesWhole view result (read_whole format (place_of old source))
+  pub value : IsKnown old source → GivesWhole view result (read_whole format (cursor_of old source))
   pub ended : IfOk result (λ x. new.ahead.ended ≡ true)
   pub calls : CallsSource old.ahead source result new.ahead source'
 

@@ -14,12 +14,7 @@ use Rattle.ts_core.specs.aggregates.Aggregates.{IsSpread}
 use Rattle.ts_image.specs.declared.version.Version.{Version}
 use Rattle.ts_image.specs.declared.version.Version.TheVariants.{V1, V2}
 use Rattle.ts_image.specs.Images.{ImageRule, ImageSettings, ImageColumn, ImageSeries, ImageCell, ImageData}
-
--- each item is before the next
-abbrev pub AreRising : {X : Type 0} → (X → X → Ordering) → List X → Type 0
-AreRising cmp [] = Unit {0}
-AreRising cmp (x ∷ []) = Unit {0}
-AreRising cmp (x ∷ y ∷ ys) = (is_lt (cmp x y) ≡ true) × AreRising cmp (y ∷ ys)
+use Rattle.ts_store.specs.image.SavedContent.{AreRising}
 
 -- `time`, which is no name of a tag or field
 abbrev pub time_word : Text
@@ -33,8 +28,8 @@ IsKeyName t = (t ≢ []) × (t ≢ time_word)
 abbrev pub rule_in : ImageRule → Rule
 rule_in r = record { name = r.name; measurement = r.measurement; interval = r.interval; offset = r.offset; kept_tags = r.kept_tags; duration = unsigned_abs r.duration }
 
-abbrev pub settings_in : ImageSettings → Settings
-settings_in s = record { raw_duration = unsigned_abs s.raw_duration; rules = map rule_in s.rules }
+abbrev pub settings_of_image : ImageSettings → Settings
+settings_of_image s = record { raw_duration = unsigned_abs s.raw_duration; rules = map rule_in s.rules }
 
 -- these are the parts of a rule
 abbrev pub IsImageRule : ImageRule → Type 0
@@ -43,7 +38,7 @@ IsImageRule r = IsRule r.measurement r.kept_tags r.duration
 pub record AreImageSettings (s : ImageSettings) : Type 0 where
   pub raw : pos 0 ≤ℤ s.raw_duration
   pub rules : AllByRecursion IsImageRule s.rules
-  pub faultless : settings_fault (settings_in s) ≡ None
+  pub faultless : settings_fault (settings_of_image s) ≡ None
 
 -- The greatest distance of a low index above the index of the raw mark. The first bucket of an added rule may be the
 -- next one.
@@ -123,14 +118,14 @@ abbrev pub points_of_measurement : Text → List ImageSeries → ℕ
 points_of_measurement m ss = points_in_all (filter (λ (s : ImageSeries). same_text s.series.measurement m) ss)
 
 -- the facts in a rule's frozen parts
-abbrev pub frozen_in : List ImageCell → ℕ
-frozen_in cs = sum_by (λ (c : ImageCell). c.count) cs
+abbrev pub count_frozen : List ImageCell → ℕ
+count_frozen cs = sum_by (λ (c : ImageCell). c.count) cs
 
 -- the counts of a rule's frozen parts and the raw points of its measurement are at most the accepted facts
 abbrev pub AreCounted : ImageData → List ImageRule → List (List ImageCell) → Type 0
 AreCounted d [] cs = Unit {0}
 AreCounted d (r ∷ rs) [] = Unit {0}
-AreCounted d (r ∷ rs) (c ∷ cs) = (frozen_in c + points_of_measurement r.measurement d.series ≤ d.accepted) × AreCounted d rs cs
+AreCounted d (r ∷ rs) (c ∷ cs) = (count_frozen c + points_of_measurement r.measurement d.series ≤ d.accepted) × AreCounted d rs cs
 
 abbrev pub CellsAre : ℤ → List ImageRule → List ℤ → List (List ImageCell) → Type 0
 CellsAre mark [] lows cs = Unit {0}

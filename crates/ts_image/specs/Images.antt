@@ -8,7 +8,7 @@ use Rattle.ts_core.specs.store.Marks.{Marks}
 use Rattle.ts_core.specs.store.Cells.{Cell}
 use Rattle.ts_image.specs.declared.version.Version.{Version}
 use Rattle.ts_image.specs.declared.version.Version.TheVariants.{V1, V2}
-use Rattle.ts_image.specs.Formats.{Place, Format, spelling, number, signed, text, nothing, and, also, iso, along, list_of}
+use Rattle.ts_image.specs.Formats.{Cursor, Format, spelling, number, signed_number, text, nothing, and, also, iso, along, list_of}
 
 pub record ImageRule : Type 0 where
   pub name : Text
@@ -58,22 +58,22 @@ flag V2 = number w8
 
 abbrev pub image_rule : Format ImageRule
 image_rule =
-    iso (also text (also text (also (signed w64) (also (signed w64) (also (signed w64) (list_of w8 text))))))
+    iso (also text (also text (also (signed_number w64) (also (signed_number w64) (also (signed_number w64) (list_of w8 text))))))
     (λ a. record { name = a.0; measurement = a.1.0; interval = a.1.1.0; offset = a.1.1.1.0; duration = a.1.1.1.1.0; kept_tags = a.1.1.1.1.1 })
     (λ r. (r.name, (r.measurement, (r.interval, (r.offset, (r.duration, r.kept_tags))))))
 
 abbrev pub image_settings : Format ImageSettings
-image_settings = iso (also (signed w64) (list_of w8 image_rule)) (λ a. record { raw_duration = a.0; rules = a.1 }) (λ s. (s.raw_duration, s.rules))
+image_settings = iso (also (signed_number w64) (list_of w8 image_rule)) (λ a. record { raw_duration = a.0; rules = a.1 }) (λ s. (s.raw_duration, s.rules))
 
 -- the raw mark, and a low index per rule
 abbrev pub image_marks : List ImageRule → Format Marks
-image_marks rules = iso (also (signed w64) (along (λ (r : ImageRule). signed w64) rules)) (λ a. record { raw = a.0; lows = a.1 }) (λ m. (m.raw, m.lows))
+image_marks rules = iso (also (signed_number w64) (along (λ (r : ImageRule). signed_number w64) rules)) (λ a. record { raw = a.0; lows = a.1 }) (λ m. (m.raw, m.lows))
 
 abbrev pub image_series_key : Format Series
 image_series_key = iso (also text (list_of w8 (also text text))) (λ a. record { measurement = a.0; tags = a.1 }) (λ s. (s.measurement, s.tags))
 
 abbrev pub image_point : Format (ℤ × ℤ)
-image_point = also (signed w64) (signed w64)
+image_point = also (signed_number w64) (signed_number w64)
 
 abbrev pub image_column : Version → Format ImageColumn
 image_column v = iso (also text (also (flag v) (list_of w64 image_point))) (λ a. record { field = a.0; waits = a.1.0; points = a.1.1 }) (λ c. (c.field, (c.waits, c.points)))
@@ -83,17 +83,17 @@ image_series v = iso (also image_series_key (list_of w64 (image_column v))) (λ 
 
 -- the bucket's index, the field, and a value for each kept tag
 abbrev pub image_cell_key : ImageRule → Format Cell
-image_cell_key r = iso (also (signed w64) (also text (along (λ (tag : Text). text) r.kept_tags))) (λ a. record { index = a.0; field = a.1.0; group = a.1.1 }) (λ k. (k.index, (k.field, k.group)))
+image_cell_key r = iso (also (signed_number w64) (also text (along (λ (tag : Text). text) r.kept_tags))) (λ a. record { index = a.0; field = a.1.0; group = a.1.1 }) (λ k. (k.index, (k.field, k.group)))
 
 -- min, max, first time and value, last time and value
 abbrev pub image_extremes : Format Extremes
 image_extremes =
-    iso (also (signed w64) (also (signed w64) (also image_point image_point))) (λ a. record { min = a.0; max = a.1.0; first = a.1.1.0; last = a.1.1.1 })
+    iso (also (signed_number w64) (also (signed_number w64) (also image_point image_point))) (λ a. record { min = a.0; max = a.1.0; first = a.1.1.0; last = a.1.1.1 })
     (λ e. (e.min, (e.max, (e.first, e.last))))
 
 abbrev pub image_cell : ImageRule → Format ImageCell
 image_cell r =
-    iso (also (image_cell_key r) (also (number w64) (also (signed w128) image_extremes))) (λ a. record { cell = a.0; count = a.1.0; sum = a.1.1.0; extremes = a.1.1.1 })
+    iso (also (image_cell_key r) (also (number w64) (also (signed_number w128) image_extremes))) (λ a. record { cell = a.0; count = a.1.0; sum = a.1.1.0; extremes = a.1.1.1 })
     (λ c. (c.cell, (c.count, (c.sum, c.extremes))))
 
 -- settings; marks; 1 if a run is open, else 0; accepted facts; series with their columns; cells per rule
@@ -118,5 +118,5 @@ abbrev pub image_text : Version → ImageData → List ℕ
 image_text v d = image_mark ++ (version_byte v ∷ spelling (image v) d)
 
 -- the position after the version's byte
-abbrev pub body : List ℕ → Place
+abbrev pub body : List ℕ → Cursor
 body rest = record { at = 5; rest = rest }

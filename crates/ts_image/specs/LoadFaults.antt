@@ -4,8 +4,8 @@ use Rattle.ts_image.specs.declared.field_fault.FieldFault.TheVariants as field
 use Rattle.ts_image.specs.declared.load_fault.LoadFault.{LoadFault}
 use Rattle.ts_image.specs.declared.load_fault.LoadFault.TheVariants.{Misshapen, Device, Turns, OutOfMemory}
 
-abbrev pub fault_of : FieldFault → LoadFault
-fault_of (field.Misshapen n) = Misshapen n
-fault_of field.Device = Device
-fault_of field.Turns = Turns
-fault_of field.OutOfMemory = OutOfMemory
+abbrev pub load_fault_of : FieldFault → LoadFault
+load_fault_of (field.Misshapen n) = Misshapen n
+load_fault_of field.Device = Device
+load_fault_of field.Turns = Turns
+load_fault_of field.OutOfMemory = OutOfMemory

@@ -12,25 +12,25 @@ use Rattle.ts_core.specs.store.StoreData.{CellMap, StoreData, no_parts, AreLive}
 use Rattle.ts_core.specs.io.ReadingAhead.{bit}
 use Rattle.ts_store.specs.image.Building.{HaveCells}
 use Rattle.ts_image.specs.Images.{ImageColumn, ImageSeries, ImageCell, ImageData}
-use Rattle.ts_image.specs.ImageTests.{settings_in}
+use Rattle.ts_image.specs.ImageTests.{settings_of_image}
 
-abbrev pub column_in : Series → ImageColumn → Column
-column_in s c = record { series = s; field = c.field }
+abbrev pub column_of_image : Series → ImageColumn → Column
+column_of_image s c = record { series = s; field = c.field }
 
-abbrev pub points_in : Series → ImageColumn → ColumnPoints
-points_in s c = record { column = column_in s c; points = c.points }
+abbrev pub image_points_in : Series → ImageColumn → ColumnPoints
+image_points_in s c = record { column = column_of_image s c; points = c.points }
 
 -- the columns of series with their points, and the waiting ones
-abbrev pub columns_in : List ImageSeries → List ColumnPoints
-columns_in [] = []
-columns_in (s ∷ ss) = map (points_in s.series) s.columns ++ columns_in ss
+abbrev pub columns_of_image : List ImageSeries → List ColumnPoints
+columns_of_image [] = []
+columns_of_image (s ∷ ss) = map (image_points_in s.series) s.columns ++ columns_of_image ss
 
-abbrev pub waiting_in : List ImageSeries → List Column
-waiting_in [] = []
-waiting_in (s ∷ ss) = map (column_in s.series) (filter (λ (c : ImageColumn). c.waits == 1) s.columns) ++ waiting_in ss
+abbrev pub waiting_of_image : List ImageSeries → List Column
+waiting_of_image [] = []
+waiting_of_image (s ∷ ss) = map (column_of_image s.series) (filter (λ (c : ImageColumn). c.waits == 1) s.columns) ++ waiting_of_image ss
 
-abbrev pub part_of : ImageCell → Aggregate
-part_of c = record { count = c.count; sum = c.sum; extremes = Some c.extremes }
+abbrev pub cell_part_of : ImageCell → Aggregate
+cell_part_of c = record { count = c.count; sum = c.sum; extremes = Some c.extremes }
 
 -- the frozen part of a cell; a missing cell has an empty one
 abbrev pub part_at : CellMap → Cell → Aggregate
@@ -38,7 +38,7 @@ part_at m k = (or_else no_parts (finmap.get m k)).frozen
 
 -- the cells of a rule that aren't empty, from its low index on
 pub record PicturesCells (low : ℤ) (m : CellMap) (cells : List ImageCell) : Type 0 where
-  pub each : (c : ImageCell) → Among c cells → part_at m c.cell ≡ part_of c
+  pub each : (c : ImageCell) → Among c cells → part_at m c.cell ≡ cell_part_of c
   pub all : (k : Cell) → low ≤ℤ k.index → 0 < (part_at m k).count → (c : ImageCell) × Among c cells × (c.cell ≡ k)
   pub sound : (k : Cell) → low ≤ℤ k.index → (part_at m k).count ≡ 0 → part_at m k ≡ empty_aggregate
 
@@ -52,13 +52,13 @@ PictureCells (low ∷ lows) (m ∷ ms) (c ∷ cs) = PicturesCells low m c × Pic
 
 -- the data is the picture of a store
 pub record IsPictureOf (k : StoreData) (d : ImageData) : Type 0 where
-  pub settings : settings_in d.settings ≡ k.settings
+  pub settings : settings_of_image d.settings ≡ k.settings
   pub marks : d.marks ≡ k.marks
   pub runs : d.runs ≡ bit k.running
   pub accepted : d.accepted ≡ k.accepted
   pub series : (s : Series) → Among s (map (λ (x : ImageSeries). x.series) d.series) ↔ Among s k.series
-  pub columns : (c : ColumnPoints) → Among c (columns_in d.series) ↔ Among c k.columns
-  pub waiting : (c : Column) → Among c (waiting_in d.series) ↔ Among c k.waiting
+  pub columns : (c : ColumnPoints) → Among c (columns_of_image d.series) ↔ Among c k.columns
+  pub waiting : (c : Column) → Among c (waiting_of_image d.series) ↔ Among c k.waiting
   pub cells : PictureCells k.marks.lows k.cells d.cells
 
 -- The store is created from the data: the data is its picture, and each column occurs once. Raw facts have their cells,
@@ -67,5 +67,5 @@ pub record IsMadeOf (d : ImageData) (k : StoreData) : Type 0 where
   pub picture : IsPictureOf k d
   pub waiting_once : AllDistinct k.waiting
   pub columns_once : AllDistinct (map column_of k.columns)
-  pub rooms : HaveCells k.settings.rules k.marks.lows (facts_of k.columns) k.cells
+  pub has_cells : HaveCells k.settings.rules k.marks.lows (facts_of k.columns) k.cells
   pub live : AreLive k.columns k.settings.rules k.cells

@@ -13,7 +13,8 @@ use Rattle.ts_raw.specs.PlainColumns.{IsRising}
 use Rattle.ts_store.specs.store.SizedStores.{IsSized}
 use Rattle.ts_image.specs.declared.version.Version.TheVariants.{V2}
 use Rattle.ts_image.specs.Images.{ImageRule, ImageColumn, ImageSeries, ImageCell, ImageData}
-use Rattle.ts_image.specs.ImageTests.{AreRising, IsPossible}
+use Rattle.ts_image.specs.ImageTests.{IsPossible}
+use Rattle.ts_store.specs.image.SavedContent.{AreRising}
 use Rattle.ts_image.specs.Pictures.{IsPictureOf}
 
 -- a column's points are in order of time

@@ -86,11 +86,11 @@ pub record FitsImage (k : StoreData) (all : List SavedSeries) : Type 0 where
 -- ---- saving
 
 -- the number of failures that a call adds to its sink's
-abbrev pub one_if_device : {T : Type 0} → Result T SaveFault → ℕ
-one_if_device (Ok x) = 0
-one_if_device (Err Device) = 1
-one_if_device (Err OutOfMemory) = 0
-one_if_device (Err Unfit) = 0
+abbrev pub one_if_device_fault : {T : Type 0} → Result T SaveFault → ℕ
+one_if_device_fault (Ok x) = 0
+one_if_device_fault (Err Device) = 1
+one_if_device_fault (Err OutOfMemory) = 0
+one_if_device_fault (Err Unfit) = 0
 
 -- the series and columns of a store in the image's order
 abbrev pub IsOrder : StoreData → List SavedSeries → Type 0
@@ -103,4 +103,4 @@ pub record IsSaved {T : Type 0} (k : StoreData) (old : Output) (result : Result 
   pub device : result ≡ Err Device → (order : List SavedSeries) × IsOrder k order × AppendsFront old.contents new.contents (image_text V2 (image_of k order))
   pub memory : result ≡ Err OutOfMemory → new ≡ old
   pub unfit : result ≡ Err Unfit → (new ≡ old) × ((order : List SavedSeries) × IsOrder k order × (FitsImage k order → ⊥))
-  pub failures : new.failures ≡ old.failures + one_if_device result
+  pub failures : new.failures ≡ old.failures + one_if_device_fault result

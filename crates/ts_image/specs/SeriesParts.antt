@@ -5,25 +5,25 @@ use Rattle.ts_image.specs.declared.series_reading.ColumnParts.{ColumnParts}
 use Rattle.ts_image.specs.declared.series_reading.KeyParts.{KeyParts}
 use Rattle.ts_image.specs.declared.series_reading.SeriesParts.{SeriesParts}
 use Rattle.ts_image.specs.Images.{ImageColumn, ImageSeries}
-use Rattle.ts_image.specs.PointParts.{points_of}
+use Rattle.ts_image.specs.PointParts.{points_of_parts}
 
 abbrev pub column_of_parts : {A : Type 0} → ColumnParts A → ImageColumn
-column_of_parts c = record { field = string_bytes c.field; waits = c.waits; points = points_of c.points }
+column_of_parts c = record { field = string_bytes c.field; waits = c.waits; points = points_of_parts c.points }
 
-abbrev pub columns_of : {A : Type 0} → Vec (ColumnParts A) A → List ImageColumn
-columns_of v = map column_of_parts v.items
+abbrev pub column_parts_of : {A : Type 0} → Vec (ColumnParts A) A → List ImageColumn
+column_parts_of v = map column_of_parts v.items
 
 abbrev pub tag_of : {A : Type 0} → String A × String A → Text × Text
 tag_of t = (string_bytes t.0, string_bytes t.1)
 
-abbrev pub tags_of : {A : Type 0} → Vec (String A × String A) A → List (Text × Text)
-tags_of v = map tag_of v.items
+abbrev pub tags_of_parts : {A : Type 0} → Vec (String A × String A) A → List (Text × Text)
+tags_of_parts v = map tag_of v.items
 
 abbrev pub key_of : {A : Type 0} → KeyParts A → Series
-key_of k = record { measurement = string_bytes k.measurement; tags = tags_of k.tags }
+key_of k = record { measurement = string_bytes k.measurement; tags = tags_of_parts k.tags }
 
 abbrev pub series_of_parts : {A : Type 0} → SeriesParts A → ImageSeries
-series_of_parts s = record { series = key_of s.key; columns = columns_of s.columns }
+series_of_parts s = record { series = key_of s.key; columns = column_parts_of s.columns }
 
 abbrev pub all_series_of : {A : Type 0} → Vec (SeriesParts A) A → List ImageSeries
 all_series_of v = map series_of_parts v.items

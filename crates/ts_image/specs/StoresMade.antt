@@ -12,9 +12,10 @@ use Rattle.ts_raw.specs.Columns.{AreTimed}
 use Rattle.ts_store.specs.image.Building.{Built, cell_map_at}
 use Rattle.ts_store.specs.write.LinesPut.{OfEachRule, PutsCells}
 use Rattle.ts_image.specs.Images.{ImageColumn, ImageSeries, ImageCell, ImageData}
-use Rattle.ts_image.specs.ImageTests.{IsKeyName, IsImageSeriesKey, AreRising, settings_in}
+use Rattle.ts_image.specs.ImageTests.{IsKeyName, IsImageSeriesKey, settings_of_image}
+use Rattle.ts_store.specs.image.SavedContent.{AreRising}
 use Rattle.ts_image.specs.PartsMade.{HasPart}
-use Rattle.ts_image.specs.Pictures.{points_in, columns_in, waiting_in, part_of, IsMadeOf}
+use Rattle.ts_image.specs.Pictures.{image_points_in, columns_of_image, waiting_of_image, cell_part_of, IsMadeOf}
 
 -- ---- parts that can be added to a store
 
@@ -37,23 +38,23 @@ pub record AreAddedCells (cs : List ImageCell) : Type 0 where
 
 -- ---- a store under construction, with more of an image
 
-abbrev pub is_waiting : ImageColumn → Bool
-is_waiting c = c.waits == 1
+abbrev pub is_column_waiting : ImageColumn → Bool
+is_column_waiting c = c.waits == 1
 
 -- for each column of series, true if it waits
 abbrev pub waits_in : List ImageSeries → List Bool
 waits_in [] = []
-waits_in (s ∷ ss) = map is_waiting s.columns ++ waits_in ss
+waits_in (s ∷ ss) = map is_column_waiting s.columns ++ waits_in ss
 
-abbrev pub with_columns : Series → List ImageColumn → Built → Built
-with_columns s cs b = record {
+abbrev pub with_image_columns : Series → List ImageColumn → Built → Built
+with_image_columns s cs b = record {
   settings = b.settings;
   marks = b.marks;
   running = b.running;
   accepted = b.accepted;
   series = b.series;
-  columns = b.columns ++ map (points_in s) cs;
-  waits = b.waits ++ map is_waiting cs;
+  columns = b.columns ++ map (image_points_in s) cs;
+  waits = b.waits ++ map is_column_waiting cs;
   cells = b.cells;
 }
 
@@ -67,17 +68,17 @@ with_all_series ss b = record {
   running = b.running;
   accepted = b.accepted;
   series = b.series ++ map key_in ss;
-  columns = b.columns ++ columns_in ss;
+  columns = b.columns ++ columns_of_image ss;
   waits = b.waits ++ waits_in ss;
   cells = b.cells;
 }
 
 -- the parts of a stored cell
 abbrev pub parts_of : ImageCell → CellParts
-parts_of c = record { frozen = part_of c; live = empty_aggregate }
+parts_of c = record { frozen = cell_part_of c; live = empty_aggregate }
 
-abbrev pub cell_in : ImageCell → Cell
-cell_in c = c.cell
+abbrev pub cell_of_image : ImageCell → Cell
+cell_of_image c = c.cell
 
 -- a map with the cells of an image
 abbrev pub with_image_cells : List ImageCell → CellMap → CellMap
@@ -120,12 +121,12 @@ with_all_cells cs b = record {
 -- all parts of an image
 abbrev pub built_in : ImageData → Built
 built_in d = record {
-  settings = settings_in d.settings;
+  settings = settings_of_image d.settings;
   marks = d.marks;
   running = d.runs == 1;
   accepted = d.accepted;
   series = map key_in d.series;
-  columns = columns_in d.series;
+  columns = columns_of_image d.series;
   waits = waits_in d.series;
   cells = map cells_in d.cells;
 }
@@ -137,6 +138,6 @@ built_in d = record {
 pub record IsStoreOf (d : ImageData) (k : StoreData) : Type 0 where
   pub made : IsMadeOf d k
   pub series : k.series ≡ map key_in d.series
-  pub columns : k.columns ≡ columns_in d.series
-  pub waiting : k.waiting ≡ waiting_in d.series
-  pub cells : OfEachRule (PutsCells (facts_of (columns_in d.series))) (settings_in d.settings).rules d.marks.lows (map cells_in d.cells) k.cells
+  pub columns : k.columns ≡ columns_of_image d.series
+  pub waiting : k.waiting ≡ waiting_of_image d.series
+  pub cells : OfEachRule (PutsCells (facts_of (columns_of_image d.series))) (settings_of_image d.settings).rules d.marks.lows (map cells_in d.cells) k.cells

@@ -8,7 +8,8 @@ use Rattle.ts_image.specs.declared.series_reading.SeriesParts.{SeriesParts}
 use Rattle.ts_image.specs.declared.cell_reading.CellParts.{CellParts}
 use Rattle.ts_image.specs.SeriesParts.{key_of}
 use Rattle.ts_image.specs.CellParts.{cell_key_of}
-use Rattle.ts_image.specs.ImageTests.{IsKeyName, IsBetween, points_of_series, points_in_all, AreRising, IsImageSeries, AreLows, CellsAre, frozen_in, points_of_measurement}
+use Rattle.ts_image.specs.ImageTests.{IsKeyName, IsBetween, points_of_series, points_in_all, IsImageSeries, AreLows, CellsAre, count_frozen, points_of_measurement}
+use Rattle.ts_store.specs.image.SavedContent.{AreRising}
 use Rattle.ts_image.specs.declared.rule_reading.RuleParts.{RuleParts}
 use Rattle.ts_image.specs.Images.{ImageRule, ImageSeries, ImageCell, ImageData}
 use Rattle.ts_image.specs.declared.version.Version.{Version}
@@ -24,8 +25,8 @@ key_of_tag t = string_bytes t.0
 abbrev pub field_of : {A : Type 0} → ColumnParts A → Text
 field_of c = string_bytes c.field
 
-abbrev pub time_of : ℤ × ℤ → ℤ
-time_of p = p.0
+abbrev pub time_of_parts : ℤ × ℤ → ℤ
+time_of_parts p = p.0
 
 abbrev pub series_key_of : {A : Type 0} → SeriesParts A → Series
 series_key_of s = key_of s.key
@@ -34,7 +35,7 @@ abbrev pub key_of_cell : {A : Type 0} → CellParts A → Cell
 key_of_cell c = cell_key_of c.key
 
 -- extremes that some bucket may have
-pub record ArePossible (e : Extremes) : Type 0 where
+pub record AreExtremesPossible (e : Extremes) : Type 0 where
   pub values : e.min ≤ℤ e.max
   pub order : e.first.0 ≤ℤ e.last.0
   pub first_value : IsBetween e.min e.max e.first.1
@@ -50,18 +51,18 @@ IsTaken left taken (Some rest) = rest + taken ≡ left
 IsTaken left taken None = left < taken
 
 -- the interval is at least a nanosecond
-abbrev pub IsLong : {A : Type 0} → RuleParts A → Type 0
-IsLong r = pos 1 ≤ℤ r.interval
+abbrev pub HasLongInterval : {A : Type 0} → RuleParts A → Type 0
+HasLongInterval r = pos 1 ≤ℤ r.interval
 
 -- the counts of a rule's frozen parts and the raw points of its measurement are at most this number
-pub record IsCounted (accepted : ℕ) (ss : List ImageSeries) (r : ImageRule) (cells : List ImageCell) : Type 0 where
-  pub enough : frozen_in cells + points_of_measurement r.measurement ss ≤ accepted
+pub record HasCountedFacts (accepted : ℕ) (ss : List ImageSeries) (r : ImageRule) (cells : List ImageCell) : Type 0 where
+  pub enough : count_frozen cells + points_of_measurement r.measurement ss ≤ accepted
 
 -- the same for each rule
 abbrev pub AreCountedAll : ℕ → List ImageSeries → List ImageRule → List (List ImageCell) → Type 0
 AreCountedAll accepted ss [] cs = Unit {0}
 AreCountedAll accepted ss (r ∷ rs) [] = Unit {0}
-AreCountedAll accepted ss (r ∷ rs) (c ∷ cs) = IsCounted accepted ss r c × AreCountedAll accepted ss rs cs
+AreCountedAll accepted ss (r ∷ rs) (c ∷ cs) = HasCountedFacts accepted ss r c × AreCountedAll accepted ss rs cs
 
 -- ---- the tests of a whole image, in three groups
 

@@ -3,11 +3,11 @@ ghost use Rattle.std.specs.Prelude.{◌≡◌, map, length};
 ghost use Rattle.std.specs.Int.{w64};
 ghost use Rattle.ts_core.specs.io.ReadingAhead.{EndIsEnd};
 ghost use Rattle.ts_core.specs.facts.Facts.{Text};
-ghost use Rattle.ts_image.specs.Formats.{signed, text, times, along, list_of};
+ghost use Rattle.ts_image.specs.Formats.{signed_number, text, times, along, list_of};
 ghost use Rattle.ts_image.specs.Images.{ImageRule, image_marks, image_cell_key, image_extremes, image_cell};
-ghost use Rattle.ts_image.specs.FieldReading.{Reads};
-ghost use Rattle.ts_image.specs.RuleParts.{rule_of, texts_of};
-ghost use Rattle.ts_image.specs.CellParts.{lows_of, marks_of_parts, cell_key_of, extremes_of_parts, cell_of_parts, cells_of, all_cells_of};
+ghost use Rattle.ts_image.specs.FieldReading.{ReadsField};
+ghost use Rattle.ts_image.specs.RuleParts.{rule_from_parts, texts_of};
+ghost use Rattle.ts_image.specs.CellParts.{lows_of, marks_of_parts, cell_key_of, extremes_of_parts, cell_of_parts, cells_of_parts, all_cells_of};
 
 use crate::column_reading::read_point;
 use crate::field_fault::FieldFault;
@@ -58,7 +58,7 @@ fn read_lows<R: Read, A: Allocator + Copy>(
     count: u64,
 ) -> Result<Vec<i64, A>, FieldFault>
     requires { EndIsEnd reader.old.ahead source.old }
-    ensures { Reads (times count (signed w64)) lows_of reader.old source.old result reader.new source.new }
+    ensures { ReadsField (times count (signed_number w64)) lows_of reader.old source.old result reader.new source.new }
 {
     let mut lows = Vec::new(alloc);
     for _ in 0..count {
@@ -76,7 +76,7 @@ fn read_lows_of<R: Read, A: Allocator + Copy>(
     rules: &[RuleParts<A>],
 ) -> Result<Vec<i64, A>, FieldFault>
     requires { EndIsEnd reader.old.ahead source.old }
-    ensures { Reads (along (λ (r : ImageRule). signed w64) (map rule_of rules.now)) lows_of reader.old source.old result reader.new source.new }
+    ensures { ReadsField (along (λ (r : ImageRule). signed_number w64) (map rule_from_parts rules.now)) lows_of reader.old source.old result reader.new source.new }
 {
     read_lows(alloc, reader, source, rules.len() as u64)
 }
@@ -89,7 +89,7 @@ pub(crate) fn read_marks<R: Read, A: Allocator + Copy>(
     rules: &[RuleParts<A>],
 ) -> Result<MarksParts<A>, FieldFault>
     requires { EndIsEnd reader.old.ahead source.old }
-    ensures { Reads (image_marks (map rule_of rules.now)) marks_of_parts reader.old source.old result reader.new source.new }
+    ensures { ReadsField (image_marks (map rule_from_parts rules.now)) marks_of_parts reader.old source.old result reader.new source.new }
 {
     let raw = reader.i64(source)?;
     let lows = read_lows_of(alloc, reader, source, rules)?;
@@ -104,7 +104,7 @@ fn read_group<R: Read, A: Allocator + Copy>(
     rule: &RuleParts<A>,
 ) -> Result<Vec<String<A>, A>, FieldFault>
     requires { EndIsEnd reader.old.ahead source.old }
-    ensures { Reads (along (λ (tag : Text). text) (rule_of rule.now).kept_tags) texts_of reader.old source.old result reader.new source.new }
+    ensures { ReadsField (along (λ (tag : Text). text) (rule_from_parts rule.now).kept_tags) texts_of reader.old source.old result reader.new source.new }
 {
     read_texts(alloc, reader, source, rule.kept_tags.len() as u64)
 }
@@ -117,7 +117,7 @@ fn read_cell_key<R: Read, A: Allocator + Copy>(
     rule: &RuleParts<A>,
 ) -> Result<CellKeyParts<A>, FieldFault>
     requires { EndIsEnd reader.old.ahead source.old }
-    ensures { Reads (image_cell_key (rule_of rule.now)) cell_key_of reader.old source.old result reader.new source.new }
+    ensures { ReadsField (image_cell_key (rule_from_parts rule.now)) cell_key_of reader.old source.old result reader.new source.new }
 {
     let index = reader.i64(source)?;
     let field = reader.text(alloc, source)?;
@@ -135,7 +135,7 @@ fn read_extremes<R: Read, A: Allocator + Copy>(
     source: &mut Source<R>,
 ) -> Result<ExtremesParts, FieldFault>
     requires { EndIsEnd reader.old.ahead source.old }
-    ensures { Reads image_extremes extremes_of_parts reader.old source.old result reader.new source.new }
+    ensures { ReadsField image_extremes extremes_of_parts reader.old source.old result reader.new source.new }
 {
     let min = reader.i64(source)?;
     let max = reader.i64(source)?;
@@ -157,7 +157,7 @@ fn read_cell<R: Read, A: Allocator + Copy>(
     rule: &RuleParts<A>,
 ) -> Result<CellParts<A>, FieldFault>
     requires { EndIsEnd reader.old.ahead source.old }
-    ensures { Reads (image_cell (rule_of rule.now)) cell_of_parts reader.old source.old result reader.new source.new }
+    ensures { ReadsField (image_cell (rule_from_parts rule.now)) cell_of_parts reader.old source.old result reader.new source.new }
 {
     let key = read_cell_key(alloc, reader, source, rule)?;
     let count = reader.u64(source)?;
@@ -180,7 +180,7 @@ fn read_cells<R: Read, A: Allocator + Copy>(
     count: u64,
 ) -> Result<Vec<CellParts<A>, A>, FieldFault>
     requires { EndIsEnd reader.old.ahead source.old }
-    ensures { Reads (times count (image_cell (rule_of rule.now))) cells_of reader.old source.old result reader.new source.new }
+    ensures { ReadsField (times count (image_cell (rule_from_parts rule.now))) cells_of_parts reader.old source.old result reader.new source.new }
 {
     let mut cells = Vec::new(alloc);
     for _ in 0..count {
@@ -198,7 +198,7 @@ fn read_counted_cells<R: Read, A: Allocator + Copy>(
     rule: &RuleParts<A>,
 ) -> Result<Vec<CellParts<A>, A>, FieldFault>
     requires { EndIsEnd reader.old.ahead source.old }
-    ensures { Reads (list_of w64 (image_cell (rule_of rule.now))) cells_of reader.old source.old result reader.new source.new }
+    ensures { ReadsField (list_of w64 (image_cell (rule_from_parts rule.now))) cells_of_parts reader.old source.old result reader.new source.new }
 {
     let count = reader.u64(source)?;
     read_cells(alloc, reader, source, rule, count)
@@ -212,7 +212,7 @@ pub(crate) fn read_all_cells<R: Read, A: Allocator + Copy>(
     rules: &[RuleParts<A>],
 ) -> Result<Vec<Vec<CellParts<A>, A>, A>, FieldFault>
     requires { EndIsEnd reader.old.ahead source.old }
-    ensures { Reads (along (λ (r : ImageRule). list_of w64 (image_cell r)) (map rule_of rules.now)) all_cells_of reader.old source.old result reader.new source.new }
+    ensures { ReadsField (along (λ (r : ImageRule). list_of w64 (image_cell r)) (map rule_from_parts rules.now)) all_cells_of reader.old source.old result reader.new source.new }
 {
     let mut all = Vec::new(alloc);
     for rule in rules {

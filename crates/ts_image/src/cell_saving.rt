@@ -4,7 +4,7 @@ ghost use Rattle.std.specs.Int.{w64};
 ghost use Rattle.std.specs.List.{AllByRecursion};
 ghost use Rattle.ts_image.specs.Formats.{along, list_of};
 ghost use Rattle.ts_image.specs.Images.{image_cell};
-ghost use Rattle.ts_image.specs.FieldWriting.{Puts, PutsAll};
+ghost use Rattle.ts_image.specs.FieldWriting.{PutsField, PutsAll};
 ghost use Rattle.ts_image.specs.SavedParts.{image_rule_of};
 ghost use Rattle.ts_image.specs.Saving.{image_cell_of, frozen_cells_at, image_cells_from, FitsCell, FitCells, FitCellsFrom};
 
@@ -36,7 +36,7 @@ fn put_frozen_cell<W: Write, A: Allocator>(
 ) -> Result<(), Refused>
     requires fit { FitsCell rule.now cell.now }
     requires some { 0 < cell.now.frozen.count }
-    ensures { Puts (image_cell (image_rule_of rule.now)) (image_cell_of cell.now) sink.old out.old result sink.new out.new }
+    ensures { PutsField (image_cell (image_rule_of rule.now)) (image_cell_of cell.now) sink.old out.old result sink.new out.new }
 {
     put_cell(&cell.index, cell.field, cell.group, &cell.frozen, out, sink)
 }
@@ -68,7 +68,7 @@ fn put_rule_cells<W: Write, A: Allocator + Copy>(
 ) -> Result<(), Refused>
     requires number { number < length store.now.settings.rules }
     requires fit { FitCells rule.now (frozen_cells_at store.now number) }
-    ensures { Puts (list_of w64 (image_cell (image_rule_of rule.now))) (map image_cell_of (frozen_cells_at store.now number)) sink.old out.old result sink.new out.new }
+    ensures { PutsField (list_of w64 (image_cell (image_rule_of rule.now))) (map image_cell_of (frozen_cells_at store.now number)) sink.old out.old result sink.new out.new }
 {
     put_u64(count_cells(store.frozen_cells(number)), out, sink)?;
     put_frozen_cells(rule, store.frozen_cells(number), out, sink)
@@ -85,7 +85,7 @@ pub(crate) fn put_cells_from<W: Write, A: Allocator + Copy>(
     requires few { length store.now.settings.rules ≤ 32 }
     requires last { number + length rules.now ≡ length store.now.settings.rules }
     requires fit { FitCellsFrom store.now number rules.now }
-    ensures { Puts (along (λ r. list_of w64 (image_cell r)) (map image_rule_of rules.now)) (image_cells_from store.now number rules.now) sink.old out.old result sink.new out.new }
+    ensures { PutsField (along (λ r. list_of w64 (image_cell r)) (map image_rule_of rules.now)) (image_cells_from store.now number rules.now) sink.old out.old result sink.new out.new }
 {
     match rules.split_first() {
         None => Ok(()),

@@ -4,10 +4,11 @@ ghost use Rattle.std.specs.Ordering.{is_lt};
 ghost use Rattle.std.specs.List.{AllByRecursion};
 ghost use Rattle.ts_core.specs.aggregates.Aggregates.{IsSpread};
 ghost use Rattle.ts_core.specs.store.Cells.{cell_cmp};
-ghost use Rattle.ts_image.specs.ImageTests.{AreRising, IsBetween, IsFrozenTime, IsImageCell, AreImageCells};
-ghost use Rattle.ts_image.specs.RuleParts.{rule_of};
+ghost use Rattle.ts_image.specs.ImageTests.{IsBetween, IsFrozenTime, IsImageCell, AreImageCells};
+ghost use Rattle.ts_store.specs.image.SavedContent.{AreRising};
+ghost use Rattle.ts_image.specs.RuleParts.{rule_from_parts};
 ghost use Rattle.ts_image.specs.CellParts.{cell_key_of, extremes_of_parts, cell_of_parts};
-ghost use Rattle.ts_image.specs.TestParts.{key_of_cell, ArePossible};
+ghost use Rattle.ts_image.specs.TestParts.{key_of_cell, AreExtremesPossible};
 
 use crate::cell_reading::{CellKeyParts, CellParts, ExtremesParts};
 use crate::rule_reading::RuleParts;
@@ -39,7 +40,7 @@ fn is_between(low: &i64, high: &i64, value: &i64) -> bool
 /// Returns true if a time is in the bucket with this index, and below the raw mark.
 fn is_frozen_time<A: Allocator>(mark: &i64, rule: &RuleParts<A>, index: &i64, time: &i64) -> bool
     requires { pos 1 ≤ℤ rule.now.interval }
-    ensures { IsTrue result ↔ IsFrozenTime mark.now (rule_of rule.now) index.now time.now }
+    ensures { IsTrue result ↔ IsFrozenTime mark.now (rule_from_parts rule.now) index.now time.now }
 {
     if !is_time(time) {
         return false;
@@ -51,7 +52,7 @@ fn is_frozen_time<A: Allocator>(mark: &i64, rule: &RuleParts<A>, index: &i64, ti
 }
 
 fn are_extremes(extremes: &ExtremesParts) -> bool
-    ensures { IsTrue result ↔ ArePossible (extremes_of_parts extremes.now) }
+    ensures { IsTrue result ↔ AreExtremesPossible (extremes_of_parts extremes.now) }
 {
     if extremes.min > extremes.max || extremes.first.0 > extremes.last.0 {
         return false;
@@ -67,7 +68,7 @@ fn are_frozen<A: Allocator>(
     extremes: &ExtremesParts,
 ) -> bool
     requires { pos 1 ≤ℤ rule.now.interval }
-    ensures { IsTrue result ↔ (IsFrozenTime mark.now (rule_of rule.now) index.now extremes.now.first.0 × IsFrozenTime mark.now (rule_of rule.now) index.now extremes.now.last.0) }
+    ensures { IsTrue result ↔ (IsFrozenTime mark.now (rule_from_parts rule.now) index.now extremes.now.first.0 × IsFrozenTime mark.now (rule_from_parts rule.now) index.now extremes.now.last.0) }
 {
     is_frozen_time(mark, rule, index, &extremes.first.0)
         && is_frozen_time(mark, rule, index, &extremes.last.0)
@@ -75,7 +76,7 @@ fn are_frozen<A: Allocator>(
 
 fn is_cell<A: Allocator>(mark: &i64, rule: &RuleParts<A>, low: &i64, cell: &CellParts<A>) -> bool
     requires { pos 1 ≤ℤ rule.now.interval }
-    ensures { IsTrue result ↔ IsImageCell mark.now (rule_of rule.now) low.now (cell_of_parts cell.now) }
+    ensures { IsTrue result ↔ IsImageCell mark.now (rule_from_parts rule.now) low.now (cell_of_parts cell.now) }
 {
     if cell.key.index < *low {
         return false;
@@ -99,7 +100,7 @@ fn are_cells_possible<A: Allocator>(
     cells: &[CellParts<A>],
 ) -> bool
     requires { pos 1 ≤ℤ rule.now.interval }
-    ensures { IsTrue result ↔ AllByRecursion (IsImageCell mark.now (rule_of rule.now) low.now) (map cell_of_parts cells.now) }
+    ensures { IsTrue result ↔ AllByRecursion (IsImageCell mark.now (rule_from_parts rule.now) low.now) (map cell_of_parts cells.now) }
 {
     for cell in cells {
         if !is_cell(mark, rule, low, cell) {
@@ -146,7 +147,7 @@ pub(crate) fn are_cells<A: Allocator>(
     cells: &[CellParts<A>],
 ) -> bool
     requires { pos 1 ≤ℤ rule.now.interval }
-    ensures { IsTrue result ↔ AreImageCells mark.now (rule_of rule.now) low.now (map cell_of_parts cells.now) }
+    ensures { IsTrue result ↔ AreImageCells mark.now (rule_from_parts rule.now) low.now (map cell_of_parts cells.now) }
 {
     are_cells_possible(mark, rule, low, cells) && are_cells_rising(cells)
 }

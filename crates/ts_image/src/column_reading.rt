@@ -3,8 +3,8 @@ ghost use Rattle.std.specs.Int.{w64};
 ghost use Rattle.ts_core.specs.io.ReadingAhead.{EndIsEnd};
 ghost use Rattle.ts_image.specs.Formats.{times, list_of};
 ghost use Rattle.ts_image.specs.Images.{image_point};
-ghost use Rattle.ts_image.specs.FieldReading.{Reads};
-ghost use Rattle.ts_image.specs.PointParts.{points_of, point_of};
+ghost use Rattle.ts_image.specs.FieldReading.{ReadsField};
+ghost use Rattle.ts_image.specs.PointParts.{points_of_parts, point_of};
 
 use crate::field_fault::FieldFault;
 use crate::field_reader::FieldReader;
@@ -18,7 +18,7 @@ pub(crate) fn read_point<R: Read, A: Allocator + Copy>(
     source: &mut Source<R>,
 ) -> Result<(i64, i64), FieldFault>
     requires { EndIsEnd reader.old.ahead source.old }
-    ensures { Reads image_point point_of reader.old source.old result reader.new source.new }
+    ensures { ReadsField image_point point_of reader.old source.old result reader.new source.new }
 {
     let time = reader.i64(source)?;
     let value = reader.i64(source)?;
@@ -33,7 +33,7 @@ fn read_points<R: Read, A: Allocator + Copy>(
     count: u64,
 ) -> Result<Vec<(i64, i64), A>, FieldFault>
     requires { EndIsEnd reader.old.ahead source.old }
-    ensures { Reads (times count image_point) points_of reader.old source.old result reader.new source.new }
+    ensures { ReadsField (times count image_point) points_of_parts reader.old source.old result reader.new source.new }
 {
     let mut points = Vec::new(alloc);
     for _ in 0..count {
@@ -50,7 +50,7 @@ pub(crate) fn read_counted_points<R: Read, A: Allocator + Copy>(
     source: &mut Source<R>,
 ) -> Result<Vec<(i64, i64), A>, FieldFault>
     requires { EndIsEnd reader.old.ahead source.old }
-    ensures { Reads (list_of w64 image_point) points_of reader.old source.old result reader.new source.new }
+    ensures { ReadsField (list_of w64 image_point) points_of_parts reader.old source.old result reader.new source.new }
 {
     let count = reader.u64(source)?;
     read_points(alloc, reader, source, count)

@@ -4,7 +4,7 @@ ghost use Rattle.ts_core.specs.io.ReadingAhead.{bit};
 ghost use Rattle.ts_image.specs.declared.version.Version.TheVariants.{V2};
 ghost use Rattle.ts_image.specs.Formats.{list_of};
 ghost use Rattle.ts_image.specs.Images.{image_point, image_column};
-ghost use Rattle.ts_image.specs.FieldWriting.{Puts, PutsAll};
+ghost use Rattle.ts_image.specs.FieldWriting.{PutsField, PutsAll};
 
 use crate::cell_writing::put_point;
 use crate::field_writing::{put_text, put_u8, put_u64};
@@ -33,7 +33,7 @@ fn put_counted_points<W: Write, A: Allocator>(
     out: &mut OutputBuffer<A>,
     sink: &mut Sink<W>,
 ) -> Result<(), Refused>
-    ensures { Puts (list_of w64 image_point) points.entry sink.old out.old result sink.new out.new }
+    ensures { PutsField (list_of w64 image_point) points.entry sink.old out.old result sink.new out.new }
 {
     put_u64(points.len() as u64, out, sink)?;
     put_points(points, out, sink)
@@ -47,7 +47,7 @@ pub(crate) fn put_column<W: Write, A: Allocator>(
     out: &mut OutputBuffer<A>,
     sink: &mut Sink<W>,
 ) -> Result<(), Refused>
-    ensures { Puts (image_column V2) (record { field = field.now; waits = bit waits; points = points.entry }) sink.old out.old result sink.new out.new }
+    ensures { PutsField (image_column V2) (record { field = field.now; waits = bit waits; points = points.entry }) sink.old out.old result sink.new out.new }
 {
     put_text(field, out, sink)?;
     put_u8(u8::from(waits), out, sink)?;

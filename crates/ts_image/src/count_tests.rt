@@ -3,7 +3,7 @@
 ghost use Rattle.std.specs.Prelude.{◌≡◌, ◌+◌, ◌≤◌, ◌↔◌, map, string_bytes, length, IsSome, IfSome};
 ghost use Rattle.std.specs.List.{sum_by};
 ghost use Rattle.ts_image.specs.Images.{ImageColumn, ImageCell};
-ghost use Rattle.ts_image.specs.ImageTests.{points_of_series, points_in_all, frozen_in};
+ghost use Rattle.ts_image.specs.ImageTests.{points_of_series, points_in_all, count_frozen};
 ghost use Rattle.ts_image.specs.SeriesParts.{column_of_parts, series_of_parts, all_series_of};
 ghost use Rattle.ts_image.specs.CellParts.{cell_of_parts};
 ghost use Rattle.ts_image.specs.TestParts.{points_if, IsTaken};
@@ -75,7 +75,7 @@ pub(crate) fn take_measurement<A: Allocator>(
 
 /// Subtracts the counts of cells.
 pub(crate) fn take_cells<A: Allocator>(mut left: u64, cells: &[CellParts<A>]) -> Option<u64>
-    ensures { IsTaken left (frozen_in (map cell_of_parts cells.now)) result }
+    ensures { IsTaken left (count_frozen (map cell_of_parts cells.now)) result }
 {
     for cell in cells {
         if cell.count > left {

@@ -2,8 +2,8 @@
 ghost use Rattle.std.specs.Prelude.{◌≡◌, true, ◌≤◌, ◌<◌, ◌+◌, ◌^◌, [], length, IfOk, OnOk, OnErr, string_bytes};
 ghost use Rattle.std.specs.Int.{w8, w32, w64, w128};
 ghost use Rattle.ts_core.specs.io.ReadingAhead.{EndIsEnd, nothing_ahead, IsConsumed};
-ghost use Rattle.ts_image.specs.Formats.{number, signed, text};
-ghost use Rattle.ts_image.specs.FieldReading.{place_of, IsKnown, GivesEnd, CallsSource, FillsAhead, IsShaped, TakesByte, FillsRoom, TakesChunk, FillsText, Reads};
+ghost use Rattle.ts_image.specs.Formats.{number, signed_number, text};
+ghost use Rattle.ts_image.specs.FieldReading.{cursor_of, IsKnown, GivesEnd, CallsSource, FillsAhead, IsShaped, TakesByte, FillsBuffer, TakesChunk, FillsText, ReadsField};
 
 use crate::field_fault::FieldFault;
 use std::alloc::{AllocError, Allocator};
@@ -89,40 +89,40 @@ impl<A: Allocator + Copy> FieldReader<A> {
     fn take_bytewise<R: Read>(
         &mut self,
         source: &mut Source<R>,
-        room: &mut [u8],
+        buffer: &mut [u8],
     ) -> Result<(), FieldFault>
         requires { EndIsEnd self.old.ahead source.old }
-        ensures filled { FillsRoom self.old source.old result room.new self.new source.new }
-        ensures len { length room.new ≡ length room.old }
+        ensures filled { FillsBuffer self.old source.old result buffer.new self.new source.new }
+        ensures len { length buffer.new ≡ length buffer.old }
         ensures calls { CallsSource self.old.ahead source.old result self.new.ahead source.new }
     {
         let at = self.at;
-        for place in room.iter_mut() {
+        for cursor in buffer.iter_mut() {
             match self.byte(source)? {
-                Some(byte) => *place = byte,
+                Some(byte) => *cursor = byte,
                 None => return Err(FieldFault::Misshapen(at)),
             }
         }
         Ok(())
     }
 
-    /// Fills `room` with the next bytes.
+    /// Fills `buffer` with the next bytes.
     pub(crate) fn take<R: Read>(
         &mut self,
         source: &mut Source<R>,
-        room: &mut [u8],
+        buffer: &mut [u8],
     ) -> Result<(), FieldFault>
         requires { EndIsEnd self.old.ahead source.old }
-        ensures filled { FillsRoom self.old source.old result room.new self.new source.new }
-        ensures len { length room.new ≡ length room.old }
+        ensures filled { FillsBuffer self.old source.old result buffer.new self.new source.new }
+        ensures len { length buffer.new ≡ length buffer.old }
         ensures calls { CallsSource self.old.ahead source.old result self.new.ahead source.new }
     {
-        let count = room.len();
+        let count = buffer.len();
         let rest = self.ahead.buffered();
         if rest.len() < count {
-            return self.take_bytewise(source, room);
+            return self.take_bytewise(source, buffer);
         }
-        room.copy_from_slice(&rest[..count]);
+        buffer.copy_from_slice(&rest[..count]);
         self.consume(count);
         Ok(())
     }
@@ -130,7 +130,7 @@ impl<A: Allocator + Copy> FieldReader<A> {
     /// Returns an error at the next byte unless the input ends here.
     pub(crate) fn end<R: Read>(&mut self, source: &mut Source<R>) -> Result<(), FieldFault>
         requires { EndIsEnd self.old.ahead source.old }
-        ensures value { IsKnown self.old source.old → GivesEnd result (place_of self.old source.old) }
+        ensures value { IsKnown self.old source.old → GivesEnd result (cursor_of self.old source.old) }
         ensures ended { IfOk result (λ u. self.new.ahead.ended ≡ true) }
         ensures calls { CallsSource self.old.ahead source.old result self.new.ahead source.new }
     {
@@ -147,7 +147,7 @@ impl<A: Allocator + Copy> FieldReader<A> {
     /// Reads an unsigned number of one byte.
     pub(crate) fn u8<R: Read>(&mut self, source: &mut Source<R>) -> Result<u8, FieldFault>
         requires { EndIsEnd self.old.ahead source.old }
-        ensures { Reads (number w8) (λ n. n) self.old source.old result self.new source.new }
+        ensures { ReadsField (number w8) (λ n. n) self.old source.old result self.new source.new }
     {
         let mut bytes = [0; 1];
         self.take(source, &mut bytes)?;
@@ -157,7 +157,7 @@ impl<A: Allocator + Copy> FieldReader<A> {
     /// Reads an unsigned number of four bytes.
     pub(crate) fn u32<R: Read>(&mut self, source: &mut Source<R>) -> Result<u32, FieldFault>
         requires { EndIsEnd self.old.ahead source.old }
-        ensures { Reads (number w32) (λ n. n) self.old source.old result self.new source.new }
+        ensures { ReadsField (number w32) (λ n. n) self.old source.old result self.new source.new }
     {
         let mut bytes = [0; 4];
         self.take(source, &mut bytes)?;
@@ -167,7 +167,7 @@ impl<A: Allocator + Copy> FieldReader<A> {
     /// Reads an unsigned number of eight bytes.
     pub(crate) fn u64<R: Read>(&mut self, source: &mut Source<R>) -> Result<u64, FieldFault>
         requires { EndIsEnd self.old.ahead source.old }
-        ensures { Reads (number w64) (λ n. n) self.old source.old result self.new source.new }
+        ensures { ReadsField (number w64) (λ n. n) self.old source.old result self.new source.new }
     {
         let mut bytes = [0; 8];
         self.take(source, &mut bytes)?;
@@ -177,7 +177,7 @@ impl<A: Allocator + Copy> FieldReader<A> {
     /// Reads a signed number of eight bytes.
     pub(crate) fn i64<R: Read>(&mut self, source: &mut Source<R>) -> Result<i64, FieldFault>
         requires { EndIsEnd self.old.ahead source.old }
-        ensures { Reads (signed w64) (λ n. n) self.old source.old result self.new source.new }
+        ensures { ReadsField (signed_number w64) (λ n. n) self.old source.old result self.new source.new }
     {
         let mut bytes = [0; 8];
         self.take(source, &mut bytes)?;
@@ -187,7 +187,7 @@ impl<A: Allocator + Copy> FieldReader<A> {
     /// Reads a signed number of sixteen bytes.
     pub(crate) fn i128<R: Read>(&mut self, source: &mut Source<R>) -> Result<i128, FieldFault>
         requires { EndIsEnd self.old.ahead source.old }
-        ensures { Reads (signed w128) (λ n. n) self.old source.old result self.new source.new }
+        ensures { ReadsField (signed_number w128) (λ n. n) self.old source.old result self.new source.new }
     {
         let mut bytes = [0; 16];
         self.take(source, &mut bytes)?;
@@ -244,7 +244,7 @@ impl<A: Allocator + Copy> FieldReader<A> {
         source: &mut Source<R>,
     ) -> Result<String<A>, FieldFault>
         requires { EndIsEnd self.old.ahead source.old }
-        ensures { Reads text string_bytes self.old source.old result self.new source.new }
+        ensures { ReadsField text string_bytes self.old source.old result self.new source.new }
     {
         let at = self.at;
         let length = self.u64(source)?;

@@ -1,8 +1,8 @@
 //! Writes the fields of an image through a write buffer.
 ghost use Rattle.std.specs.Prelude.{FitsSigned, map, string_bytes};
 ghost use Rattle.std.specs.Int.{w8, w32, w64, w128};
-ghost use Rattle.ts_image.specs.Formats.{number, signed, text};
-ghost use Rattle.ts_image.specs.FieldWriting.{Puts, PutsAll};
+ghost use Rattle.ts_image.specs.Formats.{number, signed_number, text};
+ghost use Rattle.ts_image.specs.FieldWriting.{PutsField, PutsAll};
 
 use std::alloc::Allocator;
 use std::io::Write;
@@ -14,7 +14,7 @@ pub(crate) fn put_u8<W: Write, A: Allocator>(
     out: &mut OutputBuffer<A>,
     sink: &mut Sink<W>,
 ) -> Result<(), Refused>
-    ensures { Puts (number w8) value sink.old out.old result sink.new out.new }
+    ensures { PutsField (number w8) value sink.old out.old result sink.new out.new }
 {
     out.put(&value.to_be_bytes(), sink)
 }
@@ -25,7 +25,7 @@ pub(crate) fn put_u32<W: Write, A: Allocator>(
     out: &mut OutputBuffer<A>,
     sink: &mut Sink<W>,
 ) -> Result<(), Refused>
-    ensures { Puts (number w32) value sink.old out.old result sink.new out.new }
+    ensures { PutsField (number w32) value sink.old out.old result sink.new out.new }
 {
     out.put(&value.to_be_bytes(), sink)
 }
@@ -36,7 +36,7 @@ pub(crate) fn put_u64<W: Write, A: Allocator>(
     out: &mut OutputBuffer<A>,
     sink: &mut Sink<W>,
 ) -> Result<(), Refused>
-    ensures { Puts (number w64) value sink.old out.old result sink.new out.new }
+    ensures { PutsField (number w64) value sink.old out.old result sink.new out.new }
 {
     out.put(&value.to_be_bytes(), sink)
 }
@@ -47,7 +47,7 @@ pub(crate) fn put_i64<W: Write, A: Allocator>(
     out: &mut OutputBuffer<A>,
     sink: &mut Sink<W>,
 ) -> Result<(), Refused>
-    ensures { Puts (signed w64) value.now sink.old out.old result sink.new out.new }
+    ensures { PutsField (signed_number w64) value.now sink.old out.old result sink.new out.new }
 {
     out.put(&value.to_be_bytes(), sink)
 }
@@ -58,7 +58,7 @@ pub(crate) fn put_i128<W: Write, A: Allocator>(
     out: &mut OutputBuffer<A>,
     sink: &mut Sink<W>,
 ) -> Result<(), Refused>
-    ensures { Puts (signed w128) value.now sink.old out.old result sink.new out.new }
+    ensures { PutsField (signed_number w128) value.now sink.old out.old result sink.new out.new }
 {
     out.put(&value.to_be_bytes(), sink)
 }
@@ -69,7 +69,7 @@ pub(crate) fn put_text<W: Write, A: Allocator>(
     out: &mut OutputBuffer<A>,
     sink: &mut Sink<W>,
 ) -> Result<(), Refused>
-    ensures { Puts text value.now sink.old out.old result sink.new out.new }
+    ensures { PutsField text value.now sink.old out.old result sink.new out.new }
 {
     out.put(&(value.len() as u64).to_be_bytes(), sink)?;
     out.put(value.as_bytes(), sink)
@@ -96,7 +96,7 @@ pub(crate) fn put_index<W: Write, A: Allocator>(
     sink: &mut Sink<W>,
 ) -> Result<(), Refused>
     requires { FitsSigned w64 index.now }
-    ensures { Puts (signed w64) index.now sink.old out.old result sink.new out.new }
+    ensures { PutsField (signed_number w64) index.now sink.old out.old result sink.new out.new }
 {
     put_i64(&(*index as i64), out, sink)
 }

@@ -1,6 +1,6 @@
 //! Images loaded from a source: read up to their form, then tested for contradictions.
 ghost use Rattle.std.specs.Prelude.{◌≤◌, ◌^◌, IfOk};
-ghost use Rattle.ts_image.specs.ImageTests.{IsPossible, settings_in};
+ghost use Rattle.ts_image.specs.ImageTests.{IsPossible, settings_of_image};
 ghost use Rattle.ts_image.specs.RuleParts.{settings_of_parts};
 ghost use Rattle.ts_image.specs.ImageReading.{image_of};
 ghost use Rattle.ts_image.specs.ImageLoading.{LoadsImage, LoadsStore, StandsAsSaved};
@@ -34,7 +34,7 @@ fn possible_settings<A: Allocator + Copy>(
     version: Version,
     parts: &ImageParts<A>,
 ) -> Result<Option<Settings<A>>, AllocError>
-    ensures { IfOk result (IsMadeIf (IsPossible version (image_of parts.now)) (settings_in (settings_of_parts parts.now.settings))) }
+    ensures { IfOk result (IsMadeIf (IsPossible version (image_of parts.now)) (settings_of_image (settings_of_parts parts.now.settings))) }
 {
     match make_settings(alloc, &parts.settings)? {
         Some(settings) => {

@@ -2,8 +2,8 @@
 ghost use Rattle.std.specs.Prelude.{◌≡◌, ◌≤◌, ◌^◌};
 ghost use Rattle.ts_core.specs.io.ReadingAhead.{EndIsEnd};
 ghost use Rattle.ts_image.specs.Images.{image};
-ghost use Rattle.ts_image.specs.FieldReading.{Reads};
-ghost use Rattle.ts_image.specs.HeadReading.{ReadsHead};
+ghost use Rattle.ts_image.specs.FieldReading.{ReadsField};
+ghost use Rattle.ts_image.specs.HeadReading.{ReadsImageHead};
 ghost use Rattle.ts_image.specs.ImageReading.{image_of, ReadsWhole, LoadsParts};
 
 use crate::cell_reading::{CellParts, MarksParts, read_all_cells, read_marks};
@@ -48,7 +48,7 @@ fn read_head<R: Read, A: Allocator + Copy>(
     source: &mut Source<R>,
 ) -> Result<Head, FieldFault>
     requires { EndIsEnd reader.old.ahead source.old }
-    ensures { ReadsHead reader.old source.old result reader.new source.new }
+    ensures { ReadsImageHead reader.old source.old result reader.new source.new }
 {
     let mut mark = [0; 4];
     match reader.take(source, &mut mark) {
@@ -74,7 +74,7 @@ fn read_body<R: Read, A: Allocator + Copy>(
     version: Version,
 ) -> Result<ImageParts<A>, FieldFault>
     requires { EndIsEnd reader.old.ahead source.old }
-    ensures { Reads (image version) image_of reader.old source.old result reader.new source.new }
+    ensures { ReadsField (image version) image_of reader.old source.old result reader.new source.new }
 {
     let settings = read_settings(alloc, reader, source)?;
     let marks = read_marks(alloc, reader, source, &settings.rules)?;

@@ -4,12 +4,13 @@ ghost use Rattle.std.specs.Prelude.{◌↔◌, map, IsTrue};
 ghost use Rattle.std.specs.List.{AllByRecursion};
 ghost use Rattle.ts_core.specs.facts.Facts.{series_cmp};
 ghost use Rattle.ts_image.specs.Images.{ImageSeries};
-ghost use Rattle.ts_image.specs.ImageTests.{AreImageSettings, AreRising, IsImageSeries, AreLows, CellsAre, IsPossible, points_in_all};
-ghost use Rattle.ts_image.specs.RuleParts.{rules_of, settings_of_parts};
+ghost use Rattle.ts_image.specs.ImageTests.{AreImageSettings, IsImageSeries, AreLows, CellsAre, IsPossible, points_in_all};
+ghost use Rattle.ts_store.specs.image.SavedContent.{AreRising};
+ghost use Rattle.ts_image.specs.RuleParts.{rules_of_parts, settings_of_parts};
 ghost use Rattle.ts_image.specs.SeriesParts.{all_series_of};
 ghost use Rattle.ts_image.specs.CellParts.{marks_of_parts, all_cells_of};
 ghost use Rattle.ts_image.specs.ImageReading.{image_of};
-ghost use Rattle.ts_image.specs.TestParts.{IsLong, AreCountedAll, IsSmall, AreSeriesPossible, AreRulesPossible};
+ghost use Rattle.ts_image.specs.TestParts.{HasLongInterval, AreCountedAll, IsSmall, AreSeriesPossible, AreRulesPossible};
 
 use crate::count_tests::take_series;
 use crate::image_reading::ImageParts;
@@ -41,7 +42,7 @@ fn are_series_possible<A: Allocator>(parts: &ImageParts<A>) -> bool
 }
 
 fn are_rules_possible<A: Allocator>(version: Version, parts: &ImageParts<A>) -> bool
-    requires { AllByRecursion IsLong parts.now.settings.rules.items }
+    requires { AllByRecursion HasLongInterval parts.now.settings.rules.items }
     ensures { IsTrue result ↔ AreRulesPossible version (image_of parts.now) }
 {
     let rules = &parts.settings.rules;
@@ -60,7 +61,7 @@ fn are_rules_possible<A: Allocator>(version: Version, parts: &ImageParts<A>) -> 
 /// Returns true if an image with possible settings is possible.
 pub(crate) fn is_rest_possible<A: Allocator>(version: Version, parts: &ImageParts<A>) -> bool
     requires settings { AreImageSettings (settings_of_parts parts.now.settings) }
-    requires long { AllByRecursion IsLong parts.now.settings.rules.items }
+    requires long { AllByRecursion HasLongInterval parts.now.settings.rules.items }
     ensures { IsTrue result ↔ IsPossible version (image_of parts.now) }
 {
     if !is_small(parts) {

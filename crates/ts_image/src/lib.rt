@@ -13,7 +13,7 @@
 #![tactic(auto)]
 
 ghost use Rattle.ts_image.specs.FormatLaws.{AreBytes, IsFormat, IsExact};
-ghost use Rattle.ts_image.specs.Formats.{Place, read_whole};
+ghost use Rattle.ts_image.specs.Formats.{Cursor, read_whole};
 ghost use Rattle.ts_image.specs.declared.version.Version.{Version};
 ghost use Rattle.ts_image.specs.Images.{ImageData, image};
 ghost use Rattle.ts_image.specs.Pictures.{IsPictureOf, IsMadeOf};
@@ -72,7 +72,7 @@ pub fn reloads()
 pub fn images_are_exact()
     ensures unambiguous { AreUnambiguous }
     ensures format { (v : Version) → IsFormat (image v) }
-    ensures exact { (v : Version) (p : Place) → AreBytes p.rest → IsExact (image v) p (read_whole (image v) p) }
+    ensures exact { (v : Version) (p : Cursor) → AreBytes p.rest → IsExact (image v) p (read_whole (image v) p) }
 {}
 
 /// Proves that the image of a store that represents a history has no contradiction.

@@ -3,7 +3,7 @@ ghost use Rattle.std.specs.Prelude.{◌≡◌};
 ghost use Rattle.ts_image.specs.declared.load_fault.LoadFault.TheVariants.{OutOfMemory};
 ghost use Rattle.ts_core.specs.text.FaultTexts.{IsAppended};
 ghost use Rattle.ts_image.specs.ImageFaultTexts.{load_fault_text};
-ghost use Rattle.ts_image.specs.LoadFaults.{fault_of};
+ghost use Rattle.ts_image.specs.LoadFaults.{load_fault_of};
 
 use crate::field_fault::FieldFault;
 use std::alloc::{AllocError, Allocator};
@@ -45,7 +45,7 @@ impl From<AllocError> for LoadFault {
 }
 
 impl From<FieldFault> for LoadFault {
-    ghost from_gives = { λ f e. e ≡ fault_of f };
+    ghost from_gives = { λ f e. e ≡ load_fault_of f };
 
     fn from(fault: FieldFault) -> LoadFault {
         match fault {

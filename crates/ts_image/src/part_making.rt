@@ -1,12 +1,12 @@
 //! Creates marks, tags, points and frozen parts from the parts of an image.
 ghost use Rattle.std.specs.Prelude.{◌≡◌, ◌≤◌, [], length, map, string_bytes, IfOk};
-ghost use Rattle.ts_core.specs.text.Texts.{lent_pairs};
+ghost use Rattle.ts_core.specs.text.Texts.{borrowed_pairs};
 ghost use Rattle.ts_core.specs.facts.Times.{IsTime};
-ghost use Rattle.ts_cells.specs.Grids.{lent_texts};
+ghost use Rattle.ts_cells.specs.Grids.{borrowed_texts};
 ghost use Rattle.ts_raw.specs.Columns.{AreTimed};
 ghost use Rattle.ts_image.specs.CellParts.{marks_of_parts, cell_of_parts};
 ghost use Rattle.ts_image.specs.PartsMade.{HasPart};
-ghost use Rattle.ts_image.specs.Pictures.{part_of};
+ghost use Rattle.ts_image.specs.Pictures.{cell_part_of};
 ghost use Rattle.ts_image.specs.PointParts.{point_of};
 ghost use Rattle.ts_image.specs.SeriesParts.{tag_of};
 
@@ -32,31 +32,31 @@ pub(crate) fn make_marks<A: Allocator + Copy>(
 }
 
 /// Borrows the texts of tags.
-pub(crate) fn lend_tags<'a, A: Allocator>(
+pub(crate) fn borrow_tags<'a, A: Allocator>(
     tags: &'a [(String<A>, String<A>)],
-    lent: &mut ArrayVec<(&'a str, &'a str), 64>,
+    borrowed: &mut ArrayVec<(&'a str, &'a str), 64>,
 )
-    requires none { lent.old.items ≡ [] }
+    requires none { borrowed.old.items ≡ [] }
     requires few { length tags.now ≤ 64 }
-    ensures { lent_pairs lent.new.items ≡ map tag_of tags.now }
+    ensures { borrowed_pairs borrowed.new.items ≡ map tag_of tags.now }
 {
     for tag in tags {
-        lent.push((tag.0.as_str(), tag.1.as_str()));
+        borrowed.push((tag.0.as_str(), tag.1.as_str()));
     }
 }
 
 /// Borrows texts.
-pub(crate) fn lend_texts<'a, A: Allocator + Copy>(
+pub(crate) fn borrow_texts<'a, A: Allocator + Copy>(
     alloc: A,
     texts: &'a [String<A>],
 ) -> Result<Vec<&'a str, A>, AllocError>
-    ensures { IfOk result (λ v. lent_texts v.items ≡ map string_bytes texts.now) }
+    ensures { IfOk result (λ v. borrowed_texts v.items ≡ map string_bytes texts.now) }
 {
-    let mut lent = Vec::with_capacity(alloc, texts.len())?;
+    let mut borrowed = Vec::with_capacity(alloc, texts.len())?;
     for text in texts {
-        lent.push(text.as_str())?;
+        borrowed.push(text.as_str())?;
     }
-    Ok(lent)
+    Ok(borrowed)
 }
 
 /// Creates a point. The time must be valid.
@@ -85,7 +85,7 @@ pub(crate) fn make_points<A: Allocator + Copy>(
 /// Creates the frozen part of a cell that was tested.
 pub(crate) fn make_part<A: Allocator>(parts: &CellParts<A>) -> Agg
     requires { HasPart (cell_of_parts parts.now) }
-    ensures { result ≡ part_of (cell_of_parts parts.now) }
+    ensures { result ≡ cell_part_of (cell_of_parts parts.now) }
 {
     let extremes = Extremes {
         min: parts.extremes.min,

@@ -4,8 +4,8 @@ ghost use Rattle.std.specs.Int.{w8};
 ghost use Rattle.ts_core.specs.io.ReadingAhead.{EndIsEnd};
 ghost use Rattle.ts_image.specs.Formats.{text, times, list_of};
 ghost use Rattle.ts_image.specs.Images.{image_rule, image_settings};
-ghost use Rattle.ts_image.specs.FieldReading.{Reads};
-ghost use Rattle.ts_image.specs.RuleParts.{texts_of, rule_of, rules_of, settings_of_parts};
+ghost use Rattle.ts_image.specs.FieldReading.{ReadsField};
+ghost use Rattle.ts_image.specs.RuleParts.{texts_of, rule_from_parts, rules_of_parts, settings_of_parts};
 
 use crate::field_fault::FieldFault;
 use crate::field_reader::FieldReader;
@@ -45,7 +45,7 @@ pub(crate) fn read_texts<R: Read, A: Allocator + Copy>(
     count: u64,
 ) -> Result<Vec<String<A>, A>, FieldFault>
     requires { EndIsEnd reader.old.ahead source.old }
-    ensures { Reads (times count text) texts_of reader.old source.old result reader.new source.new }
+    ensures { ReadsField (times count text) texts_of reader.old source.old result reader.new source.new }
 {
     let mut texts = Vec::new(alloc);
     for _ in 0..count {
@@ -62,7 +62,7 @@ fn read_counted_texts<R: Read, A: Allocator + Copy>(
     source: &mut Source<R>,
 ) -> Result<Vec<String<A>, A>, FieldFault>
     requires { EndIsEnd reader.old.ahead source.old }
-    ensures { Reads (list_of w8 text) texts_of reader.old source.old result reader.new source.new }
+    ensures { ReadsField (list_of w8 text) texts_of reader.old source.old result reader.new source.new }
 {
     let count = reader.u8(source)?;
     read_texts(alloc, reader, source, u64::from(count))
@@ -75,7 +75,7 @@ pub(crate) fn read_rule<R: Read, A: Allocator + Copy>(
     source: &mut Source<R>,
 ) -> Result<RuleParts<A>, FieldFault>
     requires { EndIsEnd reader.old.ahead source.old }
-    ensures { Reads image_rule rule_of reader.old source.old result reader.new source.new }
+    ensures { ReadsField image_rule rule_from_parts reader.old source.old result reader.new source.new }
 {
     let name = reader.text(alloc, source)?;
     let measurement = reader.text(alloc, source)?;
@@ -101,7 +101,7 @@ fn read_rules<R: Read, A: Allocator + Copy>(
     count: u8,
 ) -> Result<Vec<RuleParts<A>, A>, FieldFault>
     requires { EndIsEnd reader.old.ahead source.old }
-    ensures { Reads (times count image_rule) rules_of reader.old source.old result reader.new source.new }
+    ensures { ReadsField (times count image_rule) rules_of_parts reader.old source.old result reader.new source.new }
 {
     let mut rules = Vec::new(alloc);
     for _ in 0..count {
@@ -118,7 +118,7 @@ fn read_counted_rules<R: Read, A: Allocator + Copy>(
     source: &mut Source<R>,
 ) -> Result<Vec<RuleParts<A>, A>, FieldFault>
     requires { EndIsEnd reader.old.ahead source.old }
-    ensures { Reads (list_of w8 image_rule) rules_of reader.old source.old result reader.new source.new }
+    ensures { ReadsField (list_of w8 image_rule) rules_of_parts reader.old source.old result reader.new source.new }
 {
     let count = reader.u8(source)?;
     read_rules(alloc, reader, source, count)
@@ -138,7 +138,7 @@ pub(crate) fn read_settings<R: Read, A: Allocator + Copy>(
     source: &mut Source<R>,
 ) -> Result<SettingsParts<A>, FieldFault>
     requires { EndIsEnd reader.old.ahead source.old }
-    ensures { Reads image_settings settings_of_parts reader.old source.old result reader.new source.new }
+    ensures { ReadsField image_settings settings_of_parts reader.old source.old result reader.new source.new }
 {
     let raw_duration = reader.i64(source)?;
     let rules = read_counted_rules(alloc, reader, source)?;

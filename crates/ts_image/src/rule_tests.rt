@@ -3,11 +3,11 @@ ghost use Rattle.std.specs.Prelude.{◌≡◌, ◌+ℤ◌, ◌^◌, ◌≤◌, �
 ghost use Rattle.std.specs.List.{AllByRecursion};
 ghost use Rattle.ts_core.specs.facts.Times.{IsTime};
 ghost use Rattle.ts_core.specs.store.Marks.{index_of};
-ghost use Rattle.ts_image.specs.ImageTests.{rule_in, ahead_of_mark, IsLow, AreLows, AreImageCells, CellsAre, frozen_in, points_of_measurement};
-ghost use Rattle.ts_image.specs.RuleParts.{rule_of};
+ghost use Rattle.ts_image.specs.ImageTests.{rule_in, ahead_of_mark, IsLow, AreLows, AreImageCells, CellsAre, count_frozen, points_of_measurement};
+ghost use Rattle.ts_image.specs.RuleParts.{rule_from_parts};
 ghost use Rattle.ts_image.specs.SeriesParts.{series_of_parts};
-ghost use Rattle.ts_image.specs.CellParts.{cells_of};
-ghost use Rattle.ts_image.specs.TestParts.{IsCounted, AreCountedAll, IsLong};
+ghost use Rattle.ts_image.specs.CellParts.{cells_of_parts};
+ghost use Rattle.ts_image.specs.TestParts.{HasCountedFacts, AreCountedAll, HasLongInterval};
 
 use crate::cell_reading::CellParts;
 use crate::cell_tests::are_cells;
@@ -30,7 +30,7 @@ fn ahead_of_mark(version: Version) -> i128
 /// Returns the index of the rule's bucket that contains a time.
 fn index_at<A: Allocator>(rule: &RuleParts<A>, time: &i64) -> i128
     requires { pos 1 ≤ℤ rule.now.interval }
-    ensures index { result ≡ index_of (rule_in (rule_of rule.now)) time.now }
+    ensures index { result ≡ index_of (rule_in (rule_from_parts rule.now)) time.now }
     ensures near { unsigned_abs result ≤ 2 ^ 65 }
 {
     rule.buckets().index(i128::from(*time))
@@ -39,7 +39,7 @@ fn index_at<A: Allocator>(rule: &RuleParts<A>, time: &i64) -> i128
 /// Returns the greatest low index that a rule may have.
 fn most_low<A: Allocator>(version: Version, mark: &i64, rule: &RuleParts<A>) -> i128
     requires { pos 1 ≤ℤ rule.now.interval }
-    ensures { result ≡ index_of (rule_in (rule_of rule.now)) mark.now +ℤ ahead_of_mark version }
+    ensures { result ≡ index_of (rule_in (rule_from_parts rule.now)) mark.now +ℤ ahead_of_mark version }
 {
     index_at(rule, mark) + ahead_of_mark(version)
 }
@@ -58,7 +58,7 @@ fn is_up_to(most: i128, low: &i64) -> bool
 
 fn is_low<A: Allocator>(version: Version, mark: &i64, rule: &RuleParts<A>, low: &i64) -> bool
     requires { pos 1 ≤ℤ rule.now.interval }
-    ensures { IsTrue result ↔ IsLow version mark.now (rule_of rule.now) low.now }
+    ensures { IsTrue result ↔ IsLow version mark.now (rule_from_parts rule.now) low.now }
 {
     if !is_from(index_at(rule, &-9_223_372_036_854_775_806), low) {
         return false;
@@ -73,8 +73,8 @@ pub(crate) fn are_lows<A: Allocator>(
     rules: &[RuleParts<A>],
     lows: &[i64],
 ) -> bool
-    requires { AllByRecursion IsLong rules.now }
-    ensures { IsTrue result ↔ AreLows version mark.now (map rule_of rules.now) lows.now }
+    requires { AllByRecursion HasLongInterval rules.now }
+    ensures { IsTrue result ↔ AreLows version mark.now (map rule_from_parts rules.now) lows.now }
 {
     match (rules.split_first(), lows.split_first()) {
         (None, None) => true,
@@ -92,7 +92,7 @@ fn are_cells_of<A: Allocator>(
     cells: &Vec<CellParts<A>, A>,
 ) -> bool
     requires { pos 1 ≤ℤ rule.now.interval }
-    ensures { IsTrue result ↔ AreImageCells mark.now (rule_of rule.now) low.now (cells_of cells.now) }
+    ensures { IsTrue result ↔ AreImageCells mark.now (rule_from_parts rule.now) low.now (cells_of_parts cells.now) }
 {
     are_cells(mark, rule, low, cells)
 }
@@ -104,8 +104,8 @@ pub(crate) fn are_all_cells<A: Allocator>(
     lows: &[i64],
     cells: &[Vec<CellParts<A>, A>],
 ) -> bool
-    requires { AllByRecursion IsLong rules.now }
-    ensures { IsTrue result ↔ CellsAre mark.now (map rule_of rules.now) lows.now (map cells_of cells.now) }
+    requires { AllByRecursion HasLongInterval rules.now }
+    ensures { IsTrue result ↔ CellsAre mark.now (map rule_from_parts rules.now) lows.now (map cells_of_parts cells.now) }
 {
     match (rules.split_first(), lows.split_first(), cells.split_first()) {
         (Some((rule, rules)), Some((low, lows)), Some((first, cells))) => {
@@ -122,7 +122,7 @@ fn is_counted<A: Allocator>(
     rule: &RuleParts<A>,
     cells: &Vec<CellParts<A>, A>,
 ) -> bool
-    ensures { IsTrue result ↔ IsCounted accepted (map series_of_parts series.now) (rule_of rule.now) (cells_of cells.now) }
+    ensures { IsTrue result ↔ HasCountedFacts accepted (map series_of_parts series.now) (rule_from_parts rule.now) (cells_of_parts cells.now) }
 {
     match take_cells(accepted, cells) {
         Some(left) => take_measurement(left, series, rule.measurement.as_str()).is_some(),
@@ -137,7 +137,7 @@ pub(crate) fn are_counted<A: Allocator>(
     rules: &[RuleParts<A>],
     cells: &[Vec<CellParts<A>, A>],
 ) -> bool
-    ensures { IsTrue result ↔ AreCountedAll accepted (map series_of_parts series.now) (map rule_of rules.now) (map cells_of cells.now) }
+    ensures { IsTrue result ↔ AreCountedAll accepted (map series_of_parts series.now) (map rule_from_parts rules.now) (map cells_of_parts cells.now) }
 {
     match (rules.split_first(), cells.split_first()) {
         (Some((rule, rules)), Some((first, cells))) => {

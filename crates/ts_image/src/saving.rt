@@ -4,7 +4,7 @@ ghost use Rattle.std.specs.List.{AllByRecursion};
 ghost use Rattle.ts_core.specs.io.Devices.{IsPut};
 ghost use Rattle.ts_image.specs.declared.version.Version.TheVariants.{V2};
 ghost use Rattle.ts_image.specs.Images.{image, image_text};
-ghost use Rattle.ts_image.specs.FieldWriting.{Puts};
+ghost use Rattle.ts_image.specs.FieldWriting.{PutsField};
 ghost use Rattle.ts_image.specs.Saving.{image_of, HasItsColumns, FitsImage, IsSaved};
 
 use crate::cell_saving::put_cells_from;
@@ -30,7 +30,7 @@ fn put_data<W: Write, A: Allocator + Copy>(
 ) -> Result<(), Refused>
     requires fits { FitsImage store.now all.now }
     requires columns { AllByRecursion (HasItsColumns store.now) all.now }
-    ensures { Puts (image V2) (image_of store.now all.now) sink.old out.old result sink.new out.new }
+    ensures { PutsField (image V2) (image_of store.now all.now) sink.old out.old result sink.new out.new }
 {
     put_settings(store.settings(), out, sink)?;
     put_marks(store.marks(), out, sink)?;

@@ -4,8 +4,8 @@ ghost use Rattle.std.specs.Int.{w8, w32, w64};
 ghost use Rattle.ts_core.specs.io.ReadingAhead.{EndIsEnd};
 ghost use Rattle.ts_image.specs.Formats.{text, also, times, list_of};
 ghost use Rattle.ts_image.specs.Images.{flag, image_series_key, image_column, image_series};
-ghost use Rattle.ts_image.specs.FieldReading.{Reads};
-ghost use Rattle.ts_image.specs.SeriesParts.{tag_of, tags_of, key_of, column_of_parts, columns_of, series_of_parts, all_series_of};
+ghost use Rattle.ts_image.specs.FieldReading.{ReadsField};
+ghost use Rattle.ts_image.specs.SeriesParts.{tag_of, tags_of_parts, key_of, column_of_parts, column_parts_of, series_of_parts, all_series_of};
 
 use crate::column_reading::read_counted_points;
 use crate::field_fault::FieldFault;
@@ -44,7 +44,7 @@ pub(crate) fn read_flag<R: Read, A: Allocator + Copy>(
     version: Version,
 ) -> Result<u8, FieldFault>
     requires { EndIsEnd reader.old.ahead source.old }
-    ensures { Reads (flag version) (λ n. n) reader.old source.old result reader.new source.new }
+    ensures { ReadsField (flag version) (λ n. n) reader.old source.old result reader.new source.new }
 {
     match version {
         Version::V1 => Ok(0),
@@ -60,7 +60,7 @@ fn read_column<R: Read, A: Allocator + Copy>(
     version: Version,
 ) -> Result<ColumnParts<A>, FieldFault>
     requires { EndIsEnd reader.old.ahead source.old }
-    ensures { Reads (image_column version) column_of_parts reader.old source.old result reader.new source.new }
+    ensures { ReadsField (image_column version) column_of_parts reader.old source.old result reader.new source.new }
 {
     let field = reader.text(alloc, source)?;
     let waits = read_flag(reader, source, version)?;
@@ -81,7 +81,7 @@ fn read_columns<R: Read, A: Allocator + Copy>(
     count: u64,
 ) -> Result<Vec<ColumnParts<A>, A>, FieldFault>
     requires { EndIsEnd reader.old.ahead source.old }
-    ensures { Reads (times count (image_column version)) columns_of reader.old source.old result reader.new source.new }
+    ensures { ReadsField (times count (image_column version)) column_parts_of reader.old source.old result reader.new source.new }
 {
     let mut columns = Vec::new(alloc);
     for _ in 0..count {
@@ -99,7 +99,7 @@ fn read_counted_columns<R: Read, A: Allocator + Copy>(
     version: Version,
 ) -> Result<Vec<ColumnParts<A>, A>, FieldFault>
     requires { EndIsEnd reader.old.ahead source.old }
-    ensures { Reads (list_of w64 (image_column version)) columns_of reader.old source.old result reader.new source.new }
+    ensures { ReadsField (list_of w64 (image_column version)) column_parts_of reader.old source.old result reader.new source.new }
 {
     let count = reader.u64(source)?;
     read_columns(alloc, reader, source, version, count)
@@ -112,7 +112,7 @@ fn read_tag<R: Read, A: Allocator + Copy>(
     source: &mut Source<R>,
 ) -> Result<(String<A>, String<A>), FieldFault>
     requires { EndIsEnd reader.old.ahead source.old }
-    ensures { Reads (also text text) tag_of reader.old source.old result reader.new source.new }
+    ensures { ReadsField (also text text) tag_of reader.old source.old result reader.new source.new }
 {
     let key = reader.text(alloc, source)?;
     let value = reader.text(alloc, source)?;
@@ -127,7 +127,7 @@ fn read_tags<R: Read, A: Allocator + Copy>(
     count: u8,
 ) -> Result<Vec<(String<A>, String<A>), A>, FieldFault>
     requires { EndIsEnd reader.old.ahead source.old }
-    ensures { Reads (times count (also text text)) tags_of reader.old source.old result reader.new source.new }
+    ensures { ReadsField (times count (also text text)) tags_of_parts reader.old source.old result reader.new source.new }
 {
     let mut tags = Vec::new(alloc);
     for _ in 0..count {
@@ -144,7 +144,7 @@ fn read_counted_tags<R: Read, A: Allocator + Copy>(
     source: &mut Source<R>,
 ) -> Result<Vec<(String<A>, String<A>), A>, FieldFault>
     requires { EndIsEnd reader.old.ahead source.old }
-    ensures { Reads (list_of w8 (also text text)) tags_of reader.old source.old result reader.new source.new }
+    ensures { ReadsField (list_of w8 (also text text)) tags_of_parts reader.old source.old result reader.new source.new }
 {
     let count = reader.u8(source)?;
     read_tags(alloc, reader, source, count)
@@ -157,7 +157,7 @@ fn read_key<R: Read, A: Allocator + Copy>(
     source: &mut Source<R>,
 ) -> Result<KeyParts<A>, FieldFault>
     requires { EndIsEnd reader.old.ahead source.old }
-    ensures { Reads image_series_key key_of reader.old source.old result reader.new source.new }
+    ensures { ReadsField image_series_key key_of reader.old source.old result reader.new source.new }
 {
     let measurement = reader.text(alloc, source)?;
     let tags = read_counted_tags(alloc, reader, source)?;
@@ -172,7 +172,7 @@ fn read_series<R: Read, A: Allocator + Copy>(
     version: Version,
 ) -> Result<SeriesParts<A>, FieldFault>
     requires { EndIsEnd reader.old.ahead source.old }
-    ensures { Reads (image_series version) series_of_parts reader.old source.old result reader.new source.new }
+    ensures { ReadsField (image_series version) series_of_parts reader.old source.old result reader.new source.new }
 {
     let key = read_key(alloc, reader, source)?;
     let columns = read_counted_columns(alloc, reader, source, version)?;
@@ -188,7 +188,7 @@ fn read_all_series<R: Read, A: Allocator + Copy>(
     count: u32,
 ) -> Result<Vec<SeriesParts<A>, A>, FieldFault>
     requires { EndIsEnd reader.old.ahead source.old }
-    ensures { Reads (times count (image_series version)) all_series_of reader.old source.old result reader.new source.new }
+    ensures { ReadsField (times count (image_series version)) all_series_of reader.old source.old result reader.new source.new }
 {
     let mut series = Vec::new(alloc);
     for _ in 0..count {
@@ -206,7 +206,7 @@ pub(crate) fn read_counted_series<R: Read, A: Allocator + Copy>(
     version: Version,
 ) -> Result<Vec<SeriesParts<A>, A>, FieldFault>
     requires { EndIsEnd reader.old.ahead source.old }
-    ensures { Reads (list_of w32 (image_series version)) all_series_of reader.old source.old result reader.new source.new }
+    ensures { ReadsField (list_of w32 (image_series version)) all_series_of reader.old source.old result reader.new source.new }
 {
     let count = reader.u32(source)?;
     read_all_series(alloc, reader, source, version, count)

@@ -5,10 +5,11 @@ ghost use Rattle.std.specs.List.{AllByRecursion};
 ghost use Rattle.ts_core.specs.facts.Facts.{Text, Series, text_cmp, series_cmp};
 ghost use Rattle.ts_core.specs.facts.Times.{IsTime};
 ghost use Rattle.ts_image.specs.Images.{ImageColumn, ImageSeries};
-ghost use Rattle.ts_image.specs.ImageTests.{AreRising, IsKeyName, IsImagePoint, IsImageColumn, IsImageSeriesKey, IsImageSeries};
+ghost use Rattle.ts_image.specs.ImageTests.{IsKeyName, IsImagePoint, IsImageColumn, IsImageSeriesKey, IsImageSeries};
+ghost use Rattle.ts_store.specs.image.SavedContent.{AreRising};
 ghost use Rattle.ts_image.specs.PointParts.{point_of};
 ghost use Rattle.ts_image.specs.SeriesParts.{tag_of, key_of, column_of_parts, series_of_parts};
-ghost use Rattle.ts_image.specs.TestParts.{IsTag, key_of_tag, field_of, time_of, series_key_of};
+ghost use Rattle.ts_image.specs.TestParts.{IsTag, key_of_tag, field_of, time_of_parts, series_key_of};
 
 use crate::series_reading::{ColumnParts, KeyParts, SeriesParts};
 use std::alloc::Allocator;
@@ -89,13 +90,13 @@ fn are_points(mark: &i64, waits: u8, points: &[(i64, i64)]) -> bool
 }
 
 fn is_point_before(a: &(i64, i64), b: &(i64, i64)) -> bool
-    ensures { IsTrue result ↔ (is_lt (int_cmp (time_of a.now) (time_of b.now)) ≡ true) }
+    ensures { IsTrue result ↔ (is_lt (int_cmp (time_of_parts a.now) (time_of_parts b.now)) ≡ true) }
 {
     a.0 < b.0
 }
 
 fn are_points_rising(points: &[(i64, i64)]) -> bool
-    ensures { IsTrue result ↔ AreRising int_cmp (map time_of points.now) }
+    ensures { IsTrue result ↔ AreRising int_cmp (map time_of_parts points.now) }
 {
     for i in 1..points.len() {
         if !is_point_before(&points[i - 1], &points[i]) {

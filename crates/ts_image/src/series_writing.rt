@@ -5,7 +5,7 @@ ghost use Rattle.ts_core.specs.text.Texts.{owned_pairs};
 ghost use Rattle.ts_image.specs.Formats.{text, also, list_of};
 ghost use Rattle.ts_image.specs.Images.{image_series_key};
 ghost use Rattle.ts_image.specs.SeriesParts.{tag_of};
-ghost use Rattle.ts_image.specs.FieldWriting.{Puts, PutsAll};
+ghost use Rattle.ts_image.specs.FieldWriting.{PutsField, PutsAll};
 
 use crate::field_writing::{put_text, put_u8};
 use std::alloc::Allocator;
@@ -18,7 +18,7 @@ fn put_tag<W: Write, A: Allocator>(
     out: &mut OutputBuffer<A>,
     sink: &mut Sink<W>,
 ) -> Result<(), Refused>
-    ensures { Puts (also text text) (tag_of tag.now) sink.old out.old result sink.new out.new }
+    ensures { PutsField (also text text) (tag_of tag.now) sink.old out.old result sink.new out.new }
 {
     put_text(tag.0.as_str(), out, sink)?;
     put_text(tag.1.as_str(), out, sink)
@@ -45,7 +45,7 @@ fn put_counted_tags<W: Write, A: Allocator>(
     sink: &mut Sink<W>,
 ) -> Result<(), Refused>
     requires { length tags.now < 256 }
-    ensures { Puts (list_of w8 (also text text)) (owned_pairs tags.now) sink.old out.old result sink.new out.new }
+    ensures { PutsField (list_of w8 (also text text)) (owned_pairs tags.now) sink.old out.old result sink.new out.new }
 {
     put_u8(tags.len() as u8, out, sink)?;
     put_tags(tags, out, sink)
@@ -58,7 +58,7 @@ pub(crate) fn put_key<W: Write, A: Allocator + Copy>(
     sink: &mut Sink<W>,
 ) -> Result<(), Refused>
     requires { length key.now.tags < 256 }
-    ensures { Puts image_series_key key.now sink.old out.old result sink.new out.new }
+    ensures { PutsField image_series_key key.now sink.old out.old result sink.new out.new }
 {
     put_text(key.measurement(), out, sink)?;
     put_counted_tags(key.tags(), out, sink)

@@ -3,9 +3,9 @@ ghost use Rattle.std.specs.Prelude.{◌≡◌, ◌≤◌, ◌<◌, List, FitsSig
 ghost use Rattle.std.specs.List.{AllByRecursion};
 ghost use Rattle.std.specs.Int.{w8, w64};
 ghost use Rattle.ts_core.specs.settings.Settings.{AreKeptTags};
-ghost use Rattle.ts_image.specs.Formats.{text, signed, list_of};
+ghost use Rattle.ts_image.specs.Formats.{text, signed_number, list_of};
 ghost use Rattle.ts_image.specs.Images.{ImageRule, image_rule, image_settings, image_marks};
-ghost use Rattle.ts_image.specs.FieldWriting.{Puts, PutsAll};
+ghost use Rattle.ts_image.specs.FieldWriting.{PutsField, PutsAll};
 ghost use Rattle.ts_image.specs.SavedParts.{image_rule_of, image_settings_of};
 
 use crate::field_writing::{put_i64, put_index, put_text, put_texts, put_u8};
@@ -20,7 +20,7 @@ fn put_counted_texts<W: Write, A: Allocator>(
     sink: &mut Sink<W>,
 ) -> Result<(), Refused>
     requires { length texts.now < 256 }
-    ensures { Puts (list_of w8 text) (map string_bytes texts.now) sink.old out.old result sink.new out.new }
+    ensures { PutsField (list_of w8 text) (map string_bytes texts.now) sink.old out.old result sink.new out.new }
 {
     put_u8(texts.len() as u8, out, sink)?;
     put_texts(texts, out, sink)
@@ -33,7 +33,7 @@ fn put_rule<W: Write, A: Allocator>(
     sink: &mut Sink<W>,
 ) -> Result<(), Refused>
     requires { AreKeptTags rule.now.kept_tags }
-    ensures { Puts image_rule (image_rule_of rule.now) sink.old out.old result sink.new out.new }
+    ensures { PutsField image_rule (image_rule_of rule.now) sink.old out.old result sink.new out.new }
 {
     put_text(rule.name(), out, sink)?;
     put_text(rule.measurement(), out, sink)?;
@@ -66,7 +66,7 @@ fn put_counted_rules<W: Write, A: Allocator>(
 ) -> Result<(), Refused>
     requires few { length rules.now ≤ 32 }
     requires tags { AllByRecursion (λ r. AreKeptTags r.kept_tags) rules.now }
-    ensures { Puts (list_of w8 image_rule) (map image_rule_of rules.now) sink.old out.old result sink.new out.new }
+    ensures { PutsField (list_of w8 image_rule) (map image_rule_of rules.now) sink.old out.old result sink.new out.new }
 {
     put_u8(rules.len() as u8, out, sink)?;
     put_rules(rules, out, sink)
@@ -78,7 +78,7 @@ pub(crate) fn put_settings<W: Write, A: Allocator>(
     out: &mut OutputBuffer<A>,
     sink: &mut Sink<W>,
 ) -> Result<(), Refused>
-    ensures { Puts image_settings (image_settings_of settings.now) sink.old out.old result sink.new out.new }
+    ensures { PutsField image_settings (image_settings_of settings.now) sink.old out.old result sink.new out.new }
 {
     put_i64(&(settings.raw_duration() as i64), out, sink)?;
     put_counted_rules(settings.rules(), out, sink)
@@ -91,7 +91,7 @@ fn put_lows<W: Write, A: Allocator>(
     sink: &mut Sink<W>,
 ) -> Result<(), Refused>
     requires { AllByRecursion (FitsSigned w64) lows.now }
-    ensures { PutsAll (signed w64) lows.now sink.old out.old result sink.new out.new }
+    ensures { PutsAll (signed_number w64) lows.now sink.old out.old result sink.new out.new }
 {
     for low in lows {
         put_index(low, out, sink)?;
@@ -106,7 +106,7 @@ pub(crate) fn put_marks<W: Write, A: Allocator>(
     sink: &mut Sink<W>,
 ) -> Result<(), Refused>
     requires { AllByRecursion (FitsSigned w64) marks.now.lows }
-    ensures { (rules : List ImageRule) → length marks.now.lows ≡ length rules → Puts (image_marks rules) marks.now sink.old out.old result sink.new out.new }
+    ensures { (rules : List ImageRule) → length marks.now.lows ≡ length rules → PutsField (image_marks rules) marks.now sink.old out.old result sink.new out.new }
 {
     put_i64(&marks.raw().nanos(), out, sink)?;
     put_lows(marks.lows(), out, sink)

@@ -6,23 +6,24 @@ ghost use Rattle.ts_core.specs.facts.Facts.{Series, Column, series_cmp};
 ghost use Rattle.ts_core.specs.lists.Members.{Among};
 ghost use Rattle.ts_core.specs.lists.Numbered.{IsAt};
 ghost use Rattle.ts_core.specs.store.StoreStates.{column_of};
-ghost use Rattle.ts_core.specs.text.Texts.{lent_series};
+ghost use Rattle.ts_core.specs.text.Texts.{borrowed_series};
 ghost use Rattle.ts_core.specs.facts.Times.{IsTime};
-ghost use Rattle.ts_line.specs.Names.{IsNamed};
+ghost use Rattle.ts_line.specs.Names.{IsStatable};
 ghost use Rattle.ts_store.specs.image.Building.{new_built, with_series, with_column, with_cell, cell_map_at};
-ghost use Rattle.ts_image.specs.CellParts.{cell_key_of, cell_of_parts, cells_of};
+ghost use Rattle.ts_image.specs.CellParts.{cell_key_of, cell_of_parts, cells_of_parts};
 ghost use Rattle.ts_image.specs.ImageReading.{image_of};
-ghost use Rattle.ts_image.specs.ImageTests.{AreRising, IsImageSeriesKey, IsPossible, settings_in};
+ghost use Rattle.ts_image.specs.ImageTests.{IsImageSeriesKey, IsPossible, settings_of_image};
+ghost use Rattle.ts_store.specs.image.SavedContent.{AreRising};
 ghost use Rattle.ts_image.specs.PartsMade.{HasPart};
-ghost use Rattle.ts_image.specs.Pictures.{points_in, part_of};
+ghost use Rattle.ts_image.specs.Pictures.{image_points_in, cell_part_of};
 ghost use Rattle.ts_image.specs.RuleParts.{settings_of_parts};
-ghost use Rattle.ts_image.specs.SeriesParts.{column_of_parts, columns_of, key_of, series_of_parts, all_series_of};
-ghost use Rattle.ts_image.specs.StoresMade.{IsAddedColumn, AreAddedColumns, IsAddedSeries, AreAddedCells, is_waiting, with_columns, with_all_series, key_in, with_cells_at, with_all_cells, IsStoreOf};
+ghost use Rattle.ts_image.specs.SeriesParts.{column_of_parts, column_parts_of, key_of, series_of_parts, all_series_of};
+ghost use Rattle.ts_image.specs.StoresMade.{IsAddedColumn, AreAddedColumns, IsAddedSeries, AreAddedCells, is_column_waiting, with_image_columns, with_all_series, key_in, with_cells_at, with_all_cells, IsStoreOf};
 
 use crate::cell_reading::CellParts;
 use crate::image_loading::LoadedImage;
 use crate::image_reading::ImageParts;
-use crate::part_making::{lend_tags, lend_texts, make_marks, make_part, make_points};
+use crate::part_making::{borrow_tags, borrow_texts, make_marks, make_part, make_points};
 use crate::series_reading::{ColumnParts, KeyParts, SeriesParts};
 use arrayvec::ArrayVec;
 use std::alloc::{AllocError, Allocator};
@@ -40,7 +41,7 @@ fn add_column<A: Allocator + Copy>(
     requires registered { series < length builder.old.series }
     requires absent { (s : Series) → IsAt builder.old.series series s → Among (record { series = s; field = string_bytes parts.field }) (map column_of builder.old.columns) → ⊥ }
     requires column { IsAddedColumn (column_of_parts parts) }
-    ensures { (s : Series) → IsAt builder.old.series series s → OnOk result (builder.new ≡ with_column (points_in s (column_of_parts parts)) (is_waiting (column_of_parts parts)) builder.old) }
+    ensures { (s : Series) → IsAt builder.old.series series s → OnOk result (builder.new ≡ with_column (image_points_in s (column_of_parts parts)) (is_column_waiting (column_of_parts parts)) builder.old) }
 {
     let points = make_points(alloc, &parts.points)?;
     builder.add_column(series, parts.field.as_str(), parts.waits == 1, points)
@@ -55,8 +56,8 @@ fn add_columns<A: Allocator + Copy>(
 ) -> Result<(), AllocError>
     requires registered { series < length builder.old.series }
     requires none { (s : Series) → IsAt builder.old.series series s → (c : Column) → Among c (map column_of builder.old.columns) → c.series ≡ s → ⊥ }
-    requires columns { AreAddedColumns (columns_of columns) }
-    ensures { (s : Series) → IsAt builder.old.series series s → OnOk result (builder.new ≡ with_columns s (columns_of columns) builder.old) }
+    requires columns { AreAddedColumns (column_parts_of columns) }
+    ensures { (s : Series) → IsAt builder.old.series series s → OnOk result (builder.new ≡ with_image_columns s (column_parts_of columns) builder.old) }
 {
     for parts in columns {
         add_column(alloc, builder, series, parts)?;
@@ -70,11 +71,11 @@ fn register<A: Allocator + Copy>(
     measurement: &str,
     tags: &[(&str, &str)],
 ) -> Result<SeriesId, AllocError>
-    requires absent { Among (lent_series measurement.now tags.now) builder.old.series → ⊥ }
+    requires absent { Among (borrowed_series measurement.now tags.now) builder.old.series → ⊥ }
     requires few { length builder.old.series < 1000000 }
-    requires named { IsNamed (lent_series measurement.now tags.now) }
-    ensures number { IfOk result (λ n. IsAt builder.new.series n (lent_series measurement.now tags.now)) }
-    ensures ok { OnOk result (builder.new ≡ with_series (lent_series measurement.now tags.now) builder.old) }
+    requires named { IsStatable (borrowed_series measurement.now tags.now) }
+    ensures number { IfOk result (λ n. IsAt builder.new.series n (borrowed_series measurement.now tags.now)) }
+    ensures ok { OnOk result (builder.new ≡ with_series (borrowed_series measurement.now tags.now) builder.old) }
 {
     let key = KeyRef::new(measurement, tags);
     builder.add_series(&key)
@@ -92,7 +93,7 @@ fn add_key<A: Allocator + Copy>(
     ensures ok { OnOk result (builder.new ≡ with_series (key_of key.now) builder.old) }
 {
     let mut tags = ArrayVec::<_, 64>::new();
-    lend_tags(&key.tags, &mut tags);
+    borrow_tags(&key.tags, &mut tags);
     register(builder, key.measurement.as_str(), &tags)
 }
 
@@ -142,9 +143,9 @@ fn add_cell<A: Allocator + Copy>(
     requires rule { rule < length builder.old.settings.rules }
     requires absent { finmap.get (cell_map_at builder.old.cells rule) (cell_key_of parts.now.key) ≡ None }
     requires part { HasPart (cell_of_parts parts.now) }
-    ensures { OnOk result (builder.new ≡ with_cell rule (cell_key_of parts.now.key) (part_of (cell_of_parts parts.now)) builder.old) }
+    ensures { OnOk result (builder.new ≡ with_cell rule (cell_key_of parts.now.key) (cell_part_of (cell_of_parts parts.now)) builder.old) }
 {
-    let group = lend_texts(alloc, &parts.key.group)?;
+    let group = borrow_texts(alloc, &parts.key.group)?;
     let index = i128::from(parts.key.index);
     builder.add_cell(
         rule,
@@ -182,8 +183,8 @@ fn add_all_cells<A: Allocator + Copy>(
 ) -> Result<(), AllocError>
     requires each { length cells.now ≡ length builder.old.settings.rules }
     requires none { builder.old.cells ≡ map (λ r. finmap.empty) builder.old.settings.rules }
-    requires cells { AllByRecursion AreAddedCells (map cells_of cells.now) }
-    ensures { OnOk result (builder.new ≡ with_all_cells (map cells_of cells.now) builder.old) }
+    requires cells { AllByRecursion AreAddedCells (map cells_of_parts cells.now) }
+    ensures { OnOk result (builder.new ≡ with_all_cells (map cells_of_parts cells.now) builder.old) }
 {
     for (rule, list) in cells.iter().enumerate() {
         add_cells(alloc, builder, rule, list)?;
@@ -210,7 +211,7 @@ pub(crate) fn make_store<A: Allocator + Copy>(
     image: LoadedImage<A>,
 ) -> Result<Store<A>, AllocError>
     requires possible { IsPossible image.version (image_of image.parts) }
-    requires settings { image.settings ≡ settings_in (settings_of_parts image.parts.settings) }
+    requires settings { image.settings ≡ settings_of_image (settings_of_parts image.parts.settings) }
     ensures { IfOk result (IsStoreOf (image_of image.parts)) }
 {
     let LoadedImage {

@@ -11,7 +11,7 @@ use Rattle.ts_core.specs.lists.Members.{Among, AllDistinct}
 use Rattle.ts_line.specs.Parts.{LinePart, AreFields, field_text}
 use Rattle.ts_line.specs.declared.fault.ReadLineError.{ReadLineError}
 use Rattle.ts_line.specs.declared.fault.ReadLineError.TheVariants as errors
-use Rattle.ts_line.specs.ReadSteps.{FailsIfRoom}
+use Rattle.ts_line.specs.ReadSteps.{FailsIfMemory}
 use Rattle.ts_line.specs.Fields.{next_field, offset_from, with_field, fields_at}
 
 pub field_taken : (n : ℕ) (before : List (LinePart × ℤ)) (line : Text) (at : ℕ) (f : LinePart × ℤ) (end : ℕ) (total : Result (List (LinePart × ℤ) × ℕ) LineFault) → n < 256 → slice_index line end ≡ 44
@@ -47,7 +47,7 @@ too_many n before line at total le so_far =
     sym so_far ∙ one
 
 pub field_fails : (n : ℕ) (before : List (LinePart × ℤ)) (line : Text) (at : ℕ) (e : ReadLineError) (total : Result (List (LinePart × ℤ) × ℕ) LineFault) → n < 256
-    → FailsIfRoom e (next_field line at) → fields_at (256 - n) before line at ≡ total → FailsIfRoom e total
+    → FailsIfMemory e (next_field line at) → fields_at (256 - n) before line at ≡ total → FailsIfMemory e total
 field_fails n before line at errors.OutOfMemory total lt read so_far = tt
 field_fails n before line at (errors.Fault f) total lt read so_far = field_failed n before line at f total lt read so_far
 

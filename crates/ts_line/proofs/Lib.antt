@@ -16,7 +16,7 @@ pub mod SpansLemmas
 pub mod NameFacts
 -- Lines: their parts one after another
 pub mod LineLemmas
--- TagParts, Fields, NameMarks: tag by tag, field by field
+-- TagParts, Fields, NameFilters: tag by tag, field by field
 pub mod TagLemmas
 pub mod FieldLemmas
 pub mod MarkLemmas

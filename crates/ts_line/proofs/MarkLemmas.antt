@@ -5,7 +5,7 @@ use Rattle.std.proofs.lemmas.Slice.Eq.{bytes_eq-Decides}
 use Rattle.ts_core.specs.facts.Facts.{Text}
 use Rattle.ts_line.specs.Parts.{LinePart}
 use Rattle.ts_line.specs.Fields.{offset_from, with_field}
-use Rattle.ts_line.specs.NameMarks.{slot_of, AreMarked, AreKeysMarked}
+use Rattle.ts_line.specs.NameFilters.{slot_of, AreInFilter, AreKeysInFilter}
 use Rattle.ts_line.specs.TagParts.{has_key}
 use Rattle.ts_line.proofs.FieldLemmas.{field_pushed}
 
@@ -21,19 +21,19 @@ new_by marks name g gs at true e bare mark rest =
     absurd cc
 new_by marks name g gs at false e bare mark rest = rw e rest
 
-new_in : (marks : List Bool) (name : Text) (fields : List (LinePart × ℤ)) (at : ℕ) → slice_index_or marks (slot_of name) false ≡ false → AreMarked marks fields → offset_from at name fields ≡ None
+new_in : (marks : List Bool) (name : Text) (fields : List (LinePart × ℤ)) (at : ℕ) → slice_index_or marks (slot_of name) false ≡ false → AreInFilter marks fields → offset_from at name fields ≡ None
 new_in marks name [] at bare all = refl
 new_in marks name (g ∷ gs) at bare all = new_by marks name g gs at (bytes_eq g.0.text name) refl bare all.0 (new_in marks name gs (at + 1) bare all.1)
 
-pub unmarked_pushed : (marks : List Bool) (f : LinePart × ℤ) (fields : List (LinePart × ℤ)) → slice_index_or marks (slot_of f.0.text) false ≡ false → AreMarked marks fields → fields ++ f ∷ [] ≡ with_field fields f
+pub unmarked_pushed : (marks : List Bool) (f : LinePart × ℤ) (fields : List (LinePart × ℤ)) → slice_index_or marks (slot_of f.0.text) false ≡ false → AreInFilter marks fields → fields ++ f ∷ [] ≡ with_field fields f
 unmarked_pushed marks f fields bare all = field_pushed f fields (sym (new_in marks f.0.text fields 0 bare all))
 
 -- a field put among others keeps the marks
-with_by : (marks : List Bool) (g f : LinePart × ℤ) (gs : List (LinePart × ℤ)) (b : Bool) → bytes_eq g.0.text f.0.text ≡ b → Mark marks g.0.text → AreMarked marks gs → AreMarked marks (with_field gs f) → AreMarked marks (with_field (g ∷ gs) f)
+with_by : (marks : List Bool) (g f : LinePart × ℤ) (gs : List (LinePart × ℤ)) (b : Bool) → bytes_eq g.0.text f.0.text ≡ b → Mark marks g.0.text → AreInFilter marks gs → AreInFilter marks (with_field gs f) → AreInFilter marks (with_field (g ∷ gs) f)
 with_by marks g f gs true e mark all rest = rw e (mark, all)
 with_by marks g f gs false e mark all rest = rw e (mark, rest)
 
-pub with_marked : (marks : List Bool) (fields : List (LinePart × ℤ)) (f : LinePart × ℤ) → AreMarked marks fields → Mark marks f.0.text → AreMarked marks (with_field fields f)
+pub with_marked : (marks : List Bool) (fields : List (LinePart × ℤ)) (f : LinePart × ℤ) → AreInFilter marks fields → Mark marks f.0.text → AreInFilter marks (with_field fields f)
 with_marked marks [] f all mark = (mark, tt)
 with_marked marks (g ∷ gs) f all mark = with_by marks g f gs (bytes_eq g.0.text f.0.text) refl all.0 all.1 (with_marked marks gs f all.1 mark)
 
@@ -45,14 +45,14 @@ kept (x ∷ xs) zero (suc i) mark = mark
 kept (x ∷ xs) (suc s) zero mark = mark
 kept (x ∷ xs) (suc s) (suc i) mark = kept xs s i mark
 
-all_kept : (marks : List Bool) (slot : ℕ) (fields : List (LinePart × ℤ)) → AreMarked marks fields → AreMarked (set marks slot true) fields
+all_kept : (marks : List Bool) (slot : ℕ) (fields : List (LinePart × ℤ)) → AreInFilter marks fields → AreInFilter (set marks slot true) fields
 all_kept marks slot [] all = tt
 all_kept marks slot (g ∷ gs) all = (kept marks slot (slot_of g.0.text) all.0, all_kept marks slot gs all.1)
 
 marked_at : (marks : List Bool) (slot : ℕ) → slot < length marks → get_or (set marks slot true) slot false ≡ true
 marked_at marks slot lt = get_or-set_same marks slot true false lt
 
-pub push_marked : (marks : List Bool) (f : LinePart × ℤ) (fields : List (LinePart × ℤ)) → slot_of f.0.text < length marks → AreMarked marks fields → AreMarked (set marks (slot_of f.0.text) true) (with_field fields f)
+pub push_marked : (marks : List Bool) (f : LinePart × ℤ) (fields : List (LinePart × ℤ)) → slot_of f.0.text < length marks → AreInFilter marks fields → AreInFilter (set marks (slot_of f.0.text) true) (with_field fields f)
 push_marked marks f fields lt all =
     with_marked (set marks (slot_of f.0.text) true) fields f (all_kept marks (slot_of f.0.text) fields all) (marked_at marks (slot_of f.0.text) lt)
 
@@ -67,11 +67,11 @@ key_by marks key g gs true e bare mark rest =
     absurd cc
 key_by marks key g gs false e bare mark rest = rw e rest
 
-pub unmarked_key : (marks : List Bool) (key : Text) (tags : List (LinePart × LinePart)) → slice_index_or marks (slot_of key) false ≡ false → AreKeysMarked marks tags → has_key tags key ≡ false
+pub unmarked_key : (marks : List Bool) (key : Text) (tags : List (LinePart × LinePart)) → slice_index_or marks (slot_of key) false ≡ false → AreKeysInFilter marks tags → has_key tags key ≡ false
 unmarked_key marks key [] bare all = refl
 unmarked_key marks key (g ∷ gs) bare all = key_by marks key g gs (bytes_eq g.0.text key) refl bare all.0 (unmarked_key marks key gs bare all.1)
 
 -- another slot is set
-pub keys_kept : (marks : List Bool) (slot : ℕ) (tags : List (LinePart × LinePart)) → AreKeysMarked marks tags → AreKeysMarked (set marks slot true) tags
+pub keys_kept : (marks : List Bool) (slot : ℕ) (tags : List (LinePart × LinePart)) → AreKeysInFilter marks tags → AreKeysInFilter (set marks slot true) tags
 keys_kept marks slot [] all = tt
 keys_kept marks slot (g ∷ gs) all = (kept marks slot (slot_of g.0.text) all.0, keys_kept marks slot gs all.1)

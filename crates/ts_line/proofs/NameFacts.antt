@@ -10,7 +10,7 @@ use Rattle.std.specs.declared.cmp.Ordering.TheVariants.{Less, Equal, Greater}
 use Rattle.ts_core.specs.facts.Facts.{Text, text_cmp}
 use Rattle.ts_line.specs.declared.scan.Stops.{Stops}
 use Rattle.ts_line.specs.declared.scan.Stops.TheVariants.{Comma, Equals}
-use Rattle.ts_line.specs.Names.{IsName, IsKey, AreKeys, AreTagTexts, IsNamed}
+use Rattle.ts_line.specs.Names.{IsName, IsKey, AreKeys, AreTagTexts, IsStatable}
 use Rattle.ts_line.specs.Parts.{LinePart, Parts, tag_texts, field_text, series_of, AreFields, AreParts}
 use Rattle.ts_line.specs.Scan.{is_backslash, spaces_end}
 use Rattle.ts_line.specs.PartTexts.{begins_escapable, unescaped}
@@ -114,7 +114,7 @@ all_few [] = omega arith
 all_few (t ∷ ts) = omega (arith, put_longer t.0 t.1 (put_all ts []), all_few ts)
 
 -- the series of a line is one that a line can state
-series_named : (p : Parts) → AreParts p.measurement p.tags p.fields → IsNamed (series_of p)
+series_named : (p : Parts) → AreParts p.measurement p.tags p.fields → IsStatable (series_of p)
 series_named p are =
     let ts = map tag_texts p.tags in
     let es = entries_put_all ts in
@@ -125,5 +125,5 @@ series_named p are =
       set = entries_sorted (finmap.from_entries {R = text_cmp} ts);
     }
 
-pub named_as : (q p : Parts) → q ≡ p → AreParts q.measurement q.tags q.fields → IsNamed (series_of p)
-named_as q p is are = subst (λ (x : Parts). IsNamed (series_of x)) is (series_named q are)
+pub named_as : (q p : Parts) → q ≡ p → AreParts q.measurement q.tags q.fields → IsStatable (series_of p)
+named_as q p is are = subst (λ (x : Parts). IsStatable (series_of x)) is (series_named q are)

@@ -6,42 +6,42 @@ use Rattle.std.specs.Cmp.Lexicographic.{nat_list_cmp_total}
 use Rattle.std.specs.declared.cmp.Ordering.{Ordering}
 use Rattle.std.specs.declared.cmp.Ordering.TheVariants.{Less, Equal, Greater}
 use Rattle.ts_core.specs.facts.Facts.{Text, text_cmp}
-use Rattle.ts_core.specs.text.Texts.{lent_pairs, IsTagSet}
+use Rattle.ts_core.specs.text.Texts.{borrowed_pairs, IsTagSet}
 use Rattle.ts_line.specs.Parts.{LinePart, tag_texts}
 use Rattle.ts_line.specs.Sorting.{key_offset_from, rise}
 use Rattle.std.specs.Ordering.{is_lt}
 use Rattle.std.proofs.lemmas.Bool.{and_parts}
 use Rattle.std.proofs.lemmas.List.{take_more, take_all, map_push}
 
-abbrev pub Lent : Type 0
-Lent = List (Bor Text × Bor Text)
+abbrev pub Borrowed : Type 0
+Borrowed = List (Bor Text × Bor Text)
 
 pub same_text : (a b : Text) → text_cmp a b ≡ Equal → a ≡ b
 same_text = slice_cmp-IsAntisymmetric nat_cmp-IsAntisymmetric
 
 -- ---- the key is there
 
-abbrev IsPutAt : Bor Text → Bor Text → Lent → ℕ → Type 0
-IsPutAt k v xs j = lent_pairs (set xs j (k, v)) ≡ put text_cmp k.now v.now (lent_pairs xs)
+abbrev IsPutAt : Bor Text → Bor Text → Borrowed → ℕ → Type 0
+IsPutAt k v xs j = borrowed_pairs (set xs j (k, v)) ≡ put text_cmp k.now v.now (borrowed_pairs xs)
 
-old_by : (k v : Bor Text) (x : Bor Text × Bor Text) (xs : Lent) (at i : ℕ) (r : Ordering) → text_cmp k.now x.0.now ≡ r
-    → (key_offset_from (at + 1) k.now (lent_pairs xs) ≡ Ok i → (j : ℕ) × (i ≡ (at + 1) + j) × IsPutAt k v xs j)
-    → key_offset_from at k.now (lent_pairs (x ∷ xs)) ≡ Ok i → (j : ℕ) × (i ≡ at + j) × IsPutAt k v (x ∷ xs) j
+old_by : (k v : Bor Text) (x : Bor Text × Bor Text) (xs : Borrowed) (at i : ℕ) (r : Ordering) → text_cmp k.now x.0.now ≡ r
+    → (key_offset_from (at + 1) k.now (borrowed_pairs xs) ≡ Ok i → (j : ℕ) × (i ≡ (at + 1) + j) × IsPutAt k v xs j)
+    → key_offset_from at k.now (borrowed_pairs (x ∷ xs)) ≡ Ok i → (j : ℕ) × (i ≡ at + j) × IsPutAt k v (x ∷ xs) j
 old_by k v x xs at i Less e ih found = let no : Err at ≡ Ok i = rw e at found in absurd cc
 old_by k v x xs at i Equal e ih found =
     let here : Ok at ≡ Ok i = rw e at found in
     let is : at ≡ i = cc in
-    (0, omega arith, rw e (ap (λ (t : Text). (t, v.now) ∷ lent_pairs xs) (same_text k.now x.0.now e)))
+    (0, omega arith, rw e (ap (λ (t : Text). (t, v.now) ∷ borrowed_pairs xs) (same_text k.now x.0.now e)))
 old_by k v x xs at i Greater e ih found =
-    let later : key_offset_from (at + 1) k.now (lent_pairs xs) ≡ Ok i = rw e at found in
+    let later : key_offset_from (at + 1) k.now (borrowed_pairs xs) ≡ Ok i = rw e at found in
     let h = ih later in
     (suc h.0, omega (arith, h.1), rw e (ap (λ (zs : List (Text × Text)). (x.0.now, x.1.now) ∷ zs) h.2))
 
-pub put_old : (k v : Bor Text) (xs : Lent) (at i : ℕ) → key_offset_from at k.now (lent_pairs xs) ≡ Ok i → (j : ℕ) × (i ≡ at + j) × IsPutAt k v xs j
+pub put_old : (k v : Bor Text) (xs : Borrowed) (at i : ℕ) → key_offset_from at k.now (borrowed_pairs xs) ≡ Ok i → (j : ℕ) × (i ≡ at + j) × IsPutAt k v xs j
 put_old k v [] at i found = absurd cc
 put_old k v (x ∷ xs) at i found = old_by k v x xs at i (text_cmp k.now x.0.now) refl (put_old k v xs (at + 1) i) found
 
-pub put_found : (k v : Bor Text) (xs : Lent) (i : ℕ) → Ok i ≡ key_offset_from 0 k.now (lent_pairs xs) → lent_pairs (set xs i (k, v)) ≡ put text_cmp k.now v.now (lent_pairs xs)
+pub put_found : (k v : Bor Text) (xs : Borrowed) (i : ℕ) → Ok i ≡ key_offset_from 0 k.now (borrowed_pairs xs) → borrowed_pairs (set xs i (k, v)) ≡ put text_cmp k.now v.now (borrowed_pairs xs)
 put_found k v xs i found =
     let p = put_old k v xs 0 i (sym found) in
     let same : i ≡ p.0 = omega (arith, p.1) in
@@ -49,27 +49,27 @@ put_found k v xs i found =
 
 -- ---- the key is new
 
-abbrev IsNewAt : Bor Text → Bor Text → Lent → ℕ → Type 0
-IsNewAt k v xs j = lent_pairs (take j xs ++ (k, v) ∷ drop j xs) ≡ put text_cmp k.now v.now (lent_pairs xs)
+abbrev IsNewAt : Bor Text → Bor Text → Borrowed → ℕ → Type 0
+IsNewAt k v xs j = borrowed_pairs (take j xs ++ (k, v) ∷ drop j xs) ≡ put text_cmp k.now v.now (borrowed_pairs xs)
 
-new_by : (k v : Bor Text) (x : Bor Text × Bor Text) (xs : Lent) (at i : ℕ) (r : Ordering) → text_cmp k.now x.0.now ≡ r
-    → (key_offset_from (at + 1) k.now (lent_pairs xs) ≡ Err i → (j : ℕ) × (i ≡ (at + 1) + j) × IsNewAt k v xs j)
-    → key_offset_from at k.now (lent_pairs (x ∷ xs)) ≡ Err i → (j : ℕ) × (i ≡ at + j) × IsNewAt k v (x ∷ xs) j
+new_by : (k v : Bor Text) (x : Bor Text × Bor Text) (xs : Borrowed) (at i : ℕ) (r : Ordering) → text_cmp k.now x.0.now ≡ r
+    → (key_offset_from (at + 1) k.now (borrowed_pairs xs) ≡ Err i → (j : ℕ) × (i ≡ (at + 1) + j) × IsNewAt k v xs j)
+    → key_offset_from at k.now (borrowed_pairs (x ∷ xs)) ≡ Err i → (j : ℕ) × (i ≡ at + j) × IsNewAt k v (x ∷ xs) j
 new_by k v x xs at i Less e ih found =
     let here : Err at ≡ Err i = rw e at found in
     let is : at ≡ i = cc in
     (0, omega arith, rw e refl)
 new_by k v x xs at i Equal e ih found = let no : Ok at ≡ Err i = rw e at found in absurd cc
 new_by k v x xs at i Greater e ih found =
-    let later : key_offset_from (at + 1) k.now (lent_pairs xs) ≡ Err i = rw e at found in
+    let later : key_offset_from (at + 1) k.now (borrowed_pairs xs) ≡ Err i = rw e at found in
     let h = ih later in
     (suc h.0, omega (arith, h.1), rw e (ap (λ (zs : List (Text × Text)). (x.0.now, x.1.now) ∷ zs) h.2))
 
-new_in : (k v : Bor Text) (xs : Lent) (at i : ℕ) → key_offset_from at k.now (lent_pairs xs) ≡ Err i → (j : ℕ) × (i ≡ at + j) × IsNewAt k v xs j
+new_in : (k v : Bor Text) (xs : Borrowed) (at i : ℕ) → key_offset_from at k.now (borrowed_pairs xs) ≡ Err i → (j : ℕ) × (i ≡ at + j) × IsNewAt k v xs j
 new_in k v [] at i found = let is : at ≡ i = cc in (0, omega arith, refl)
 new_in k v (x ∷ xs) at i found = new_by k v x xs at i (text_cmp k.now x.0.now) refl (new_in k v xs (at + 1) i) found
 
-pub put_new : (k v : Bor Text) (xs : Lent) (i : ℕ) → Err i ≡ key_offset_from 0 k.now (lent_pairs xs) → lent_pairs (take i xs ++ (k, v) ∷ drop i xs) ≡ put text_cmp k.now v.now (lent_pairs xs)
+pub put_new : (k v : Bor Text) (xs : Borrowed) (i : ℕ) → Err i ≡ key_offset_from 0 k.now (borrowed_pairs xs) → borrowed_pairs (take i xs ++ (k, v) ∷ drop i xs) ≡ put text_cmp k.now v.now (borrowed_pairs xs)
 put_new k v xs i found =
     let p = new_in k v xs 0 i (sym found) in
     let same : i ≡ p.0 = omega (arith, p.1) in
@@ -95,8 +95,8 @@ pub entries_put_all : (ts : List (Text × Text)) → finmap.entries (finmap.from
 entries_put_all [] = no_length (finmap.entries (finmap.empty {X = Text} {R = text_cmp})) (sym (len-entries (finmap.empty {X = Text} {R = text_cmp})) ∙ len-empty text_cmp Text)
 entries_put_all (t ∷ ts) = entries-insert nat_list_cmp_total (finmap.from_entries ts) t.0 t.1 ∙ ap (put text_cmp t.0 t.1) (entries_put_all ts)
 
-pub put_all_set : (ts : List (Text × Text)) (lent : Lent) → lent_pairs lent ≡ put_all ts [] → IsTagSet (lent_pairs lent)
-put_all_set ts lent e = subst (λ (es : List (Text × Text)). T (is_sorted text_cmp es)) (sym (e ∙ sym (entries_put_all ts))) (entries_sorted (finmap.from_entries {R = text_cmp} ts))
+pub put_all_set : (ts : List (Text × Text)) (borrowed : Borrowed) → borrowed_pairs borrowed ≡ put_all ts [] → IsTagSet (borrowed_pairs borrowed)
+put_all_set ts borrowed e = subst (λ (es : List (Text × Text)). T (is_sorted text_cmp es)) (sym (e ∙ sym (entries_put_all ts))) (entries_sorted (finmap.from_entries {R = text_cmp} ts))
 
 -- the last tag is put first
 pub put_last : (tags : List (LinePart × LinePart)) (t : LinePart × LinePart) (es all : List (Text × Text)) → 1 ≤ length tags → t ≡ get_or tags (length tags - 1) t
@@ -124,18 +124,18 @@ rising_stand (t ∷ u ∷ ts) up = rise_by t u ts (text_cmp t.0 u.0) refl up (ri
 pub in_order : (ts pairs : List (Text × Text)) → rise ts ≡ true → pairs ≡ ts → pairs ≡ finmap.entries (finmap.from_entries {R = text_cmp} ts)
 in_order ts pairs up e = e ∙ sym (rising_stand ts up) ∙ sym (entries_put_all ts)
 
-pub in_order_set : (ts : List (Text × Text)) (lent : Lent) → rise ts ≡ true → lent_pairs lent ≡ ts → IsTagSet (lent_pairs lent)
-in_order_set ts lent up e = put_all_set ts lent (e ∙ sym (rising_stand ts up))
+pub in_order_set : (ts : List (Text × Text)) (borrowed : Borrowed) → rise ts ≡ true → borrowed_pairs borrowed ≡ ts → IsTagSet (borrowed_pairs borrowed)
+in_order_set ts borrowed up e = put_all_set ts borrowed (e ∙ sym (rising_stand ts up))
 
-lent_push : (xs : Lent) (x : Bor Text × Bor Text) → lent_pairs (xs ++ x ∷ []) ≡ lent_pairs xs ++ (x.0.now, x.1.now) ∷ []
-lent_push [] x = refl
-lent_push (y ∷ xs) x = ap (λ (ys : List (Text × Text)). (y.0.now, y.1.now) ∷ ys) (lent_push xs x)
+borrowed_push : (xs : Borrowed) (x : Bor Text × Bor Text) → borrowed_pairs (xs ++ x ∷ []) ≡ borrowed_pairs xs ++ (x.0.now, x.1.now) ∷ []
+borrowed_push [] x = refl
+borrowed_push (y ∷ xs) x = ap (λ (ys : List (Text × Text)). (y.0.now, y.1.now) ∷ ys) (borrowed_push xs x)
 
-pub pushed_pairs : (tags : List (LinePart × LinePart)) (t : LinePart × LinePart) (xs : Lent) (i : ℕ) (k v : Bor Text) → i < length tags → t ≡ get_or tags i t → k.now ≡ t.0.text → v.now ≡ t.1.text
-    → lent_pairs xs ≡ map tag_texts (take i tags) → lent_pairs (xs ++ (k, v) ∷ []) ≡ map tag_texts (take (i + 1) tags)
+pub pushed_pairs : (tags : List (LinePart × LinePart)) (t : LinePart × LinePart) (xs : Borrowed) (i : ℕ) (k v : Bor Text) → i < length tags → t ≡ get_or tags i t → k.now ≡ t.0.text → v.now ≡ t.1.text
+    → borrowed_pairs xs ≡ map tag_texts (take i tags) → borrowed_pairs (xs ++ (k, v) ∷ []) ≡ map tag_texts (take (i + 1) tags)
 pushed_pairs tags t xs i k v lt is key value so_far =
     let one : take (i + 1) tags ≡ take i tags ++ t ∷ [] = take_more tags i t lt ∙ ap (λ x. take i tags ++ x ∷ []) (sym is) in
-    lent_push xs (k, v) ∙ ap (λ ys. ys ++ (k.now, v.now) ∷ []) so_far ∙ rw (key, value) (sym (map_push tag_texts (take i tags) t)) ∙ ap (map tag_texts) (sym one)
+    borrowed_push xs (k, v) ∙ ap (λ ys. ys ++ (k.now, v.now) ∷ []) so_far ∙ rw (key, value) (sym (map_push tag_texts (take i tags) t)) ∙ ap (map tag_texts) (sym one)
 
 pub few_rise : (tags : List (LinePart × LinePart)) → length tags < 2 → rise (map tag_texts tags) ≡ true
 few_rise [] few = refl

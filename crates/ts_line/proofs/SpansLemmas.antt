@@ -6,7 +6,7 @@ use Rattle.ts_line.specs.declared.scan.Stops.TheVariants.{Comma, Equals}
 use Rattle.ts_line.specs.Parts.{LinePart, Parts}
 use Rattle.ts_line.specs.Fields.{with_field}
 use Rattle.ts_line.specs.Spelling.{written_piece, tags_text, tags_from, field_spelling, more_fields_text, field_from, with_fields, IsSpelling}
-use Rattle.ts_line.specs.Spans.{IsPartOf, ArePlaced, tag_pieces, field_piece, pieces_of}
+use Rattle.ts_line.specs.Spans.{IsPartOf, AreInOrder, tag_pieces, field_piece, pieces_of}
 use Rattle.std.proofs.lemmas.List.{drop_at}
 use Rattle.ts_line.proofs.TagsSpelled.{flat}
 use Rattle.ts_line.proofs.Suffixes.{At, at_next, at_after, at_slice}
@@ -16,14 +16,14 @@ abbrev offset_end : ℕ → List LinePart → ℕ
 offset_end n [] = n
 offset_end n (p ∷ ps) = offset_end (p.start + length p.raw) ps
 
-placed_both : (line : Text) (n m : ℕ) (xs ys : List LinePart) → ArePlaced line n xs → offset_end n xs ≤ m → ArePlaced line m ys → ArePlaced line n (xs ++ ys)
+placed_both : (line : Text) (n m : ℕ) (xs ys : List LinePart) → AreInOrder line n xs → offset_end n xs ≤ m → AreInOrder line m ys → AreInOrder line n (xs ++ ys)
 placed_both line n m [] [] a le b = tt
 placed_both line n m [] (y ∷ ys) a le b = (omega (arith, le, b.0), b.1, b.2)
 placed_both line n m (x ∷ xs) ys a le b = (a.0, a.1, placed_both line (x.start + length x.raw) m xs ys a.2 le b)
 
 -- ---- tags
 
-tags_placed : (ts : List (Text × Text)) (line rest : Text) (at : ℕ) → At line at (tags_text ts ++ rest) → ArePlaced line at (tag_pieces (tags_from at ts)) × (offset_end at (tag_pieces (tags_from at ts)) ≤ at + length (tags_text ts))
+tags_placed : (ts : List (Text × Text)) (line rest : Text) (at : ℕ) → At line at (tags_text ts ++ rest) → AreInOrder line at (tag_pieces (tags_from at ts)) × (offset_end at (tag_pieces (tags_from at ts)) ≤ at + length (tags_text ts))
 tags_placed [] line rest at h = (tt, omega arith)
 tags_placed (t ∷ ts) line rest at h =
     let k = t.0 in
@@ -55,19 +55,19 @@ end_push : (n : ℕ) (ps : List LinePart) (p : LinePart) → offset_end n (ps ++
 end_push n [] p = refl
 end_push n (q ∷ ps) p = end_push (q.start + length q.raw) ps p
 
-abbrev ArePlacedTo : Text → ℕ → List LinePart → ℕ → Type 0
-ArePlacedTo line n ps end = ArePlaced line n ps × (offset_end n ps ≤ end)
+abbrev AreInOrderTo : Text → ℕ → List LinePart → ℕ → Type 0
+AreInOrderTo line n ps end = AreInOrder line n ps × (offset_end n ps ≤ end)
 
-with_placed : (line : Text) (n at : ℕ) (before : List (LinePart × ℤ)) (f : LinePart × ℤ) → ArePlacedTo line n (map field_piece before) at → at ≤ f.0.start → IsPartOf line f.0
-    → ArePlacedTo line n (map field_piece (with_field before f)) (f.0.start + length f.0.raw)
+with_placed : (line : Text) (n at : ℕ) (before : List (LinePart × ℤ)) (f : LinePart × ℤ) → AreInOrderTo line n (map field_piece before) at → at ≤ f.0.start → IsPartOf line f.0
+    → AreInOrderTo line n (map field_piece (with_field before f)) (f.0.start + length f.0.raw)
 with_placed line n at before f a le part =
-    ⊎_elim {C = ArePlacedTo line n (map field_piece (with_field before f)) (f.0.start + length f.0.raw)}
-    (λ same. subst (λ (ps : List LinePart). ArePlacedTo line n ps (f.0.start + length f.0.raw)) (sym same) (a.0, omega (arith, a.1, le)))
-    (λ more. subst (λ (ps : List LinePart). ArePlacedTo line n ps (f.0.start + length f.0.raw)) (sym more)
+    ⊎_elim {C = AreInOrderTo line n (map field_piece (with_field before f)) (f.0.start + length f.0.raw)}
+    (λ same. subst (λ (ps : List LinePart). AreInOrderTo line n ps (f.0.start + length f.0.raw)) (sym same) (a.0, omega (arith, a.1, le)))
+    (λ more. subst (λ (ps : List LinePart). AreInOrderTo line n ps (f.0.start + length f.0.raw)) (sym more)
     (placed_both line n f.0.start (map field_piece before) (f.0 ∷ []) a.0 (omega (arith, a.1, le)) (omega arith, part, tt), omega (arith, end_push n (map field_piece before) f.0)))
     (names_with before f)
 
-fields_placed : (more : List (Text × Text)) (line rest : Text) (n at : ℕ) (before : List (LinePart × ℤ)) → At line at (more_fields_text more ++ rest) → ArePlacedTo line n (map field_piece before) at → ArePlaced line n (map field_piece (with_fields before at more))
+fields_placed : (more : List (Text × Text)) (line rest : Text) (n at : ℕ) (before : List (LinePart × ℤ)) → At line at (more_fields_text more ++ rest) → AreInOrderTo line n (map field_piece before) at → AreInOrder line n (map field_piece (with_fields before at more))
 fields_placed [] line rest n at before h a = a.0
 fields_placed (f ∷ more) line rest n at before h a =
     let behind = more_fields_text more ++ rest in
@@ -80,7 +80,7 @@ fields_placed (f ∷ more) line rest n at before h a =
 
 -- ---- all parts
 
-placed_of : (unit now : ℤ) (source : Text) (parts : Parts) (p : IsSpelling unit now source parts) → ArePlaced source 0 (pieces_of (record {
+placed_of : (unit now : ℤ) (source : Text) (parts : Parts) (p : IsSpelling unit now source parts) → AreInOrder source 0 (pieces_of (record {
   measurement = written_piece Comma (length p.before) p.measurement;
   tags = tags_from (length p.before + length p.measurement) p.tags;
   fields = with_fields (field_from (length p.before + length p.measurement + length (tags_text p.tags) + 1 + length p.gap) p.first ∷ [])
@@ -108,10 +108,10 @@ placed_of unit now source parts p =
     let names = fields_placed p.more source after t (f + length (field_spelling p.first)) (field_from f p.first ∷ []) at_more ((omega arith, key, tt), within) in
     (omega arith, at_slice source p.measurement (tags_text p.tags ++ rest) n m at_start refl, placed_both source m t (tag_pieces (tags_from m p.tags)) (map field_piece (with_fields (field_from f p.first ∷ []) (f + length (field_spelling p.first)) p.more)) tags.0 tags.1 names)
 
-pub spelling_placed : (unit now : ℤ) (source : Text) (parts : Parts) → IsSpelling unit now source parts → ArePlaced source 0 (pieces_of parts)
-spelling_placed unit now source parts p = subst (λ (q : Parts). ArePlaced source 0 (pieces_of q)) (sym p.told) (placed_of unit now source parts p)
+pub spelling_placed : (unit now : ℤ) (source : Text) (parts : Parts) → IsSpelling unit now source parts → AreInOrder source 0 (pieces_of parts)
+spelling_placed unit now source parts p = subst (λ (q : Parts). AreInOrder source 0 (pieces_of q)) (sym p.told) (placed_of unit now source parts p)
 
-pub placed_by : (unit now : ℤ) (source : Text) (r : Result (Option Parts) ReadLineError) → IfOk r (λ o. IfSome o (IsSpelling unit now source)) → IfOk r (λ o. IfSome o (λ p. ArePlaced source 0 (pieces_of p)))
+pub placed_by : (unit now : ℤ) (source : Text) (r : Result (Option Parts) ReadLineError) → IfOk r (λ o. IfSome o (IsSpelling unit now source)) → IfOk r (λ o. IfSome o (λ p. AreInOrder source 0 (pieces_of p)))
 placed_by unit now source (Ok None) e = tt
 placed_by unit now source (Ok (Some p)) e = spelling_placed unit now source p e
 placed_by unit now source (Err f) e = tt

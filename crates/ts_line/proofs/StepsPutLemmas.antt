@@ -3,7 +3,7 @@ use Rattle.std.proofs.Common.{◌≡◌, ℕ, Result, Ok, Err, refl, sym, ap}
 use Rattle.ts_line.specs.declared.fault.LineFault.{LineFault}
 use Rattle.ts_line.specs.declared.fault.ReadLineError.{ReadLineError}
 use Rattle.ts_line.specs.declared.fault.ReadLineError.TheVariants as errors
-use Rattle.ts_line.specs.ReadSteps.{FailsIfRoom}
+use Rattle.ts_line.specs.ReadSteps.{FailsIfMemory}
 use Rattle.ts_line.specs.StepsPut.{put_by}
 
 -- each inserted part was read
@@ -21,6 +21,6 @@ fault_is put (Ok read) f e = absurd cc
 fault_is put (Err g) f e = let is : g ≡ f = cc in ap Err is
 
 -- a fault of the one is a fault of the other
-pub was_fault : {X Y : Type 0} (put : X → Y) (q : Result (X × ℕ) LineFault) (e : ReadLineError) → FailsIfRoom e (put_by put q) → FailsIfRoom e q
+pub was_fault : {X Y : Type 0} (put : X → Y) (q : Result (X × ℕ) LineFault) (e : ReadLineError) → FailsIfMemory e (put_by put q) → FailsIfMemory e q
 was_fault put q errors.OutOfMemory h = tt
 was_fault put q (errors.Fault f) h = fault_is put q f h

@@ -111,7 +111,7 @@ key_missing (t ∷ ts) key e a =
 -- facts about a tag that was taken
 pub record IsTag (before : Tags) (line : Text) (n : ℕ) (tag : LinePart × LinePart) (next : ℕ) : Type 0 where
   pub pair : IsPair line n tag next
-  pub room : length before < 64
+  pub spare : length before < 64
   pub other : bytes_eq (piece_key tag) (codes "time") ≡ false
   pub new : has_key before (piece_key tag) ≡ false
 
@@ -119,12 +119,12 @@ pub tag_is : (before : Tags) (line : Text) (n : ℕ) (t : (LinePart × LinePart)
 unfolding next_tag
 tag_is before line n t le e =
     let p = bind_ok (pair_at line n) _ t e in
-    let room = not_err (leb 64 (length before)) (fault_at OverLimit n) _ t p.2 in
-    let other = not_err (bytes_eq p.0.0.0.text (codes "time")) (fault_at ReservedKey n) _ t room.1 in
+    let spare = not_err (leb 64 (length before)) (fault_at OverLimit n) _ t p.2 in
+    let other = not_err (bytes_eq p.0.0.0.text (codes "time")) (fault_at ReservedKey n) _ t spare.1 in
     let new = not_err (has_key before p.0.0.0.text) (fault_at RepeatedTagKey n) _ t other.1 in
     let same : p.0 ≡ t = let all = new.1 in cc in
-    let less : length before < 64 = let r = room.0 in grind (arith, nat_tests) in
-    subst (λ (x : (LinePart × LinePart) × ℕ). IsTag before line n x.0 x.1) same (record { pair = pair_told line n p.0.0 p.0.1 le p.1; room = less; other = other.0; new = new.0 })
+    let less : length before < 64 = let r = spare.0 in grind (arith, nat_tests) in
+    subst (λ (x : (LinePart × LinePart) × ℕ). IsTag before line n x.0 x.1) same (record { pair = pair_told line n p.0.0 p.0.1 le p.1; spare = less; other = other.0; new = new.0 })
 
 next_inside : (line : Text) (tags : List (Text × Text)) (next end : ℕ) → next ≤ length line → end < length line → drop next line ≡ tags_text tags ++ drop end line → next < length line
 next_inside line tags next end le lt spelled = omega (arith, ap length spelled, length-append (tags_text tags) (drop end line), length-drop next line, length-drop end line)
@@ -171,7 +171,7 @@ taken : (n : ℕ) (before : Tags) (line : Text) (at : ℕ) (out : Tags) (end : �
 taken n before line at out end tag next here byte lt d fuel is ih go =
     let count : length (before ++ tag ∷ []) ≡ length before + 1 = omega (arith, length-append before (tag ∷ [])) in
     let distinct : AllDistinct (map piece_key (before ++ tag ∷ [])) = subst (λ (ks : List Text). AllDistinct ks) (sym (map_push piece_key before tag)) (distinct_push (map piece_key before) (piece_key tag) d (key_missing before (piece_key tag) is.new)) in
-    joined before line at out end tag next here byte lt is (ih (before ++ tag ∷ []) next is.pair.inside lt is.pair.ends distinct (omega (arith, is.room, count)) (omega (arith, fuel, count)) go)
+    joined before line at out end tag next here byte lt is (ih (before ++ tag ∷ []) next is.pair.inside lt is.pair.ends distinct (omega (arith, is.spare, count)) (omega (arith, fuel, count)) go)
 
 told_by : (n : ℕ) (before : Tags) (line : Text) (at : ℕ) (out : Tags) (end : ℕ) (comma : Bool) → eqb (slice_index line at) 44 ≡ comma → at ≤ length line → end < length line → EndsKey line at → AllDistinct (map piece_key before)
     → length before ≤ 64 → suc n + length before ≡ 65

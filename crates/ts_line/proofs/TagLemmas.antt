@@ -6,7 +6,7 @@ use Rattle.ts_core.specs.facts.Facts.{Text}
 use Rattle.ts_line.specs.Parts.{LinePart}
 use Rattle.ts_line.specs.declared.fault.ReadLineError.{ReadLineError}
 use Rattle.ts_line.specs.declared.fault.ReadLineError.TheVariants as errors
-use Rattle.ts_line.specs.ReadSteps.{FailsIfRoom}
+use Rattle.ts_line.specs.ReadSteps.{FailsIfMemory}
 use Rattle.ts_line.specs.TagParts.{next_tag, tags_at}
 
 pub tag_taken : (n : ℕ) (before : List (LinePart × LinePart)) (line : Text) (at : ℕ) (t : LinePart × LinePart) (end : ℕ) (total : Result (List (LinePart × LinePart) × ℕ) LineFault) → n ≤ 64 → slice_index line at ≡ 44
@@ -34,6 +34,6 @@ tags_ended n before line at total le comma so_far =
     sym so_far ∙ one
 
 pub tag_fails : (n : ℕ) (before : List (LinePart × LinePart)) (line : Text) (at : ℕ) (e : ReadLineError) (total : Result (List (LinePart × LinePart) × ℕ) LineFault) → n ≤ 64 → slice_index line at ≡ 44
-    → FailsIfRoom e (next_tag before line (at + 1)) → tags_at (65 - n) before line at ≡ total → FailsIfRoom e total
+    → FailsIfMemory e (next_tag before line (at + 1)) → tags_at (65 - n) before line at ≡ total → FailsIfMemory e total
 tag_fails n before line at errors.OutOfMemory total le comma read so_far = tt
 tag_fails n before line at (errors.Fault f) total le comma read so_far = tag_failed n before line at f total le comma read so_far

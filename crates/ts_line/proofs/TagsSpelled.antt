@@ -102,11 +102,11 @@ tags_read (t ∷ ts) line rest at (suc n) before h w d few fuel =
     let at_behind : At line end behind = at_next line v behind (at + 1 + length k + 1) at_value in
     let tag : LinePart × LinePart = (written_piece Equals (at + 1) k, written_piece Equals (at + 1 + length k + 1) v) in
     let pair : pair_at line (at + 1) ≡ Ok (tag, end) = pair_read line k v behind (at + 1) at_key w.0.0 w.0.1 (tags_end ts rest) (tags_next ts line rest end at_behind) in
-    let room : leb 64 (length before) ≡ false = grind (arith, nat_tests) in
+    let spare : leb 64 (length before) ≡ false = grind (arith, nat_tests) in
     let other : bytes_eq (tag_key t) (codes "time") ≡ false = false_from_ne_true (bytes_eq (tag_key t) (codes "time")) (λ e. w.0.2 ((bytes_eq-Decides (tag_key t) (codes "time")).0 e)) in
     let new : has_key before (tag_key t) ≡ false = no_key before (tag_key t) (distinct_mid (tag_key t) (map piece_key before) (map tag_key ts) d) in
     let distinct : AllDistinct (map piece_key (before ++ tag ∷ []) ++ map tag_key ts) = subst (λ (ks : List Text). AllDistinct ks) (sym (map_snoc before tag (map tag_key ts))) d in
     let count : length (before ++ tag ∷ []) ≡ length before + 1 = omega (arith, length-append before (tag ∷ [])) in
     let later = tags_read ts line rest end n (before ++ tag ∷ []) at_behind w.1 distinct (omega arith) (omega arith) in
     let total : end + length (tags_text ts) ≡ at + length (tags_text (t ∷ ts)) = omega (arith, length-append k (61 ∷ (v ++ tags_text ts)), length-append v (tags_text ts)) in
-    rw (comma, pair, room, other, new) (later ∙ ap (λ (r : Tags). Ok (r, end + length (tags_text ts))) (append_assoc before (tag ∷ []) (tags_from end ts)) ∙ ap (λ m. Ok (before ++ tag ∷ tags_from end ts, m)) total)
+    rw (comma, pair, spare, other, new) (later ∙ ap (λ (r : Tags). Ok (r, end + length (tags_text ts))) (append_assoc before (tag ∷ []) (tags_from end ts)) ∙ ap (λ m. Ok (before ++ tag ∷ tags_from end ts, m)) total)

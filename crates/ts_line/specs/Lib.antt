@@ -15,6 +15,6 @@ pub mod Readings
 pub mod Spans
 -- used only by models and proofs of the code
 pub mod Sorting
-pub mod NameMarks
+pub mod NameFilters
 pub mod StepsPut
 pub mod Digits

@@ -22,7 +22,7 @@ abbrev pub AreTagTexts : List (Text × Text) → Type 0
 AreTagTexts tags = AllByRecursion (λ (t : Text × Text). IsKey t.0 × IsName t.1) tags
 
 -- a line can state the series
-pub record IsNamed (series : Series) : Type 0 where
+pub record IsStatable (series : Series) : Type 0 where
   pub measurement : IsName series.measurement
   pub tags : AreTagTexts series.tags
   pub few : length series.tags ≤ 64

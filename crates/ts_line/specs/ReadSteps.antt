@@ -11,11 +11,11 @@ abbrev pub ◌>>=◌ : {A B : Type 0} → Result A LineFault → (A → Result B
 (Err e) >>= f = Err e
 
 -- a failing call returns the step's error, unless it ran out of memory
-abbrev pub FailsIfRoom : {Y : Type 0} → ReadLineError → Result Y LineFault → Type 0
-FailsIfRoom errors.OutOfMemory read = ⊤
-FailsIfRoom (errors.Fault f) read = read ≡ Err f
+abbrev pub FailsIfMemory : {Y : Type 0} → ReadLineError → Result Y LineFault → Type 0
+FailsIfMemory errors.OutOfMemory read = ⊤
+FailsIfMemory (errors.Fault f) read = read ≡ Err f
 
 -- a call returns the step's result, seen through `view`, unless it ran out of memory
-abbrev pub GivesIfRoom : {X Y : Type 0} → (X → Y) → Result X ReadLineError → Result Y LineFault → Type 0
-GivesIfRoom view (Ok x) read = read ≡ Ok (view x)
-GivesIfRoom view (Err e) read = FailsIfRoom e read
+abbrev pub GivesIfMemory : {X Y : Type 0} → (X → Y) → Result X ReadLineError → Result Y LineFault → Type 0
+GivesIfMemory view (Ok x) read = read ≡ Ok (view x)
+GivesIfMemory view (Err e) read = FailsIfMemory e read

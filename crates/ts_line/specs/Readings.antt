@@ -5,13 +5,13 @@ use Rattle.ts_line.specs.declared.fault.ReadLineError.{ReadLineError}
 use Rattle.ts_line.specs.declared.fault.ReadLineError.TheVariants as errors
 use Rattle.ts_line.specs.Lines.{line_of}
 use Rattle.ts_line.specs.Parts.{Parts}
-use Rattle.ts_line.specs.ReadSteps.{GivesIfRoom}
+use Rattle.ts_line.specs.ReadSteps.{GivesIfMemory}
 use Rattle.ts_line.specs.Spelling.{IsSpelling}
 
 -- a line that is read is a spelling of its parts, and each spelling is read as its parts, unless memory runs out
 pub record IsReadAsSpelled (unit now : ℤ) (source : Text) (result : Result (Option Parts) ReadLineError) : Type 0 where
   pub told : IfOk result (λ o. IfSome o (IsSpelling unit now source))
-  pub only : (parts : Parts) → IsSpelling unit now source parts → GivesIfRoom (λ o. o) result (Ok (Some parts))
+  pub only : (parts : Parts) → IsSpelling unit now source parts → GivesIfMemory (λ o. o) result (Ok (Some parts))
 
 -- the text needs memory: it isn't too long, blank or a comment
 pub record NeedsMemory (unit now : ℤ) (source : Text) : Type 0 where

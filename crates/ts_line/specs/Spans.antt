@@ -8,9 +8,9 @@ abbrev pub IsPartOf : Text → LinePart → Type 0
 IsPartOf line part = slice_range line part.start (part.start + length part.raw) ≡ part.raw
 
 -- each part is the slice at its span, none begins before offset `n`, and each begins after the one before it ends
-abbrev pub ArePlaced : Text → ℕ → List LinePart → Type 0
-ArePlaced line n [] = Unit {0}
-ArePlaced line n (p ∷ ps) = (n ≤ p.start) × IsPartOf line p × ArePlaced line (p.start + length p.raw) ps
+abbrev pub AreInOrder : Text → ℕ → List LinePart → Type 0
+AreInOrder line n [] = Unit {0}
+AreInOrder line n (p ∷ ps) = (n ≤ p.start) × IsPartOf line p × AreInOrder line (p.start + length p.raw) ps
 
 abbrev pub tag_pieces : List (LinePart × LinePart) → List LinePart
 tag_pieces [] = []

@@ -6,10 +6,10 @@ use Rattle.ts_core.specs.facts.Facts.{Text}
 use Rattle.ts_line.specs.declared.fault.LineFault.{LineFault}
 use Rattle.ts_line.specs.declared.fault.ReadLineError.{ReadLineError}
 use Rattle.ts_line.specs.Parts.{LinePart}
-use Rattle.ts_line.specs.ReadSteps.{GivesIfRoom}
+use Rattle.ts_line.specs.ReadSteps.{GivesIfMemory}
 use Rattle.ts_line.specs.TagParts.{next_tag}
 use Rattle.ts_line.specs.Fields.{next_field, with_field}
-use Rattle.ts_line.specs.NameMarks.{AreMarked, AreKeysMarked}
+use Rattle.ts_line.specs.NameFilters.{AreInFilter, AreKeysInFilter}
 
 -- applies `put` to the parsed item and keeps the offset after it
 abbrev pub put_by : {X Y : Type 0} → (X → Y) → Result (X × ℕ) LineFault → Result (Y × ℕ) LineFault
@@ -18,13 +18,13 @@ put_by put (Err fault) = Err fault
 
 -- a call inserts the field at `start` into `before`, which gives `after` and sets the slots of its names
 pub record PutsNextField (before after : List (LinePart × ℤ)) (marks : List Bool) (line : Text) (start : ℕ) (result : Result ℕ ReadLineError) : Type 0 where
-  pub value : GivesIfRoom (λ end. (after, end)) result (put_by (with_field before) (next_field line start))
-  pub marked : IfOk result (λ _. AreMarked marks after)
+  pub value : GivesIfMemory (λ end. (after, end)) result (put_by (with_field before) (next_field line start))
+  pub marked : IfOk result (λ _. AreInFilter marks after)
   pub boundary : IfOk result (λ end. IsCharBoundary line end)
 
 -- a call appends the tag at `start` to `before`, which gives `after` and sets the slots of its keys
 pub record PushesNextTag (before after : List (LinePart × LinePart)) (marks : List Bool) (line : Text) (start : ℕ) (result : Result ℕ ReadLineError) : Type 0 where
-  pub value : GivesIfRoom (λ end. (after, end)) result (put_by (λ tag. before ++ tag ∷ []) (next_tag before line start))
-  pub marked : IfOk result (λ _. AreKeysMarked marks after)
+  pub value : GivesIfMemory (λ end. (after, end)) result (put_by (λ tag. before ++ tag ∷ []) (next_tag before line start))
+  pub marked : IfOk result (λ _. AreKeysInFilter marks after)
   pub few : IfOk result (λ _. length after ≤ 64)
   pub offset : IfOk result (λ end. IsOffsetFrom line (start + 1) end)

@@ -6,7 +6,7 @@ ghost use Rattle.ts_line.specs.declared.fault.ReadLineError.TheVariants as error
 
 use std::alloc::{AllocError, AllocFailed, Allocator};
 use thiserror::Error;
-use ts_core::{FaultCode, FaultDetail, append_words};
+use ts_core::{FaultCode, FaultDetail, push_all};
 
 /// Kind of error in a line.
 #[derive(Clone, Copy, Debug, PartialEq, Eq)]
@@ -106,7 +106,7 @@ impl ReadLineError {
     {
         match self {
             ReadLineError::Fault(fault) => fault.text_to(text),
-            ReadLineError::OutOfMemory => append_words(text, &["fault memory"]),
+            ReadLineError::OutOfMemory => push_all(text, &["fault memory"]),
         }
     }
 }

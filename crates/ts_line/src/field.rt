@@ -1,15 +1,15 @@
 //! Parses the fields of a line: 1 to 256. A repeated name takes its last value.
 ghost use Rattle.std.specs.Prelude.{◌≡◌, ◌<◌, length, [], IfOk, IfSome, OnOk};
 ghost use Rattle.std.specs.Str.{IsCharBoundary};
-ghost use Rattle.ts_line.specs.ReadSteps.{GivesIfRoom};
-ghost use Rattle.ts_line.specs.NameMarks.{AreMarked};
+ghost use Rattle.ts_line.specs.ReadSteps.{GivesIfMemory};
+ghost use Rattle.ts_line.specs.NameFilters.{AreInFilter};
 ghost use Rattle.ts_line.specs.Fields.{next_field, offset_from, with_field, fields_at};
 ghost use Rattle.ts_line.specs.StepsPut.{PutsNextField};
 ghost use Rattle.ts_line.specs.Values.{value_begun_at};
 
 use crate::fault::{LineFault, LineFaultKind, ReadLineError};
 use crate::line::Field;
-use crate::mark::slot_of;
+use crate::name_filter::slot_of;
 use crate::part::part_at;
 use crate::scan::{Stops, end_at};
 use crate::short::short_integer;
@@ -45,7 +45,7 @@ fn next<'a, A: Allocator + Copy>(
     start: usize,
 ) -> Result<(Field<'a, A>, usize), ReadLineError>
     requires { IsCharBoundary line.now start }
-    ensures value { GivesIfRoom (λ x. x) result (next_field line.now start) }
+    ensures value { GivesIfMemory (λ x. x) result (next_field line.now start) }
     ensures boundary { IfOk result (λ x. IsCharBoundary line.now x.1) }
 {
     let name_end = end_at(line, start, Stops::Equals);
@@ -100,7 +100,7 @@ fn put_next<'a, A: Allocator + Copy>(
     start: usize,
 ) -> Result<usize, ReadLineError>
     requires boundary { IsCharBoundary line.now start }
-    requires marked { AreMarked marks.old fields.old.items }
+    requires marked { AreInFilter marks.old fields.old.items }
     ensures { PutsNextField fields.old.items fields.new.items marks.new line.now start result }
 {
     let (field, end) = next(alloc, line, start)?;
@@ -122,7 +122,7 @@ pub fn fields<'a, A: Allocator + Copy>(
     start: usize,
 ) -> Result<(Vec<Field<'a, A>, A>, usize), ReadLineError>
     requires { IsCharBoundary line.now start }
-    ensures value { GivesIfRoom (λ x. (x.0.items, x.1)) result (fields_at 256 [] line.now start) }
+    ensures value { GivesIfMemory (λ x. (x.0.items, x.1)) result (fields_at 256 [] line.now start) }
     ensures boundary { IfOk result (λ x. IsCharBoundary line.now x.1) }
 {
     let mut fields = Vec::with_capacity(alloc, FIELDS_AT_FIRST)?;

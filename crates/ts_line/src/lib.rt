@@ -17,7 +17,7 @@
 mod fault;
 mod field;
 mod line;
-mod mark;
+mod name_filter;
 mod part;
 mod read;
 mod scan;

@@ -5,8 +5,8 @@ ghost use Rattle.std.specs.Cow.{cow_str_bytes};
 ghost use Rattle.std.specs.FinMap.{put};
 ghost use Rattle.ts_core.specs.facts.Facts.{text_cmp};
 ghost use Rattle.ts_core.specs.lists.Members.{AllDistinct};
-ghost use Rattle.ts_core.specs.text.Texts.{lent_pairs, IsTagSet};
-ghost use Rattle.ts_line.specs.Names.{AreKeys, AreTagTexts, IsNamed};
+ghost use Rattle.ts_core.specs.text.Texts.{borrowed_pairs, IsTagSet};
+ghost use Rattle.ts_line.specs.Names.{AreKeys, AreTagTexts, IsStatable};
 ghost use Rattle.ts_line.specs.Parts.{field_text, series_of, tag_texts};
 ghost use Rattle.ts_line.specs.Sorting.{key_offset_from, rise};
 
@@ -224,14 +224,14 @@ impl<'a, A: Allocator> Line<'a, A> {
     }
 
     /// Writes the tags as (key, value) pairs into `pairs`, sorted by key in byte order. Does not allocate. `pairs` must
-    /// be empty and have room for all tags. Creating an `ArrayVec` blanks all of it, so pass a small one if the line
+    /// be empty and have capacity for all tags. Creating an `ArrayVec` blanks all of it, so pass a small one if the line
     /// has few tags. The line's series is one that a line can state: no name is empty, no key is `time`.
     pub fn tags_by_key<'b, const N: usize>(&'b self, pairs: &mut ArrayVec<(&'b str, &'b str), N>)
         requires none { pairs.old.items ≡ [] }
-        requires room { length self.now.tags ≤ N }
-        ensures value { lent_pairs pairs.new.items ≡ (series_of self.now).tags }
-        ensures set { IsTagSet (lent_pairs pairs.new.items) }
-        ensures named { IsNamed (series_of self.now) }
+        requires spare { length self.now.tags ≤ N }
+        ensures value { borrowed_pairs pairs.new.items ≡ (series_of self.now).tags }
+        ensures set { IsTagSet (borrowed_pairs pairs.new.items) }
+        ensures named { IsStatable (series_of self.now) }
     {
         if rise(&self.tags) {
             push_all(pairs, &self.tags);
@@ -245,8 +245,8 @@ impl<'a, A: Allocator> Line<'a, A> {
     fn put_all<'b, const N: usize>(&'b self, pairs: &mut ArrayVec<(&'b str, &'b str), N>)
         requires none { pairs.old.items ≡ [] }
         requires few { length self.now.tags ≤ N }
-        ensures value { lent_pairs pairs.new.items ≡ (series_of self.now).tags }
-        ensures set { IsTagSet (lent_pairs pairs.new.items) }
+        ensures value { borrowed_pairs pairs.new.items ≡ (series_of self.now).tags }
+        ensures set { IsTagSet (borrowed_pairs pairs.new.items) }
     {
         let mut left = self.tags();
         while let [rest @ .., tag] = left {
@@ -277,7 +277,7 @@ fn push_all<'a, A: Allocator, const N: usize>(
 )
     requires none { pairs.old.items ≡ [] }
     requires few { length tags.now ≤ N }
-    ensures { lent_pairs pairs.new.items ≡ map tag_texts tags.now }
+    ensures { borrowed_pairs pairs.new.items ≡ map tag_texts tags.now }
 {
     for tag in tags {
         pairs.push((tag.key.text(), tag.value.text()));
@@ -287,7 +287,7 @@ fn push_all<'a, A: Allocator, const N: usize>(
 /// Searches pairs sorted by key (linear search). Returns `Ok` with the key's index, or `Err` with the index to insert
 /// it at.
 fn offset_of(pairs: &[(&str, &str)], key: &str) -> Result<usize, usize>
-    ensures value { result ≡ key_offset_from 0 key.now (lent_pairs pairs.now) }
+    ensures value { result ≡ key_offset_from 0 key.now (borrowed_pairs pairs.now) }
     ensures bound { MatchResult result (λ at. at < length pairs.now) (λ at. at ≤ length pairs.now) }
 {
     for (at, (other, _)) in pairs.iter().enumerate() {
@@ -307,7 +307,7 @@ fn put<'a, const N: usize>(
     value: &'a str,
 )
     requires { array_vec_len pairs.old < N }
-    ensures pairs { lent_pairs pairs.new.items ≡ put text_cmp key.now value.now (lent_pairs pairs.old.items) }
+    ensures pairs { borrowed_pairs pairs.new.items ≡ put text_cmp key.now value.now (borrowed_pairs pairs.old.items) }
     ensures few { array_vec_len pairs.new ≤ array_vec_len pairs.old + 1 }
 {
     match offset_of(pairs, key) {

@@ -2,9 +2,9 @@
 ghost use Rattle.std.specs.Prelude.{◌≡◌, ◌<◌, ◌≤◌, true, length, IfOk, IfSome};
 ghost use Rattle.std.specs.Str.{IsCharBoundary};
 ghost use Rattle.ts_line.specs.EscapeLaws.{ReadsPairs};
-ghost use Rattle.ts_line.specs.Spans.{ArePlaced, pieces_of};
+ghost use Rattle.ts_line.specs.Spans.{AreInOrder, pieces_of};
 ghost use Rattle.ts_line.specs.Readings.{IsReadAsSpelled, NeedsMemory, IfOutOfMemory};
-ghost use Rattle.ts_line.specs.ReadSteps.{GivesIfRoom};
+ghost use Rattle.ts_line.specs.ReadSteps.{GivesIfMemory};
 ghost use Rattle.ts_core.specs.facts.TimeUnits.{nanoseconds_of};
 ghost use Rattle.ts_line.specs.Lines.{is_bare_space, trimmed, without_return, content, measurement_at, time_at, parts_at, line_of};
 
@@ -36,7 +36,7 @@ pub fn read_line<A: Allocator + Copy>(
     now: Time,
 ) -> Result<Option<Line<'_, A>>, ReadLineError>
     // exactly no line, its parts or its first error
-    ensures value { GivesIfRoom (λ o. o) result (line_of (nanoseconds_of precision) now text.now) }
+    ensures value { GivesIfMemory (λ o. o) result (line_of (nanoseconds_of precision) now text.now) }
 
     // only a text that needs memory runs out of it: one that is not too long, not blank and no comment
     ensures memory { IfOutOfMemory result (NeedsMemory (nanoseconds_of precision) now text.now) }
@@ -45,7 +45,7 @@ pub fn read_line<A: Allocator + Copy>(
     ensures spelled { IsReadAsSpelled (nanoseconds_of precision) now text.now result }
 
     // each part is the slice of the text at its span, and the parts follow one another
-    ensures spans { IfOk result (λ o. IfSome o (λ p. ArePlaced text.now 0 (pieces_of p))) }
+    ensures spans { IfOk result (λ o. IfSome o (λ p. AreInOrder text.now 0 (pieces_of p))) }
 
     // testing for a backslash directly before a byte agrees with reading escapes in pairs
     ensures pairs { ReadsPairs }
@@ -60,7 +60,7 @@ fn whole_line<A: Allocator + Copy>(
     precision: TimeUnit,
     now: Time,
 ) -> Result<Option<Line<'_, A>>, ReadLineError>
-    ensures value { GivesIfRoom (λ o. o) result (line_of (nanoseconds_of precision) now text.now) }
+    ensures value { GivesIfMemory (λ o. o) result (line_of (nanoseconds_of precision) now text.now) }
     ensures memory { IfOutOfMemory result (NeedsMemory (nanoseconds_of precision) now text.now) }
 {
     if text.len() > LINE_LIMIT {
@@ -127,7 +127,7 @@ fn measurement<'a, A: Allocator>(
 ) -> Result<(Part<'a, A>, usize), ReadLineError>
     requires short { length line.now ≤ 65536 }
     requires boundary { IsCharBoundary line.now start }
-    ensures value { GivesIfRoom (λ x. x) result (measurement_at line.now start) }
+    ensures value { GivesIfMemory (λ x. x) result (measurement_at line.now start) }
     ensures boundary { IfOk result (λ x. IsCharBoundary line.now x.1) }
 {
     let limit = start + KEY_LIMIT;
@@ -174,7 +174,7 @@ fn parts<A: Allocator + Copy>(
 ) -> Result<Line<'_, A>, ReadLineError>
     requires short { length line.now ≤ 65536 }
     requires boundary { IsCharBoundary line.now start }
-    ensures { GivesIfRoom (λ l. l) result (parts_at (nanoseconds_of precision) now line.now start) }
+    ensures { GivesIfMemory (λ l. l) result (parts_at (nanoseconds_of precision) now line.now start) }
 {
     let (measurement, end) = measurement(alloc, line, start)?;
     let (tags, end) = tags(alloc, line, end)?;

@@ -41,21 +41,21 @@ pub fn is_stop(stops: Stops, byte: u8) -> bool
 }
 
 /// Bit set of the backslash, space, comma and equals sign, indexed by the byte modulo 64.
-const MARKS: u64 = 1 << 28 | 1 << 32 | 1 << 44 | 1 << 61;
+const DELIMITER_BITS: u64 = 1 << 28 | 1 << 32 | 1 << 44 | 1 << 61;
 
 /// Tests a byte cheaply: never false for a backslash or a delimiter, but true for a few other bytes.
-fn may_be_mark(byte: u8) -> bool
+fn may_be_delimiter(byte: u8) -> bool
     ensures stops { (stops : Stops) → result ≡ false → is_stop stops byte ≡ false }
     ensures backslash { result ≡ false → is_backslash byte ≡ false }
 {
-    (MARKS >> (byte % 64)) & 1 == 1
+    (DELIMITER_BITS >> (byte % 64)) & 1 == 1
 }
 
 /// Returns true if the byte is a backslash or a delimiter.
-fn is_mark(stops: Stops, byte: u8) -> bool
+fn is_delimiter(stops: Stops, byte: u8) -> bool
     ensures { result ≡ (is_backslash byte || is_stop stops byte) }
 {
-    may_be_mark(byte) && (byte == b'\\' || is_stop(stops, byte))
+    may_be_delimiter(byte) && (byte == b'\\' || is_stop(stops, byte))
 }
 
 /// Returns true if `byte` ends a part when it follows `before`.
@@ -102,7 +102,7 @@ pub fn end_at(line: &str, from: usize, stops: Stops) -> End
     let mut at = from;
     while at < bytes.len() {
         let byte = bytes[at];
-        if is_mark(stops, byte) {
+        if is_delimiter(stops, byte) {
             break;
         }
         at += 1;

@@ -2,14 +2,14 @@
 ghost use Rattle.std.specs.Prelude.{◌≡◌, ◌<◌, ◌≤◌, ◌+◌, ◌++◌, ◌∷◌, length, [], IfOk, false, true, slice_index_or};
 ghost use Rattle.std.specs.Str.{IsCharBoundary};
 ghost use Rattle.ts_core.specs.text.Cursors.{IsOffsetFrom};
-ghost use Rattle.ts_line.specs.ReadSteps.{GivesIfRoom};
-ghost use Rattle.ts_line.specs.NameMarks.{AreKeysMarked, slot_of};
+ghost use Rattle.ts_line.specs.ReadSteps.{GivesIfMemory};
+ghost use Rattle.ts_line.specs.NameFilters.{AreKeysInFilter, slot_of};
 ghost use Rattle.ts_line.specs.TagParts.{has_key, next_tag, tags_at};
 ghost use Rattle.ts_line.specs.StepsPut.{PushesNextTag};
 
 use crate::fault::{LineFaultKind, ReadLineError};
 use crate::line::{TAG_LIMIT, Tag};
-use crate::mark::slot_of;
+use crate::name_filter::slot_of;
 use crate::part::part_at;
 use crate::scan::{Stops, end_at};
 use std::alloc::Allocator;
@@ -27,10 +27,10 @@ fn has_key<A: Allocator>(tags: &[Tag<'_, A>], key: &str) -> bool
 
 /// Sets the slot of the key in `marks`; returns true if one of the tags has the key. An unset slot means a new key.
 fn is_repeated<A: Allocator>(marks: &mut [bool; 64], tags: &[Tag<'_, A>], key: &str) -> bool
-    requires { AreKeysMarked marks.old tags.now }
+    requires { AreKeysInFilter marks.old tags.now }
     ensures value { result ≡ has_key tags.now key.now }
     ensures key { slice_index_or marks.new (slot_of key.now) false ≡ true }
-    ensures tags { AreKeysMarked marks.new tags.now }
+    ensures tags { AreKeysInFilter marks.new tags.now }
 {
     let slot = slot_of(key);
     let was_set = marks[slot];
@@ -49,11 +49,11 @@ fn next<'a, A: Allocator + Copy>(
     start: usize,
 ) -> Result<(Tag<'a, A>, usize), ReadLineError>
     requires boundary { IsCharBoundary line.now start }
-    requires marked { AreKeysMarked marks.old before.now }
-    ensures value { GivesIfRoom (λ x. x) result (next_tag before.now line.now start) }
-    ensures marked { IfOk result (λ x. AreKeysMarked marks.new (before.now ++ x.0 ∷ [])) }
+    requires marked { AreKeysInFilter marks.old before.now }
+    ensures value { GivesIfMemory (λ x. x) result (next_tag before.now line.now start) }
+    ensures marked { IfOk result (λ x. AreKeysInFilter marks.new (before.now ++ x.0 ∷ [])) }
     ensures offset { IfOk result (λ x. IsOffsetFrom line.now (start + 1) x.1) }
-    ensures room { IfOk result (λ _. length before.now < 64) }
+    ensures spare { IfOk result (λ _. length before.now < 64) }
 {
     let key_end = end_at(line, start, Stops::Equals);
     if key_end.at == start || byte_at(line, key_end.at) != b'=' {
@@ -88,7 +88,7 @@ fn push_next<'a, A: Allocator + Copy>(
     start: usize,
 ) -> Result<usize, ReadLineError>
     requires boundary { IsCharBoundary line.now start }
-    requires marked { AreKeysMarked marks.old tags.old.items }
+    requires marked { AreKeysInFilter marks.old tags.old.items }
     ensures { PushesNextTag tags.old.items tags.new.items marks.new line.now start result }
 {
     let (tag, end) = next(alloc, tags, marks, line, start)?;
@@ -103,7 +103,7 @@ pub fn tags<'a, A: Allocator + Copy>(
     start: usize,
 ) -> Result<(Vec<Tag<'a, A>, A>, usize), ReadLineError>
     requires { IsCharBoundary line.now start }
-    ensures value { GivesIfRoom (λ x. (x.0.items, x.1)) result (tags_at 65 [] line.now start) }
+    ensures value { GivesIfMemory (λ x. (x.0.items, x.1)) result (tags_at 65 [] line.now start) }
     ensures few { IfOk result (λ x. length x.0.items ≤ 64) }
     ensures boundary { IfOk result (λ x. IsCharBoundary line.now x.1) }
 {

@@ -3,7 +3,7 @@ use Rattle.std.specs.Prelude.{◌≡◌, Bool, true, ◌&&◌, List, [], ◌∷�
 use Rattle.ts_core.specs.settings.SettingsFaults.{is_rule_name}
 use Rattle.ts_core.specs.plans.Pieces.{Piece, MarkedRule, QueryContext, RuleServes}
 use Rattle.ts_core.specs.plans.Faults.{piece_fault, divides}
-use Rattle.ts_core.specs.plans.Plans.{rollup_piece, is_same_rule, is_faultless, extended, joined_onto, joined}
+use Rattle.ts_core.specs.plans.Plans.{rollup_piece, is_same_rule, is_faultless, extended, merged_onto, joined}
 use Rattle.ts_plan.specs.Steps.{name_or_none}
 use Rattle.ts_plan.specs.declared.walk.PendingPiece.{PendingPiece}
 
@@ -20,7 +20,7 @@ joins t p b = is_same_rule p.source b.source && is_faultless (piece_fault t (ext
 
 abbrev pub joined_after : QueryContext → Option PendingPiece → List Piece → List Piece
 joined_after t None bs = joined t bs
-joined_after t (Some h) bs = joined_onto t (pending_piece t h) bs
+joined_after t (Some h) bs = merged_onto t (pending_piece t h) bs
 
 -- a valid piece of a rule
 pub record IsPendingPiece (t : QueryContext) (h : PendingPiece) : Type 0 where

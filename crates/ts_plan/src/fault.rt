@@ -6,7 +6,7 @@ ghost use Rattle.ts_plan.specs.declared.fault.PlanError.TheVariants as errors;
 
 use std::alloc::{AllocError, Allocator};
 use thiserror::Error;
-use ts_core::{FaultCode, FaultDetail, append_words};
+use ts_core::{FaultCode, FaultDetail, push_all};
 
 /// Reason why a query has no plan.
 #[derive(Clone, Copy, Debug, PartialEq, Eq, Error)]
@@ -75,7 +75,7 @@ impl PlanError {
     {
         match self {
             PlanError::Fault(fault) => fault.text_to(text),
-            PlanError::OutOfMemory => append_words(text, &["fault memory"]),
+            PlanError::OutOfMemory => push_all(text, &["fault memory"]),
         }
     }
 }

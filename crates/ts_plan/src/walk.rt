@@ -2,7 +2,7 @@
 ghost use Rattle.std.specs.Prelude.{◌≡◌, List, [], ◌++◌, ◌∷◌, IfOk};
 ghost use Rattle.std.specs.List.{AllByRecursion};
 ghost use Rattle.ts_core.specs.plans.Pieces.{Piece as PieceValue};
-ghost use Rattle.ts_core.specs.plans.Plans.{joined, joined_onto};
+ghost use Rattle.ts_core.specs.plans.Plans.{joined, merged_onto};
 ghost use Rattle.ts_plan.specs.Steps.{IsPlannable, IsStep, bucket_piece, walked};
 ghost use Rattle.ts_plan.specs.Joins.{pending_piece, pending_pieces, joins, joined_after, IsPendingPiece, ArePending};
 
@@ -75,7 +75,7 @@ fn follow<A: Allocator>(
     requires pending { ArePending context.now pending }
     requires step { IsStep context.now step.now }
     ensures pending { IfOk result (IsPendingPiece context.now) }
-    ensures pieces { IfOk result (λ h. (bs : List PieceValue) → pieces.new.items ++ joined_onto context.now (pending_piece context.now h) bs ≡ pieces.old.items ++ joined_after context.now pending (bucket_piece context.now step.now ∷ bs)) }
+    ensures pieces { IfOk result (λ h. (bs : List PieceValue) → pieces.new.items ++ merged_onto context.now (pending_piece context.now h) bs ≡ pieces.old.items ++ joined_after context.now pending (bucket_piece context.now step.now ∷ bs)) }
 {
     match pending {
         None => Ok(PendingPiece::of_step(context, step)),

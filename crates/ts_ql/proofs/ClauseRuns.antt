@@ -6,7 +6,7 @@ use Rattle.ts_ql.specs.declared.state.State.TheVariants as states
 use Rattle.ts_ql.specs.declared.token.Kind.{Kind}
 use Rattle.ts_ql.specs.declared.token.Kind.TheVariants as kinds
 use Rattle.ts_ql.specs.Grammar.{Item, Cond}
-use Rattle.ts_ql.specs.Laws.{Reach, Reads}
+use Rattle.ts_ql.specs.Laws.{Reach, ReadsTokens}
 use Rattle.ts_ql.specs.Literals.{is_word}
 use Rattle.ts_ql.specs.GroupSteps.{group_step}
 use Rattle.ts_ql.specs.Meanings.{after_cond}
@@ -49,14 +49,14 @@ continued_by now s p t k = if may_end p && is_end k then ended now k (at p s) el
 where_back_at : (now : ℤ) (s : Progress) (t : Lexeme) → t.kind ≡ kinds.Keyword → is_word (codes "where") t.text ≡ true
     → (c : Cond) (closing : Closing) → levels closing ≡ 0
     → (q : FilterTail) × SuitsAt states.AfterMeasurement (at states.AfterMeasurement s) q
-    × ((ts : List Lexeme) (reach : Reach) → Reads (left_at states.Term now (at states.Term s) (c, closing)) ts reach → Reads (left_at states.AfterMeasurement now (at states.AfterMeasurement s) q) (t ∷ ts) reach)
+    × ((ts : List Lexeme) (reach : Reach) → ReadsTokens (left_at states.Term now (at states.Term s) (c, closing)) ts reach → ReadsTokens (left_at states.AfterMeasurement now (at states.AfterMeasurement s) q) (t ∷ ts) reach)
     × (all_said now (at states.AfterMeasurement s) q ≡ all_said now (at states.Term s) (c, closing))
 where_back_at now s t e is c (Outside cs tail) same = (
   (Some (joined c cs), tail),
   tt,
   (λ ts reach v. (
     (e, is),
-    subst (λ (items : List Item). Reads items ts reach) (sym (spell_joined now 0 c cs (left_group now s (after_cond now (meaning s.builder) (joined c cs)) tail)
+    subst (λ (items : List Item). ReadsTokens items ts reach) (sym (spell_joined now 0 c cs (left_group now s (after_cond now (meaning s.builder) (joined c cs)) tail)
         ∙ ap (λ (p : Meaning). spell_cond now 0 c (spell_conds now 0 cs (left_group now s p tail))) (after_joined now (meaning s.builder) c cs))) v,
   )),
   ap (λ (p : Meaning). map Ok s.queries ++ said_group now s p tail) (after_joined now (meaning s.builder) c cs),

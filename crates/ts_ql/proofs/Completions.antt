@@ -8,11 +8,11 @@ use Rattle.ts_ql.specs.declared.state.State.TheVariants as states
 use Rattle.ts_ql.specs.declared.token.Kind.{Kind}
 use Rattle.ts_ql.specs.declared.token.Kind.TheVariants as kinds
 use Rattle.ts_ql.specs.Grammar.{Of, Is, Field, Call, FromClause, Measurement, Count, Number, Instant, Match, ByTag, NullOption, Statement, Stop}
-use Rattle.ts_ql.specs.Laws.{CanBeWritten, Within, Reads}
+use Rattle.ts_ql.specs.Laws.{CanBeWritten, Within, ReadsTokens}
 use Rattle.ts_ql.specs.Reading.{Progress, is_done}
 use Rattle.ts_ql.specs.Statements.{Meaning}
 use Rattle.ts_ql.specs.Tokens.{Lexeme}
-use Rattle.ts_ql.specs.Words.{is_time}
+use Rattle.ts_ql.specs.Words.{is_time_column}
 use Rattle.ts_ql.proofs.Rests.{Rest, FillTail, DimensionTail, FilterTail, SelectTail, Closing, Outside, Inside, levels, left_closing, left_at, left, SuitsAt, Suits}
 
 -- ---- tokens
@@ -75,15 +75,15 @@ closing_written : (n : ℕ) (now : ℤ) (s : Progress) (p : Meaning) → CanBeWr
 closing_written zero now s p = (marked kinds.End, tt)
 closing_written (suc n) now s p = (marked kinds.Close, closing_written n now s p)
 
-closing_reads : (n : ℕ) (now : ℤ) (s : Progress) (p : Meaning) → Reads (left_closing now s p (closing_of n)) [] Within
+closing_reads : (n : ℕ) (now : ℤ) (s : Progress) (p : Meaning) → ReadsTokens (left_closing now s p (closing_of n)) [] Within
 closing_reads zero now s p = (refl, (marked kinds.End, tt))
 closing_reads (suc n) now s p = (refl, (marked kinds.Close, closing_written n now s p))
 
 abbrev pub Completed : State → ℤ → Progress → Type 0
-Completed p now s = (q : Rest p) × SuitsAt p s q × Reads (left_at p now s q) [] Within
+Completed p now s = (q : Rest p) × SuitsAt p s q × ReadsTokens (left_at p now s q) [] Within
 
 completes_at : (p : State) (now : ℤ) (s : Progress) → is_done p ≡ false → Completed p now s
-unfolding is_time
+unfolding is_time_column
 completes_at states.Statement now s e = (Some (statement, Stop), tt, (refl, ((refl, refl), (refl, (marked kinds.Open, (refl, (marked kinds.Close, ((key (codes "from"), (refl, refl)), (refl, (marked kinds.End, tt))))))))))
 completes_at states.Function now s e = ((aggregate, select_tail), tt, (refl, (refl, (marked kinds.Open, (refl, (marked kinds.Close, ((key (codes "from"), (refl, refl)), (refl, (marked kinds.End, tt)))))))))
 completes_at states.FunctionOpen now s e = ((name, (None, (None, select_tail))), tt, (refl, (marked kinds.Open, (refl, (marked kinds.Close, ((key (codes "from"), (refl, refl)), (refl, (marked kinds.End, tt))))))))
@@ -129,5 +129,5 @@ completes_at states.FillClose now s e = (Stop, tt, (refl, (marked kinds.Close, (
 completes_at states.AfterFill now s e = (Stop, tt, (refl, (marked kinds.End, tt)))
 completes_at states.Done now s e = absurd cc
 
-pub completes : (now : ℤ) (s : Progress) → is_done s.state ≡ false → (q : Rest s.state) × Suits s q × Reads (left now s q) [] Within
+pub completes : (now : ℤ) (s : Progress) → is_done s.state ≡ false → (q : Rest s.state) × Suits s q × ReadsTokens (left now s q) [] Within
 completes now s e = completes_at s.state now s e

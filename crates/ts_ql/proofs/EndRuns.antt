@@ -9,7 +9,7 @@ use Rattle.ts_ql.specs.declared.token.Kind.{Kind}
 use Rattle.ts_ql.specs.declared.token.Kind.TheVariants as kinds
 use Rattle.ts_ql.specs.QueryFaults.{Fault, unexpected, TooManyStatements}
 use Rattle.ts_ql.specs.Grammar.{Item, Any, Of, Examine, Call, Statement, Ending, Stop, Close, Next}
-use Rattle.ts_ql.specs.Laws.{Reach, At, Reads}
+use Rattle.ts_ql.specs.Laws.{Reach, At, ReadsTokens}
 use Rattle.ts_ql.specs.Literals.{is_word}
 use Rattle.ts_ql.specs.Reading.{Progress, Advance, begun_at, after_end, ended_with, ended}
 use Rattle.ts_ql.specs.Selects.{Select}
@@ -49,14 +49,14 @@ semicolon_back : (now : ℤ) (s : Progress) (p : State) (t : Lexeme) → t.kind 
 semicolon_back now s p t e w query said None suits = (
   w.rest Close,
   w.suits Close,
-  (λ ts reach v. subst (λ (is : List Item). Reads is (t ∷ ts) reach) (sym (w.left_same Close))
+  (λ ts reach v. subst (λ (is : List Item). ReadsTokens is (t ∷ ts) reach) (sym (w.left_same Close))
       (e, passes (examined now s) (Any (Of kinds.End) ∷ []) ts reach (ap fault_in said) v)),
   ap (λ (qs : List (Result Select Fault)). map Ok s.queries ++ qs) (w.said_same Close ∙ ap (λ (r : Result Select Fault). r ∷ []) said) ∙ said_more s query [],
 )
 semicolon_back now s p t e w query said (Some r) suits = (
   w.rest (Next r.0 r.1),
   w.suits (Next r.0 r.1),
-  (λ ts reach v. subst (λ (is : List Item). Reads is (t ∷ ts) reach) (sym (w.left_same (Next r.0 r.1)))
+  (λ ts reach v. subst (λ (is : List Item). ReadsTokens is (t ∷ ts) reach) (sym (w.left_same (Next r.0 r.1)))
       (e, passes (examined now s) (left_statement now s (Some r)) ts reach (ap fault_in said) v)),
   ap (λ (qs : List (Result Select Fault)). map Ok s.queries ++ qs) (w.said_same (Next r.0 r.1) ∙ ap (λ (x : Result Select Fault). x ∷ said_statement now (Some r)) said)
       ∙ said_more s query (said_statement now (Some r)),
@@ -68,7 +68,7 @@ end_back : (now : ℤ) (s : Progress) (p : State) (t : Lexeme) → t.kind ≡ ki
 end_back now s p t e w query said r suits = (
   w.rest Stop,
   w.suits Stop,
-  (λ ts reach v. subst (λ (is : List Item). Reads is (t ∷ ts) reach) (sym (w.left_same Stop))
+  (λ ts reach v. subst (λ (is : List Item). ReadsTokens is (t ∷ ts) reach) (sym (w.left_same Stop))
       (e, passes (examined now s) [] ts reach (ap fault_in said) v)),
   ap (λ (qs : List (Result Select Fault)). map Ok s.queries ++ qs) (w.said_same Stop ∙ ap (λ (x : Result Select Fault). x ∷ []) said) ∙ said_more s query [],
 )
@@ -79,7 +79,7 @@ semicolon_faulty : (now : ℤ) (s : Progress) (p : State) (t : Lexeme) → t.kin
 semicolon_faulty now s p t e w f said = (
   w.rest Close,
   w.suits Close,
-  inr (subst (λ (is : List Item). Reads is (t ∷ []) (At f)) (sym (w.left_same Close))
+  inr (subst (λ (is : List Item). ReadsTokens is (t ∷ []) (At f)) (sym (w.left_same Close))
       (e, fails (examined now s) (Any (Of kinds.End) ∷ []) f (ap fault_in said))),
 )
 
@@ -88,7 +88,7 @@ end_faulty : (now : ℤ) (s : Progress) (p : State) (t : Lexeme) → t.kind ≡ 
 end_faulty now s p t e w f said = (
   w.rest Stop,
   w.suits Stop,
-  inr (subst (λ (is : List Item). Reads is (t ∷ []) (At f)) (sym (w.left_same Stop))
+  inr (subst (λ (is : List Item). ReadsTokens is (t ∷ []) (At f)) (sym (w.left_same Stop))
       (e, fails (examined now s) [] f (ap fault_in said))),
 )
 
@@ -115,7 +115,7 @@ abbrev pub end_steps : ℤ → Progress → State → Kind → Advance
 end_steps now s p k = ended now k (at p s)
 
 ending_said : (now : ℤ) (s : Progress) (p : State) (w : EndsAt now s p) (e : Ending) (t : Lexeme) (ts : List Lexeme) (reach : Reach) → 0 < s.count
-    → Reads (left_ending now s (meaning s.builder) e) (t ∷ ts) reach → (r : Result Select Fault) → statement_query s.start now (meaning s.builder) ≡ r
+    → ReadsTokens (left_ending now s (meaning s.builder) e) (t ∷ ts) reach → (r : Result Select Fault) → statement_query s.start now (meaning s.builder) ≡ r
     → Leads now (at p s) (w.rest e) ts reach (ended_with t.kind (at p s) r)
 ending_said now s p w Stop t ts reach some v (Ok query) said =
     subst (λ (k : Kind). Leads now (at p s) (w.rest Stop) ts reach (Ok (after s k query))) (sym v.0) (
@@ -144,9 +144,9 @@ ending_said now s p w Close t ts reach some v (Err f) said = failed (examined no
 ending_said now s p w (Next n rest) t ts reach some v (Err f) said = failed (examined now s) (left_statement now s (Some (n, rest))) ts reach f (ap fault_in said) v.1
 
 pub ending_leads : (now : ℤ) (s : Progress) (p : State) (w : EndsAt now s p) (e : Ending) (t : Lexeme) (ts : List Lexeme) (reach : Reach) → 0 < s.count
-    → Reads (left_at p now (at p s) (w.rest e)) (t ∷ ts) reach → Leads now (at p s) (w.rest e) ts reach (end_steps now s p t.kind)
+    → ReadsTokens (left_at p now (at p s) (w.rest e)) (t ∷ ts) reach → Leads now (at p s) (w.rest e) ts reach (end_steps now s p t.kind)
 ending_leads now s p w e t ts reach some v =
-    ending_said now s p w e t ts reach some (subst (λ (is : List Item). Reads is (t ∷ ts) reach) (w.left_same e) v) (statement_query s.start now (meaning s.builder)) refl
+    ending_said now s p w e t ts reach some (subst (λ (is : List Item). ReadsTokens is (t ∷ ts) reach) (w.left_same e) v) (statement_query s.start now (meaning s.builder)) refl
 
 -- ---- the beginning of a statement
 
@@ -218,7 +218,7 @@ behind_select now s st e =
     (st.first, (st.more, (st.source, (st.filter, (st.group, (st.fill, e))))))
 
 select_leads_if : (now : ℤ) (s : Progress) (st : Statement) (e : Ending) (t : Lexeme) (ts : List Lexeme) (reach : Reach) (b : Bool) → nat_le 16 s.count ≡ b
-    → Reads (Examine (count_fault s.count t) ∷ behind_select now s (selected_by t st) e) ts reach
+    → ReadsTokens (Examine (count_fault s.count t) ∷ behind_select now s (selected_by t st) e) ts reach
     → Leads now (at states.Statement (fresh s)) (Some (selected_by t st, e)) ts reach (if b then Err (TooManyStatements t.start)
     else Ok (record (at states.Function (fresh s)) { count = s.count + 1; start = t.start }))
 select_leads_if now s st e t ts reach true many v =
@@ -231,24 +231,24 @@ select_leads_if now s st e t ts reach false few v = (
 )
 
 select_leads_of : (now : ℤ) (s : Progress) (st : Statement) (e : Ending) (t : Lexeme) (ts : List Lexeme) (reach : Reach)
-    → Reads (left_statement now s (Some (selected_by t st, e))) (t ∷ ts) reach
+    → ReadsTokens (left_statement now s (Some (selected_by t st, e))) (t ∷ ts) reach
     → Leads now (at states.Statement (fresh s)) (Some (selected_by t st, e)) ts reach (begun_steps s t t.kind)
 select_leads_of now s st e t ts reach v =
     subst (λ (k : Kind). Leads now (at states.Statement (fresh s)) (Some (selected_by t st, e)) ts reach (begun_steps s t k)) (sym v.1.0)
     (rw (v.1.1) (select_leads_if now s st e t ts reach (nat_le 16 s.count) refl v.2))
 
 begun_leads_at : (now : ℤ) (s : Progress) (q : Rest states.Statement) (t : Lexeme) (ts : List Lexeme) (reach : Reach) → SuitsAt states.Statement (at states.Statement s) q
-    → Reads (left_statement now s q) (t ∷ ts) reach → Leads now (at states.Statement (fresh s)) q ts reach (begun_steps s t t.kind)
+    → ReadsTokens (left_statement now s q) (t ∷ ts) reach → Leads now (at states.Statement (fresh s)) q ts reach (begun_steps s t t.kind)
 begun_leads_at now s None t ts reach suits v =
     subst (λ (k : Kind). Leads now (at states.Statement (fresh s)) None ts reach (begun_steps s t k)) (sym v.0)
     (rw (not_zero s.count suits) (tt, tt, v.1, refl))
 begun_leads_at now s (Some r) t ts reach suits v =
-    subst (λ (x : Lexeme). Reads (left_statement now s (Some (selected_by x r.0, r.1))) (t ∷ ts) reach
+    subst (λ (x : Lexeme). ReadsTokens (left_statement now s (Some (selected_by x r.0, r.1))) (t ∷ ts) reach
     → Leads now (at states.Statement (fresh s)) (Some (selected_by x r.0, r.1)) ts reach (begun_steps s t t.kind)) v.0
     (select_leads_of now s r.0 r.1 t ts reach) v
 
 pub begun_leads : (now : ℤ) (s : Progress) (q : Rest states.Statement) (t : Lexeme) (ts : List Lexeme) (reach : Reach) → SoundAt states.Statement (at states.Statement s)
-    → SuitsAt states.Statement (at states.Statement s) q → Reads (left_at states.Statement now (at states.Statement s) q) (t ∷ ts) reach
+    → SuitsAt states.Statement (at states.Statement s) q → ReadsTokens (left_at states.Statement now (at states.Statement s) q) (t ∷ ts) reach
     → Leads now (at states.Statement s) q ts reach (begun_at t.kind t (at states.Statement s))
 begun_leads now s q t ts reach sound suits v =
     subst (λ (d : BuilderState). Leads now (at states.Statement (record s { builder = d })) q ts reach (begun_at t.kind t (at states.Statement (record s { builder = d })))) (sym sound)

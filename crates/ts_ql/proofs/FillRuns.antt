@@ -10,7 +10,7 @@ use Rattle.ts_ql.specs.declared.token.Kind.TheVariants as kinds
 use Rattle.ts_ql.specs.QueryFaults.{unexpected, OutOfRange}
 use Rattle.ts_ql.specs.Grammar.{Item, Any, Of, Examine, Count, FillOption, NullOption, NoneOption, PreviousOption, NumberOption, Ending, Stop}
 use Rattle.ts_ql.specs.GroupSteps.{FillStep, fill_at, with_number, chosen}
-use Rattle.ts_ql.specs.Laws.{Reach, Reads}
+use Rattle.ts_ql.specs.Laws.{Reach, ReadsTokens}
 use Rattle.ts_ql.specs.Literals.{is_word, literal}
 use Rattle.ts_ql.specs.Reading.{Progress, Advance, with_builder, in_filling}
 use Rattle.ts_ql.specs.Tokens.{Lexeme}
@@ -102,7 +102,7 @@ fill_answers now s p k t e = inr refl
 
 -- a number in its range leads on; another is at fault
 number_leads : (now : ℤ) (s : Progress) (t : Lexeme) (r : Ending) (ts : List Lexeme) (reach : Reach) (o : Option ℤ) → literal false t.text ≡ o
-    → Reads (Examine (literal_fault t.start (literal false t.text)) ∷ numbered_ending now s r (unwrap_or (literal false t.text) (pos 0))) ts reach
+    → ReadsTokens (Examine (literal_fault t.start (literal false t.text)) ∷ numbered_ending now s r (unwrap_or (literal false t.text) (pos 0))) ts reach
     → Leads now (at states.FillOption s) (NumberOption (record { minus = None; number = t }), r) ts reach (filled s states.FillOption (with_number t.start s.builder.filling o))
 number_leads now s t r ts reach (Some n) v w =
     let value : unwrap_or (literal false t.text) (pos 0) ≡ n = ap (λ (o : Option ℤ). unwrap_or o (pos 0)) v in (
@@ -116,7 +116,7 @@ number_leads now s t r ts reach None v w =
     failed (literal_fault t.start (literal false t.text)) (numbered_ending now s r (unwrap_or (literal false t.text) (pos 0))) ts reach (OutOfRange t.start) (ap (literal_fault t.start) v) w
 
 negative_leads : (now : ℤ) (s : Progress) (t : Lexeme) (r : Ending) (ts : List Lexeme) (reach : Reach) (o : Option ℤ) → literal true t.text ≡ o
-    → Reads (Examine (literal_fault s.builder.filling.first (literal true t.text)) ∷ numbered_ending now s r (unwrap_or (literal true t.text) (pos 0))) ts reach
+    → ReadsTokens (Examine (literal_fault s.builder.filling.first (literal true t.text)) ∷ numbered_ending now s r (unwrap_or (literal true t.text) (pos 0))) ts reach
     → Leads now (at states.FillMinus s) (t, r) ts reach (filled s states.FillMinus (with_number s.builder.filling.first s.builder.filling o))
 negative_leads now s t r ts reach (Some n) v w =
     let value : unwrap_or (literal true t.text) (pos 0) ≡ n = ap (λ (o : Option ℤ). unwrap_or o (pos 0)) v in (
@@ -134,7 +134,7 @@ abbrev pub fill_steps : Progress → State → Lexeme → Kind → Advance
 fill_steps s p t k = filled s p (fill_at p k t s.builder.filling)
 
 pub open_leads : (now : ℤ) (s : Progress) (q : FillOption × Ending) (t : Lexeme) (ts : List Lexeme) (reach : Reach)
-    → Reads (left_at states.FillOpen now (at states.FillOpen s) q) (t ∷ ts) reach → Leads now (at states.FillOpen s) q ts reach (fill_steps s states.FillOpen t t.kind)
+    → ReadsTokens (left_at states.FillOpen now (at states.FillOpen s) q) (t ∷ ts) reach → Leads now (at states.FillOpen s) q ts reach (fill_steps s states.FillOpen t t.kind)
 open_leads now s q t ts reach w =
     subst (λ (k : Kind). Leads now (at states.FillOpen s) q ts reach (fill_steps s states.FillOpen t k)) (sym w.0) (q, tt, w.1, refl)
 
@@ -142,21 +142,21 @@ abbrev pub OptionLeads : ℤ → Progress → FillOption → Ending → Lexeme �
 OptionLeads now s o r t ts reach k = Leads now (at states.FillOption s) (o, r) ts reach (fill_steps s states.FillOption t k)
 
 signed_leads : (now : ℤ) (s : Progress) (m : Option Lexeme) (l : Lexeme) (r : Ending) (t : Lexeme) (ts : List Lexeme) (reach : Reach)
-    → Reads (left_at states.FillOption now (at states.FillOption s) (NumberOption (record { minus = m; number = l }), r)) (t ∷ ts) reach
+    → ReadsTokens (left_at states.FillOption now (at states.FillOption s) (NumberOption (record { minus = m; number = l }), r)) (t ∷ ts) reach
     → OptionLeads now s (NumberOption (record { minus = m; number = l })) r t ts reach t.kind
 signed_leads now s None l r t ts reach w =
     subst (OptionLeads now s (NumberOption (record { minus = None; number = l })) r t ts reach) (sym w.1)
-    (subst (λ (x : Lexeme). Reads (Examine (literal_fault x.start (literal false x.text)) ∷ numbered_ending now s r (unwrap_or (literal false x.text) (pos 0))) ts reach
+    (subst (λ (x : Lexeme). ReadsTokens (Examine (literal_fault x.start (literal false x.text)) ∷ numbered_ending now s r (unwrap_or (literal false x.text) (pos 0))) ts reach
     → OptionLeads now s (NumberOption (record { minus = None; number = x })) r t ts reach kinds.Integer) w.0
     (number_leads now s t r ts reach (literal false t.text) refl) w.2)
 signed_leads now s (Some m) l r t ts reach w =
     subst (OptionLeads now s (NumberOption (record { minus = Some m; number = l })) r t ts reach) (sym w.1)
-    (subst (λ (x : Lexeme). Reads (spell_number None Count l (Examine (literal_fault x.start (literal true l.text)) ∷ numbered_ending now s r (unwrap_or (literal true l.text) (pos 0)))) ts reach
+    (subst (λ (x : Lexeme). ReadsTokens (spell_number None Count l (Examine (literal_fault x.start (literal true l.text)) ∷ numbered_ending now s r (unwrap_or (literal true l.text) (pos 0)))) ts reach
     → OptionLeads now s (NumberOption (record { minus = Some x; number = l })) r t ts reach kinds.Minus) w.0
     (λ v. ((l, r), tt, v, refl)) w.2)
 
 option_leads_at : (now : ℤ) (s : Progress) (o : FillOption) (r : Ending) (t : Lexeme) (ts : List Lexeme) (reach : Reach)
-    → Reads (left_at states.FillOption now (at states.FillOption s) (o, r)) (t ∷ ts) reach → OptionLeads now s o r t ts reach t.kind
+    → ReadsTokens (left_at states.FillOption now (at states.FillOption s) (o, r)) (t ∷ ts) reach → OptionLeads now s o r t ts reach t.kind
 option_leads_at now s NullOption r t ts reach w = subst (OptionLeads now s NullOption r t ts reach) (sym w.0.0)
     (rw (w.0.1) (r, tt, w.1, refl))
 option_leads_at now s NoneOption r t ts reach w = subst (OptionLeads now s NoneOption r t ts reach) (sym w.0.0)
@@ -166,18 +166,18 @@ option_leads_at now s PreviousOption r t ts reach w = subst (OptionLeads now s P
 option_leads_at now s (NumberOption n) r t ts reach w = signed_leads now s n.minus n.number r t ts reach w
 
 pub option_leads : (now : ℤ) (s : Progress) (q : FillOption × Ending) (t : Lexeme) (ts : List Lexeme) (reach : Reach)
-    → Reads (left_at states.FillOption now (at states.FillOption s) q) (t ∷ ts) reach → Leads now (at states.FillOption s) q ts reach (fill_steps s states.FillOption t t.kind)
+    → ReadsTokens (left_at states.FillOption now (at states.FillOption s) q) (t ∷ ts) reach → Leads now (at states.FillOption s) q ts reach (fill_steps s states.FillOption t t.kind)
 option_leads now s q t ts reach w = option_leads_at now s q.0 q.1 t ts reach w
 
 pub minus_leads : (now : ℤ) (s : Progress) (q : Lexeme × Ending) (t : Lexeme) (ts : List Lexeme) (reach : Reach)
-    → Reads (left_at states.FillMinus now (at states.FillMinus s) q) (t ∷ ts) reach → Leads now (at states.FillMinus s) q ts reach (fill_steps s states.FillMinus t t.kind)
+    → ReadsTokens (left_at states.FillMinus now (at states.FillMinus s) q) (t ∷ ts) reach → Leads now (at states.FillMinus s) q ts reach (fill_steps s states.FillMinus t t.kind)
 minus_leads now s q t ts reach w =
     subst (λ (k : Kind). Leads now (at states.FillMinus s) q ts reach (fill_steps s states.FillMinus t k)) (sym w.1)
-    (subst (λ (l : Lexeme). Reads (Examine (literal_fault s.builder.filling.first (literal true l.text)) ∷ numbered_ending now s q.1 (unwrap_or (literal true l.text) (pos 0))) ts reach
+    (subst (λ (l : Lexeme). ReadsTokens (Examine (literal_fault s.builder.filling.first (literal true l.text)) ∷ numbered_ending now s q.1 (unwrap_or (literal true l.text) (pos 0))) ts reach
     → Leads now (at states.FillMinus s) (l, q.1) ts reach (fill_steps s states.FillMinus t kinds.Integer)) w.0
     (negative_leads now s t q.1 ts reach (literal true t.text) refl) w.2)
 
 pub close_leads : (now : ℤ) (s : Progress) (q : Ending) (t : Lexeme) (ts : List Lexeme) (reach : Reach)
-    → Reads (left_at states.FillClose now (at states.FillClose s) q) (t ∷ ts) reach → Leads now (at states.FillClose s) q ts reach (fill_steps s states.FillClose t t.kind)
+    → ReadsTokens (left_at states.FillClose now (at states.FillClose s) q) (t ∷ ts) reach → Leads now (at states.FillClose s) q ts reach (fill_steps s states.FillClose t t.kind)
 close_leads now s q t ts reach w =
     subst (λ (k : Kind). Leads now (at states.FillClose s) q ts reach (fill_steps s states.FillClose t k)) (sym w.0) (q, tt, w.1, refl)

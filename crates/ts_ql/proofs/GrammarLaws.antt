@@ -7,7 +7,7 @@ use Rattle.ts_ql.specs.declared.token.Kind.{Kind}
 use Rattle.ts_ql.specs.declared.token.Kind.TheVariants as kinds
 use Rattle.ts_ql.specs.QueryFaults.{Fault, unexpected}
 use Rattle.ts_ql.specs.Grammar.{Script}
-use Rattle.ts_ql.specs.Laws.{Reach, Within, Whole, At, Reads, Says, MayBecome, HasFault, IsFirstFault}
+use Rattle.ts_ql.specs.Laws.{Reach, Within, Whole, At, ReadsTokens, Says, MayBecome, HasFault, IsFirstQueryFault}
 use Rattle.ts_ql.specs.Meanings.{script_queries}
 use Rattle.ts_ql.specs.MomentSteps.{narrowed, bounded_by, moment_time, moment_step, moment_at}
 use Rattle.ts_ql.specs.Reading.{Progress, Advance, start_progress, finish_time_at, finish_time_step, narrowed_in, step, is_done, after_finishing_time, builder_step, next_clause}
@@ -32,7 +32,7 @@ Met now reach said r =
     ((n : Progress) × (q : Rest n.state) × (r ≡ Ok n) × Stands reach n × (said ≡ all_said now n q)) ⊎ ((f : Fault) × (reach ≡ At f) × (r ≡ Err f))
 
 run_meets : (ts : List Lexeme) (now : ℤ) (s : Progress) (q : Rest s.state) (reach : Reach) → Sound s → Suits s q → CountedAt s.state s.count
-    → Reads (left now s q) ts reach → Met now reach (all_said now s q) (run now s ts)
+    → ReadsTokens (left now s q) ts reach → Met now reach (all_said now s q) (run now s ts)
 run_meets [] now s q reach sound suits some v = inl (s, q, refl, stands now s q reach v, refl)
 run_meets (t ∷ ts) now s q reach sound suits some v =
     elim (step now t s) as (λ r. step now t s ≡ r → Answer now s t r → Leads now s q ts reach r → Counts r → Met now reach (all_said now s q) (run_then (λ (n : Progress). run now n ts) r)) [
@@ -44,7 +44,7 @@ run_meets (t ∷ ts) now s q reach sound suits some v =
     refl (answers now s t sound) (leads now s q t ts reach sound suits some v) (counts now t s some)
 
 -- a tree from the beginning on
-tree_meets : (now : ℤ) (script : Script) (ts : List Lexeme) (reach : Reach) → Reads (spell now script) ts reach → Met now reach (script_queries now script) (run now start_progress ts)
+tree_meets : (now : ℤ) (script : Script) (ts : List Lexeme) (reach : Reach) → ReadsTokens (spell now script) ts reach → Met now reach (script_queries now script) (run now start_progress ts)
 tree_meets now script ts reach v = run_meets ts now start_progress (Some (script.first, script.rest)) reach refl tt tt v
 
 -- ---- from the machine to trees
@@ -53,10 +53,10 @@ tree_meets now script ts reach v = run_meets ts now start_progress (Some (script
 record Viable (now : ℤ) (s : Progress) (read : List Lexeme) : Type 0 where
   sound : Sound s
   grows : (q : Rest s.state) → Suits s q → (script : Script)
-      × ((ts : List Lexeme) (reach : Reach) → Reads (left now s q) ts reach → Reads (spell now script) (read ++ ts) reach) × (script_queries now script ≡ all_said now s q)
+      × ((ts : List Lexeme) (reach : Reach) → ReadsTokens (left now s q) ts reach → ReadsTokens (spell now script) (read ++ ts) reach) × (script_queries now script ≡ all_said now s q)
 
 start_grows : (now : ℤ) (q : Rest states.Statement) → Suits start_progress q → (script : Script)
-    × ((ts : List Lexeme) (reach : Reach) → Reads (left now start_progress q) ts reach → Reads (spell now script) ts reach) × (script_queries now script ≡ all_said now start_progress q)
+    × ((ts : List Lexeme) (reach : Reach) → ReadsTokens (left now start_progress q) ts reach → ReadsTokens (spell now script) ts reach) × (script_queries now script ≡ all_said now start_progress q)
 start_grows now None suits = absurd (omega (arith, suits))
 start_grows now (Some p) suits = (record { first = p.0; rest = p.1 }, (λ ts reach v. v), refl)
 
@@ -72,7 +72,7 @@ step_viable now s n read t w e =
           let back = answer.1 q suits in
           let tree = w.grows back.0 back.1 in (
             tree.0,
-            (λ ts reach v. subst (λ (xs : List Lexeme). Reads (spell now tree.0) xs reach) (sym (append_assoc read (t ∷ []) ts)) (tree.1 (t ∷ ts) reach (back.2 ts reach v))),
+            (λ ts reach v. subst (λ (xs : List Lexeme). ReadsTokens (spell now tree.0) xs reach) (sym (append_assoc read (t ∷ []) ts)) (tree.1 (t ∷ ts) reach (back.2 ts reach v))),
             tree.2 ∙ back.3,
           );
     }
@@ -96,7 +96,7 @@ viable now n ts e = run_viable ts now start_progress n [] (start_viable now) e
 says_at : (p : State) (now : ℤ) (s : Progress) (ts : List Lexeme) → is_done p ≡ true → Viable now (at p s) ts → Says now ts s.queries
 says_at states.Done now s ts done w =
     let tree = w.grows tt tt in
-    (tree.0, subst (λ (xs : List Lexeme). Reads (spell now tree.0) xs Whole) (append-nil ts) (tree.1 [] Whole refl), tree.2 ∙ append-nil (map Ok s.queries))
+    (tree.0, subst (λ (xs : List Lexeme). ReadsTokens (spell now tree.0) xs Whole) (append-nil ts) (tree.1 [] Whole refl), tree.2 ∙ append-nil (map Ok s.queries))
 says_at p now s ts done w = absurd cc
 
 pub says : (now : ℤ) (s : Progress) (ts : List Lexeme) → run now start_progress ts ≡ Ok s → is_done s.state ≡ true → Says now ts s.queries
@@ -128,7 +128,7 @@ begins_if now s ts w true done = let said = says_at s.state now s ts done w in (
 begins_if now s ts w false live =
     let rest = completes now s live in
     let tree = w.grows rest.0 rest.1 in
-    (tree.0, inl (subst (λ (xs : List Lexeme). Reads (spell now tree.0) xs Within) (append-nil ts) (tree.1 [] Within rest.2)))
+    (tree.0, inl (subst (λ (xs : List Lexeme). ReadsTokens (spell now tree.0) xs Within) (append-nil ts) (tree.1 [] Within rest.2)))
 
 -- tokens that the machine takes may go on to be a text
 begins : (now : ℤ) (s : Progress) (ts : List Lexeme) → run now start_progress ts ≡ Ok s → MayBecome now ts
@@ -210,7 +210,7 @@ examined now s front t f other runs refused (script, inr v) =
 faulty : (now : ℤ) (s : Progress) (front : List Lexeme) (t : Lexeme) (f : Fault) → Viable now s front → Faulty now s t f → HasFault now front t f
 faulty now s front t f w (q, suits, inl v) =
     let tree = w.grows q suits in
-    (tree.0, inl (subst (λ (xs : List Lexeme). Reads (spell now tree.0) xs (At f)) (append-nil front) (tree.1 [] (At f) v)))
+    (tree.0, inl (subst (λ (xs : List Lexeme). ReadsTokens (spell now tree.0) xs (At f)) (append-nil front) (tree.1 [] (At f) v)))
 faulty now s front t f w (q, suits, inr v) = let tree = w.grows q suits in (tree.0, inr (tree.1 (t ∷ []) (At f) v))
 
 known_by : (now : ℤ) (s : Progress) (front : List Lexeme) (t : Lexeme) (f : Fault) → Viable now s front → Answer now s t (Err f) → HasFault now front t f ⊎ (f ≡ unexpected t)
@@ -229,7 +229,7 @@ refused_ends now s front t f runs refused may =
     let fine : run now start_progress (front ++ t ∷ []) ≡ Ok m.0 = m.1 in
     cc
 
-pub first_fault : (now : ℤ) (ts : List Lexeme) (f : Fault) → run now start_progress ts ≡ Err f → IsFirstFault now ts f
+pub first_fault : (now : ℤ) (ts : List Lexeme) (f : Fault) → run now start_progress ts ≡ Err f → IsFirstQueryFault now ts f
 first_fault now ts f e =
     let w = split now start_progress ts f e in
     record {
@@ -244,13 +244,13 @@ first_fault now ts f e =
     }
 
 -- a first fault is the one that the machine reports
-same_fault : (now : ℤ) (ts : List Lexeme) (f : Fault) (w : IsFirstFault now ts f) (s : Progress) → run now start_progress w.before ≡ Ok s → (g : Fault) → step now w.token s ≡ Err g
+same_fault : (now : ℤ) (ts : List Lexeme) (f : Fault) (w : IsFirstQueryFault now ts f) (s : Progress) → run now start_progress w.before ≡ Ok s → (g : Fault) → step now w.token s ≡ Err g
     → HasFault now w.before w.token f ⊎ (f ≡ unexpected w.token) → HasFault now w.before w.token g ⊎ (g ≡ unexpected w.token) → f ≡ g
 same_fault now ts f w s runs g e (inl has) other = sym (examined now s w.before w.token g f runs e has)
 same_fault now ts f w s runs g e (inr same) (inl has) = w.examined g has
 same_fault now ts f w s runs g e (inr same) (inr told) = same ∙ sym told
 
-refused_as : (now : ℤ) (ts : List Lexeme) (f : Fault) (w : IsFirstFault now ts f) (s : Progress) → run now start_progress w.before ≡ Ok s → (r : Advance) → step now w.token s ≡ r
+refused_as : (now : ℤ) (ts : List Lexeme) (f : Fault) (w : IsFirstQueryFault now ts f) (s : Progress) → run now start_progress w.before ≡ Ok s → (r : Advance) → step now w.token s ≡ r
     → run now start_progress ts ≡ Err f
 refused_as now ts f w s runs (Ok n) e =
     let taken : run now start_progress (w.before ++ w.token ∷ []) ≡ Ok n = run-append_ok now start_progress s w.before (w.token ∷ []) runs ∙ ap (run_then (λ (m : Progress). run now m [])) e in
@@ -261,7 +261,7 @@ refused_as now ts f w s runs (Err g) e =
     let whole : (w.before ++ w.token ∷ []) ++ w.behind ≡ ts = append_assoc w.before (w.token ∷ []) w.behind ∙ sym w.parts in
     ap (λ (xs : List Lexeme). run now start_progress xs) (sym whole) ∙ run-append_err now start_progress (w.before ++ w.token ∷ []) w.behind g short ∙ ap Err (sym same)
 
-pub fault_only : (now : ℤ) (ts : List Lexeme) (f : Fault) → IsFirstFault now ts f → run now start_progress ts ≡ Err f
+pub fault_only : (now : ℤ) (ts : List Lexeme) (f : Fault) → IsFirstQueryFault now ts f → run now start_progress ts ≡ Err f
 fault_only now ts f w =
     let m = taken now w.before w.begins in
     refused_as now ts f w m.0 m.1 (step now w.token m.0) refl

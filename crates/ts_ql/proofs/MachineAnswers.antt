@@ -8,7 +8,7 @@ use Rattle.ts_ql.specs.declared.token.Kind.{Kind}
 use Rattle.ts_ql.specs.declared.token.Kind.TheVariants as kinds
 use Rattle.ts_ql.specs.QueryFaults.{Fault}
 use Rattle.ts_ql.specs.GroupSteps.{group_step, fill_step}
-use Rattle.ts_ql.specs.Laws.{Reach, At, Reads}
+use Rattle.ts_ql.specs.Laws.{Reach, At, ReadsTokens}
 use Rattle.ts_ql.specs.MomentSteps.{moment_step, narrowed}
 use Rattle.ts_ql.specs.Builders.{BuilderState, meaning}
 use Rattle.ts_ql.specs.Ranges.{bounded}
@@ -95,12 +95,12 @@ behind_term b = if b then states.AfterTerm else states.NestedTerm
 
 -- a rest after the moment is one before its end
 unsettled_closing : (now : ℤ) (s : Progress) (q : Closing) (ts : List Lexeme) (reach : Reach) → moment_fault s ≡ None
-    → Reads (left_closing now (settled_state s) (meaning (bounding s)) q) ts reach → Reads (left_at states.AfterMoment now (at states.AfterMoment s) ([], q)) ts reach
+    → ReadsTokens (left_closing now (settled_state s) (meaning (bounding s)) q) ts reach → ReadsTokens (left_at states.AfterMoment now (at states.AfterMoment s) ([], q)) ts reach
 unsettled_closing now s q ts reach valid w = passes (moment_fault s) (left_closing now s (meaning (bounding s)) q) ts reach valid w
 
 unsettled_fault : (now : ℤ) (s : Progress) (t : Lexeme) (q : Closing) (f : Fault) → moment_fault s ≡ None
-    → Reads (left_closing now (settled_state s) (meaning (bounding s)) q) [] (At f) ⊎ Reads (left_closing now (settled_state s) (meaning (bounding s)) q) (t ∷ []) (At f)
-    → Reads (left_at states.AfterMoment now (at states.AfterMoment s) ([], q)) [] (At f) ⊎ Reads (left_at states.AfterMoment now (at states.AfterMoment s) ([], q)) (t ∷ []) (At f)
+    → ReadsTokens (left_closing now (settled_state s) (meaning (bounding s)) q) [] (At f) ⊎ ReadsTokens (left_closing now (settled_state s) (meaning (bounding s)) q) (t ∷ []) (At f)
+    → ReadsTokens (left_at states.AfterMoment now (at states.AfterMoment s) ([], q)) [] (At f) ⊎ ReadsTokens (left_at states.AfterMoment now (at states.AfterMoment s) ([], q)) (t ∷ []) (At f)
 unsettled_fault now s t q f valid (inl w) = inl (unsettled_closing now s q [] (At f) valid w)
 unsettled_fault now s t q f valid (inr w) = inr (unsettled_closing now s q (t ∷ []) (At f) valid w)
 

@@ -8,7 +8,7 @@ use Rattle.ts_ql.specs.declared.token.Kind.{Kind}
 use Rattle.ts_ql.specs.QueryFaults.{Fault}
 use Rattle.ts_ql.specs.Grammar.{Change, GroupBy, FillOption, Ending, Stop, Close, Next}
 use Rattle.ts_ql.specs.GroupSteps.{group_step, fill_step}
-use Rattle.ts_ql.specs.Laws.{Reach, Reads}
+use Rattle.ts_ql.specs.Laws.{Reach, ReadsTokens}
 use Rattle.ts_ql.specs.MomentSteps.{moment_step, narrowed}
 use Rattle.ts_ql.specs.Reading.{Progress, Advance, BuilderResult, finish_time_at, finish_time_step, narrowed_in, builder_step, next_clause, begun, placed_at, after_finishing_time, step}
 use Rattle.ts_ql.specs.SelectSteps.{select_step}
@@ -36,7 +36,7 @@ CountedAt p count = 0 < count
 
 -- inside of parentheses
 nested_leads : (now : ℤ) (s : Progress) (q : Closing) (t : Lexeme) (ts : List Lexeme) (reach : Reach) → 0 < s.builder.filter.depth → s.builder.filter.depth ≡ levels q
-    → Reads (left_at states.NestedTerm now (at states.NestedTerm s) q) (t ∷ ts) reach → Leads now (at states.NestedTerm s) q ts reach (placed_at states.NestedTerm now t (at states.NestedTerm s))
+    → ReadsTokens (left_at states.NestedTerm now (at states.NestedTerm s) q) (t ∷ ts) reach → Leads now (at states.NestedTerm s) q ts reach (placed_at states.NestedTerm now t (at states.NestedTerm s))
 unfolding builder_step next_clause where_step
 nested_leads now s (Outside cs tail) t ts reach sound suits v = absurd (omega (arith, sound, suits))
 nested_leads now s (Inside (c ∷ cs) closing) t ts reach sound suits v = nested_and_leads now s c cs closing t ts reach suits v
@@ -49,7 +49,7 @@ IsMomentAt states.AfterMoment = true
 IsMomentAt p = false
 
 placed_leads : (p : State) (now : ℤ) (s : Progress) (q : Rest p) (t : Lexeme) (ts : List Lexeme) (reach : Reach) → IsMomentAt p ≡ false → SoundAt p (at p s) → SuitsAt p (at p s) q → CountedAt p s.count
-    → Reads (left_at p now (at p s) q) (t ∷ ts) reach → Leads now (at p s) q ts reach (placed_at p now t (at p s))
+    → ReadsTokens (left_at p now (at p s) q) (t ∷ ts) reach → Leads now (at p s) q ts reach (placed_at p now t (at p s))
 unfolding begun builder_step next_clause select_step where_step moment_step group_step fill_step
 placed_leads states.Statement now s q t ts reach early sound suits some v = begun_leads now s q t ts reach sound suits v
 placed_leads states.Function now s q t ts reach early sound suits some v = Function_leads now s q t ts reach v
@@ -102,20 +102,20 @@ placed_leads states.Done now s q t ts reach early sound suits some v = absurd v
 EndsMoment : Progress → Kind → Type 0
 EndsMoment s k = finish_time_at states.AfterMoment k s.builder ≡ narrowed_in s.builder (narrowed s.builder.moment s.builder.range)
 
-ending_ends : (now : ℤ) (s : Progress) (p : Meaning) (e : Ending) (t : Lexeme) (ts : List Lexeme) (reach : Reach) → Reads (left_ending now s p e) (t ∷ ts) reach → EndsMoment s t.kind
+ending_ends : (now : ℤ) (s : Progress) (p : Meaning) (e : Ending) (t : Lexeme) (ts : List Lexeme) (reach : Reach) → ReadsTokens (left_ending now s p e) (t ∷ ts) reach → EndsMoment s t.kind
 unfolding EndsMoment
 ending_ends now s p Stop t ts reach v = subst (EndsMoment s) (sym v.0) refl
 ending_ends now s p Close t ts reach v = subst (EndsMoment s) (sym v.0) refl
 ending_ends now s p (Next st e) t ts reach v = subst (EndsMoment s) (sym v.0) refl
 
 group_ends : (now : ℤ) (s : Progress) (p : Meaning) (g : Option GroupBy) (o : Option FillOption) (e : Ending) (t : Lexeme) (ts : List Lexeme) (reach : Reach)
-    → Reads (left_group now s p (g, (o, e))) (t ∷ ts) reach → EndsMoment s t.kind
+    → ReadsTokens (left_group now s p (g, (o, e))) (t ∷ ts) reach → EndsMoment s t.kind
 unfolding EndsMoment
 group_ends now s p (Some g) o e t ts reach v = subst (EndsMoment s) (sym v.0.0) refl
 group_ends now s p None (Some o) e t ts reach v = subst (EndsMoment s) (sym v.0.0) refl
 group_ends now s p None None e t ts reach v = ending_ends now s p e t ts reach v
 
-closing_ends : (now : ℤ) (s : Progress) (p : Meaning) (q : Closing) (t : Lexeme) (ts : List Lexeme) (reach : Reach) → Reads (left_closing now s p q) (t ∷ ts) reach → EndsMoment s t.kind
+closing_ends : (now : ℤ) (s : Progress) (p : Meaning) (q : Closing) (t : Lexeme) (ts : List Lexeme) (reach : Reach) → ReadsTokens (left_closing now s p q) (t ∷ ts) reach → EndsMoment s t.kind
 unfolding EndsMoment
 closing_ends now s p (Outside (c ∷ cs) tail) t ts reach v = subst (EndsMoment s) (sym v.0.0) refl
 closing_ends now s p (Outside [] tail) t ts reach v = group_ends now s p tail.0 tail.1.0 tail.1.1 t ts reach v
@@ -130,7 +130,7 @@ unsettle_leads now s q ts reach b (Ok n) w leads same = (leads.0, leads.1, leads
 unsettle_leads now s q ts reach b (Err f) w leads same = leads
 
 behind_leads : (now : ℤ) (s : Progress) (q : Closing) (t : Lexeme) (ts : List Lexeme) (reach : Reach) → s.builder.filter.depth ≡ levels q → 0 < s.count
-    → Reads (left_closing now (settled_state s) (meaning (bounding s)) q) (t ∷ ts) reach → (b : Bool) → (s.builder.filter.depth == 0) ≡ b
+    → ReadsTokens (left_closing now (settled_state s) (meaning (bounding s)) q) (t ∷ ts) reach → (b : Bool) → (s.builder.filter.depth == 0) ≡ b
     → Leads now (at states.AfterMoment s) ([], q) ts reach (placed_at (behind_term b) now t (at (behind_term b) (settled_state s)))
 behind_leads now s q t ts reach suits some v true e =
     unsettle_leads now s q ts reach true (placed_at states.AfterTerm now t (at states.AfterTerm (settled_state s))) (λ c. c)
@@ -144,13 +144,13 @@ abbrev moment_steps_on : ℤ → Progress → Lexeme → BuilderResult → Advan
 moment_steps_on now s t r = after_finishing_time now t (at states.AfterMoment s) r
 
 moment_end_leads : (now : ℤ) (s : Progress) (q : Closing) (t : Lexeme) (ts : List Lexeme) (reach : Reach) (o : Option Fault) → moment_fault s ≡ o → s.builder.filter.depth ≡ levels q → 0 < s.count
-    → Reads (left_at states.AfterMoment now (at states.AfterMoment s) ([], q)) (t ∷ ts) reach
+    → ReadsTokens (left_at states.AfterMoment now (at states.AfterMoment s) ([], q)) (t ∷ ts) reach
     → Leads now (at states.AfterMoment s) ([], q) ts reach (moment_steps_on now s t (finish_time_at states.AfterMoment t.kind s.builder))
 unfolding EndsMoment
 moment_end_leads now s q t ts reach (Some f) invalid suits some v =
     let none : t ∷ ts ≡ [] = (failed (moment_fault s) _ (t ∷ ts) reach f invalid v).0 in absurd cc
 moment_end_leads now s q t ts reach None valid suits some v =
-    let rest : Reads (left_closing now (settled_state s) (meaning (bounding s)) q) (t ∷ ts) reach = passed (moment_fault s) _ (t ∷ ts) reach valid v in
+    let rest : ReadsTokens (left_closing now (settled_state s) (meaning (bounding s)) q) (t ∷ ts) reach = passed (moment_fault s) _ (t ∷ ts) reach valid v in
     let ends : EndsMoment s t.kind = closing_ends now s (meaning (bounding s)) q t ts reach rest in
     subst (λ (r : BuilderResult). Leads now (at states.AfterMoment s) ([], q) ts reach (moment_steps_on now s t r)) (sym (ends ∙ ap (narrowed_in s.builder) (settles_back s valid)))
     (behind_leads now s q t ts reach suits some rest (s.builder.filter.depth == 0) refl)
@@ -161,7 +161,7 @@ goes_on s t true e = subst (λ (k : Kind). finish_time_at states.AfterMoment k s
 goes_on s t false e = subst (λ (k : Kind). finish_time_at states.AfterMoment k s.builder ≡ Ok (states.AfterMoment, s.builder)) (sym e) refl
 
 moment_leads_on : (now : ℤ) (s : Progress) (cs : List Change) (q : Closing) (t : Lexeme) (ts : List Lexeme) (reach : Reach) → s.builder.filter.depth ≡ levels q → 0 < s.count
-    → Reads (left_at states.AfterMoment now (at states.AfterMoment s) (cs, q)) (t ∷ ts) reach
+    → ReadsTokens (left_at states.AfterMoment now (at states.AfterMoment s) (cs, q)) (t ∷ ts) reach
     → Leads now (at states.AfterMoment s) (cs, q) ts reach (moment_steps_on now s t (finish_time_at states.AfterMoment t.kind s.builder))
 unfolding builder_step next_clause moment_step
 moment_leads_on now s [] q t ts reach suits some v = moment_end_leads now s q t ts reach (moment_fault s) refl suits some v
@@ -172,11 +172,11 @@ moment_leads_on now s (c ∷ cs) q t ts reach suits some v =
 -- ---- each place
 
 leads_at : (p : State) (now : ℤ) (s : Progress) (q : Rest p) (t : Lexeme) (ts : List Lexeme) (reach : Reach) → SoundAt p (at p s) → SuitsAt p (at p s) q → CountedAt p s.count
-    → Reads (left_at p now (at p s) q) (t ∷ ts) reach → Leads now (at p s) q ts reach (after_finishing_time now t (at p s) (finish_time_at p t.kind s.builder))
+    → ReadsTokens (left_at p now (at p s) q) (t ∷ ts) reach → Leads now (at p s) q ts reach (after_finishing_time now t (at p s) (finish_time_at p t.kind s.builder))
 leads_at states.AfterMoment now s q t ts reach sound suits some v = moment_leads_on now s q.0 q.1 t ts reach suits some v
 leads_at p now s q t ts reach sound suits some v = placed_leads p now s q t ts reach refl sound suits some v
 
 pub leads : (now : ℤ) (s : Progress) (q : Rest s.state) (t : Lexeme) (ts : List Lexeme) (reach : Reach) → Sound s → Suits s q → CountedAt s.state s.count
-    → Reads (left now s q) (t ∷ ts) reach → Leads now s q ts reach (step now t s)
+    → ReadsTokens (left now s q) (t ∷ ts) reach → Leads now s q ts reach (step now t s)
 unfolding step finish_time_step
 leads now s q t ts reach sound suits some v = leads_at s.state now s q t ts reach sound suits some v

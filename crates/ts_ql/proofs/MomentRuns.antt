@@ -14,7 +14,7 @@ use Rattle.ts_ql.specs.declared.token.Kind.TheVariants as kinds
 use Rattle.ts_ql.specs.Dates.{timestamp_of}
 use Rattle.ts_ql.specs.QueryFaults.{Fault, unexpected, OutOfRange}
 use Rattle.ts_ql.specs.Grammar.{Item, Examine, Measure, Count, Duration, Base, Number, Negative, Quoted, Now, Change, Instant}
-use Rattle.ts_ql.specs.Laws.{Reach, At, Reads}
+use Rattle.ts_ql.specs.Laws.{Reach, At, ReadsTokens}
 use Rattle.ts_ql.specs.Literals.{is_word, literal}
 use Rattle.ts_ql.specs.Meanings.{changed_by, total_after}
 use Rattle.ts_ql.specs.MomentSteps.{Timing, moment_at, based, later_by, earlier_by, moment_time, bounded_by, narrowed}
@@ -140,8 +140,8 @@ now_or now s t e false is = inr refl
 -- a change, read and said
 summed_reads : (now : ℤ) (s : Progress) (less : Bool) (t : Lexeme) (n : ℤ) (r : List Change × Closing) → literal false t.text ≡ Some n
     → t.kind ≡ kinds.Duration → (ts : List Lexeme) (reach : Reach)
-    → Reads (left_changes now s s.builder.moment.first (changed_by less s.builder.moment.total n) r) ts reach
-    → Reads (left_change now s less (t, r)) (t ∷ ts) reach
+    → ReadsTokens (left_changes now s s.builder.moment.first (changed_by less s.builder.moment.total n) r) ts reach
+    → ReadsTokens (left_change now s less (t, r)) (t ∷ ts) reach
 summed_reads now s less t n r v e ts reach w = (
   refl,
   e,
@@ -155,7 +155,7 @@ summed_says : (now : ℤ) (s : Progress) (less : Bool) (t : Lexeme) (n : ℤ) (r
 summed_says now s less t n r v = ap (λ (x : ℤ). map Ok s.queries ++ said_changes now s x r) (sym (sum_of s less t n v))
 
 change_fails : (now : ℤ) (s : Progress) (less : Bool) (t : Lexeme) (r : List Change × Closing) (f : Fault) → t.kind ≡ kinds.Duration
-    → change_fault (by_value less t) ≡ Some f → Reads (left_change now s less (t, r)) (t ∷ []) (At f)
+    → change_fault (by_value less t) ≡ Some f → ReadsTokens (left_change now s less (t, r)) (t ∷ []) (At f)
 change_fails now s less t r f e is =
     (refl, e, fails (change_fault (by_value less t)) (left_changes now s s.builder.moment.first (total_after s.builder.moment.total (by_value less t)) r) f is)
 
@@ -201,7 +201,7 @@ moment_answers now s p k t e = inr refl
 -- ---- from trees
 
 time_sign_leads_at : (now : ℤ) (s : Progress) (c : Comparison) (r : Instant × Closing) (t : Lexeme) (ts : List Lexeme) (reach : Reach)
-    → s.builder.filter.depth ≡ levels r.1 → t.kind ≡ kind_of_comparison c → Reads (left_instant now s c r) ts reach
+    → s.builder.filter.depth ≡ levels r.1 → t.kind ≡ kind_of_comparison c → ReadsTokens (left_instant now s c r) ts reach
     → Leads now (at states.TimeSign s) (c, r) ts reach (moment_steps now s states.TimeSign t (kind_of_comparison c))
 time_sign_leads_at now s comparisons.Equal r t ts reach suits e w = (r, suits, w, refl)
 time_sign_leads_at now s comparisons.Less r t ts reach suits e w = (r, suits, w, refl)
@@ -210,7 +210,7 @@ time_sign_leads_at now s comparisons.Greater r t ts reach suits e w = (r, suits,
 time_sign_leads_at now s comparisons.GreaterOrEqual r t ts reach suits e w = (r, suits, w, refl)
 
 pub time_sign_leads : (now : ℤ) (s : Progress) (q : Rest states.TimeSign) (t : Lexeme) (ts : List Lexeme) (reach : Reach)
-    → SuitsAt states.TimeSign (at states.TimeSign s) q → Reads (left_at states.TimeSign now (at states.TimeSign s) q) (t ∷ ts) reach
+    → SuitsAt states.TimeSign (at states.TimeSign s) q → ReadsTokens (left_at states.TimeSign now (at states.TimeSign s) q) (t ∷ ts) reach
     → Leads now (at states.TimeSign s) q ts reach (timing s states.TimeSign (moment_at now states.TimeSign t.kind t s.builder.moment))
 time_sign_leads now s q t ts reach suits w =
     subst (λ (k : Kind). Leads now (at states.TimeSign s) q ts reach (moment_steps now s states.TimeSign t k)) (sym w.0)
@@ -219,7 +219,7 @@ time_sign_leads now s q t ts reach suits w =
 -- a number in its range leads on; another is at fault
 number_leads : (now : ℤ) (s : Progress) (t : Lexeme) (m : Measure) (r : List Change × Closing) (ts : List Lexeme) (reach : Reach) → s.builder.filter.depth ≡ levels r.1
     → (o : Option ℤ) → literal false t.text ≡ o
-    → Reads (Examine (literal_fault t.start (literal false t.text)) ∷ left_changes now s t.start (unwrap_or (literal false t.text) (pos 0)) r) ts reach
+    → ReadsTokens (Examine (literal_fault t.start (literal false t.text)) ∷ left_changes now s t.start (unwrap_or (literal false t.text) (pos 0)) r) ts reach
     → Leads now (at states.Moment s) (record { base = Number m t; changes = r.0 }, r.1) ts reach (timing s states.Moment (based t.start s.builder.moment o))
 number_leads now s t m r ts reach suits (Some n) v w =
     let value : unwrap_or (literal false t.text) (pos 0) ≡ n = ap (λ (o : Option ℤ). unwrap_or o (pos 0)) v in (
@@ -234,7 +234,7 @@ number_leads now s t m r ts reach suits None v w =
 
 quoted_leads : (now : ℤ) (s : Progress) (t : Lexeme) (r : List Change × Closing) (ts : List Lexeme) (reach : Reach) → s.builder.filter.depth ≡ levels r.1
     → (o : Option ℤ) → timestamp_of t.text ≡ o
-    → Reads (Examine (literal_fault t.start (timestamp_of t.text)) ∷ left_changes now s t.start (unwrap_or (timestamp_of t.text) (pos 0)) r) ts reach
+    → ReadsTokens (Examine (literal_fault t.start (timestamp_of t.text)) ∷ left_changes now s t.start (unwrap_or (timestamp_of t.text) (pos 0)) r) ts reach
     → Leads now (at states.Moment s) (record { base = Quoted t; changes = r.0 }, r.1) ts reach (timing s states.Moment (based t.start s.builder.moment o))
 quoted_leads now s t r ts reach suits (Some n) v w =
     let value : unwrap_or (timestamp_of t.text) (pos 0) ≡ n = ap (λ (o : Option ℤ). unwrap_or o (pos 0)) v in (
@@ -249,7 +249,7 @@ quoted_leads now s t r ts reach suits None v w =
 
 negative_leads : (now : ℤ) (s : Progress) (t : Lexeme) (m : Measure) (r : List Change × Closing) (ts : List Lexeme) (reach : Reach) → s.builder.filter.depth ≡ levels r.1
     → (o : Option ℤ) → literal true t.text ≡ o
-    → Reads (Examine (literal_fault s.builder.moment.first (literal true t.text)) ∷ left_changes now s s.builder.moment.first (unwrap_or (literal true t.text) (pos 0)) r) ts reach
+    → ReadsTokens (Examine (literal_fault s.builder.moment.first (literal true t.text)) ∷ left_changes now s s.builder.moment.first (unwrap_or (literal true t.text) (pos 0)) r) ts reach
     → Leads now (at states.MomentMinus s) (m, (t, r)) ts reach (timing s states.MomentMinus (based s.builder.moment.first s.builder.moment o))
 negative_leads now s t m r ts reach suits (Some n) v w =
     let value : unwrap_or (literal true t.text) (pos 0) ≡ n = ap (λ (o : Option ℤ). unwrap_or o (pos 0)) v in (
@@ -267,29 +267,29 @@ abbrev pub MomentLeads : ℤ → Progress → Base → List Change × Closing �
 MomentLeads now s base r t ts reach k = Leads now (at states.Moment s) (record { base = base; changes = r.0 }, r.1) ts reach (moment_steps now s states.Moment t k)
 
 measured_leads : (now : ℤ) (s : Progress) (t : Lexeme) (m : Measure) (r : List Change × Closing) (ts : List Lexeme) (reach : Reach) → s.builder.filter.depth ≡ levels r.1
-    → Reads (Examine (literal_fault t.start (literal false t.text)) ∷ left_changes now s t.start (unwrap_or (literal false t.text) (pos 0)) r) ts reach
+    → ReadsTokens (Examine (literal_fault t.start (literal false t.text)) ∷ left_changes now s t.start (unwrap_or (literal false t.text) (pos 0)) r) ts reach
     → MomentLeads now s (Number m t) r t ts reach (kind_of_measure m)
 measured_leads now s t Count r ts reach suits w = number_leads now s t Count r ts reach suits (literal false t.text) refl w
 measured_leads now s t Duration r ts reach suits w = number_leads now s t Duration r ts reach suits (literal false t.text) refl w
 
 -- the token is the one that the tree has
 moment_leads_at : (now : ℤ) (s : Progress) (base : Base) (r : List Change × Closing) (t : Lexeme) (ts : List Lexeme) (reach : Reach)
-    → s.builder.filter.depth ≡ levels r.1 → Reads (left_at states.Moment now (at states.Moment s) (record { base = base; changes = r.0 }, r.1)) (t ∷ ts) reach
+    → s.builder.filter.depth ≡ levels r.1 → ReadsTokens (left_at states.Moment now (at states.Moment s) (record { base = base; changes = r.0 }, r.1)) (t ∷ ts) reach
     → MomentLeads now s base r t ts reach t.kind
 moment_leads_at now s (Number m l) r t ts reach suits w =
-    subst (λ (x : Lexeme). Reads (left_at states.Moment now (at states.Moment s) (record { base = Number m x; changes = r.0 }, r.1)) (t ∷ ts) reach
+    subst (λ (x : Lexeme). ReadsTokens (left_at states.Moment now (at states.Moment s) (record { base = Number m x; changes = r.0 }, r.1)) (t ∷ ts) reach
     → MomentLeads now s (Number m x) r t ts reach t.kind) w.0
     (λ u. subst (MomentLeads now s (Number m t) r t ts reach) (sym u.1) (measured_leads now s t m r ts reach suits u.2)) w
 moment_leads_at now s (Negative l m number) r t ts reach suits w =
-    subst (λ (x : Lexeme). Reads (left_at states.Moment now (at states.Moment s) (record { base = Negative x m number; changes = r.0 }, r.1)) (t ∷ ts) reach
+    subst (λ (x : Lexeme). ReadsTokens (left_at states.Moment now (at states.Moment s) (record { base = Negative x m number; changes = r.0 }, r.1)) (t ∷ ts) reach
     → MomentLeads now s (Negative x m number) r t ts reach t.kind) w.0
     (λ u. subst (MomentLeads now s (Negative t m number) r t ts reach) (sym u.1) ((m, (number, r)), suits, u.2, refl)) w
 moment_leads_at now s (Quoted l) r t ts reach suits w =
-    subst (λ (x : Lexeme). Reads (left_at states.Moment now (at states.Moment s) (record { base = Quoted x; changes = r.0 }, r.1)) (t ∷ ts) reach
+    subst (λ (x : Lexeme). ReadsTokens (left_at states.Moment now (at states.Moment s) (record { base = Quoted x; changes = r.0 }, r.1)) (t ∷ ts) reach
     → MomentLeads now s (Quoted x) r t ts reach t.kind) w.0
     (λ u. subst (MomentLeads now s (Quoted t) r t ts reach) (sym u.1) (quoted_leads now s t r ts reach suits (timestamp_of t.text) refl u.2)) w
 moment_leads_at now s (Now l) r t ts reach suits w =
-    subst (λ (x : Lexeme). Reads (left_at states.Moment now (at states.Moment s) (record { base = Now x; changes = r.0 }, r.1)) (t ∷ ts) reach
+    subst (λ (x : Lexeme). ReadsTokens (left_at states.Moment now (at states.Moment s) (record { base = Now x; changes = r.0 }, r.1)) (t ∷ ts) reach
     → MomentLeads now s (Now x) r t ts reach t.kind) w.0
     (λ u. subst (MomentLeads now s (Now t) r t ts reach) (sym u.1.0)
     (subst (λ (b : Bool). Leads now (at states.Moment s) (record { base = Now t; changes = r.0 }, r.1) ts reach
@@ -297,39 +297,39 @@ moment_leads_at now s (Now l) r t ts reach suits w =
     (r, suits, u.2, refl))) w
 
 pub moment_leads : (now : ℤ) (s : Progress) (q : Rest states.Moment) (t : Lexeme) (ts : List Lexeme) (reach : Reach)
-    → SuitsAt states.Moment (at states.Moment s) q → Reads (left_at states.Moment now (at states.Moment s) q) (t ∷ ts) reach
+    → SuitsAt states.Moment (at states.Moment s) q → ReadsTokens (left_at states.Moment now (at states.Moment s) q) (t ∷ ts) reach
     → Leads now (at states.Moment s) q ts reach (timing s states.Moment (moment_at now states.Moment t.kind t s.builder.moment))
 moment_leads now s q t ts reach suits w = moment_leads_at now s q.0.base (q.0.changes, q.1) t ts reach suits w
 
 moment_minus_leads_at : (now : ℤ) (s : Progress) (m : Measure) (r : List Change × Closing) (t : Lexeme) (ts : List Lexeme) (reach : Reach) → s.builder.filter.depth ≡ levels r.1
-    → Reads (Examine (literal_fault s.builder.moment.first (literal true t.text)) ∷ left_changes now s s.builder.moment.first (unwrap_or (literal true t.text) (pos 0)) r) ts reach
+    → ReadsTokens (Examine (literal_fault s.builder.moment.first (literal true t.text)) ∷ left_changes now s s.builder.moment.first (unwrap_or (literal true t.text) (pos 0)) r) ts reach
     → Leads now (at states.MomentMinus s) (m, (t, r)) ts reach (moment_steps now s states.MomentMinus t (kind_of_measure m))
 moment_minus_leads_at now s Count r t ts reach suits w = negative_leads now s t Count r ts reach suits (literal true t.text) refl w
 moment_minus_leads_at now s Duration r t ts reach suits w = negative_leads now s t Duration r ts reach suits (literal true t.text) refl w
 
 pub moment_minus_leads : (now : ℤ) (s : Progress) (q : Rest states.MomentMinus) (t : Lexeme) (ts : List Lexeme) (reach : Reach)
-    → SuitsAt states.MomentMinus (at states.MomentMinus s) q → Reads (left_at states.MomentMinus now (at states.MomentMinus s) q) (t ∷ ts) reach
+    → SuitsAt states.MomentMinus (at states.MomentMinus s) q → ReadsTokens (left_at states.MomentMinus now (at states.MomentMinus s) q) (t ∷ ts) reach
     → Leads now (at states.MomentMinus s) q ts reach (timing s states.MomentMinus (moment_at now states.MomentMinus t.kind t s.builder.moment))
 moment_minus_leads now s q t ts reach suits w =
-    subst (λ (x : Lexeme). Reads (left_at states.MomentMinus now (at states.MomentMinus s) (q.0, (x, q.1.1))) (t ∷ ts) reach
+    subst (λ (x : Lexeme). ReadsTokens (left_at states.MomentMinus now (at states.MomentMinus s) (q.0, (x, q.1.1))) (t ∷ ts) reach
     → Leads now (at states.MomentMinus s) (q.0, (x, q.1.1)) ts reach (moment_steps now s states.MomentMinus t t.kind)) w.0
     (λ u. subst (λ (k : Kind). Leads now (at states.MomentMinus s) (q.0, (t, q.1.1)) ts reach (moment_steps now s states.MomentMinus t k)) (sym u.1)
     (moment_minus_leads_at now s q.0 q.1.1 t ts reach suits u.2)) w
 
 pub now_open_leads : (now : ℤ) (s : Progress) (q : Rest states.NowOpen) (t : Lexeme) (ts : List Lexeme) (reach : Reach)
-    → SuitsAt states.NowOpen (at states.NowOpen s) q → Reads (left_at states.NowOpen now (at states.NowOpen s) q) (t ∷ ts) reach
+    → SuitsAt states.NowOpen (at states.NowOpen s) q → ReadsTokens (left_at states.NowOpen now (at states.NowOpen s) q) (t ∷ ts) reach
     → Leads now (at states.NowOpen s) q ts reach (timing s states.NowOpen (moment_at now states.NowOpen t.kind t s.builder.moment))
 now_open_leads now s q t ts reach suits w =
     subst (λ (k : Kind). Leads now (at states.NowOpen s) q ts reach (moment_steps now s states.NowOpen t k)) (sym w.0) (q, suits, w.1, refl)
 
 pub now_close_leads : (now : ℤ) (s : Progress) (q : Rest states.NowClose) (t : Lexeme) (ts : List Lexeme) (reach : Reach)
-    → SuitsAt states.NowClose (at states.NowClose s) q → Reads (left_at states.NowClose now (at states.NowClose s) q) (t ∷ ts) reach
+    → SuitsAt states.NowClose (at states.NowClose s) q → ReadsTokens (left_at states.NowClose now (at states.NowClose s) q) (t ∷ ts) reach
     → Leads now (at states.NowClose s) q ts reach (timing s states.NowClose (moment_at now states.NowClose t.kind t s.builder.moment))
 now_close_leads now s q t ts reach suits w =
     subst (λ (k : Kind). Leads now (at states.NowClose s) q ts reach (moment_steps now s states.NowClose t k)) (sym w.0) (q, suits, w.1, refl)
 
 change_leads_at : (now : ℤ) (s : Progress) (less : Bool) (l : Lexeme) (cs : List Change) (closing : Closing) (t : Lexeme) (ts : List Lexeme) (reach : Reach)
-    → s.builder.filter.depth ≡ levels closing → Reads (left_at states.AfterMoment now (at states.AfterMoment s) (by_value less l ∷ cs, closing)) (t ∷ ts) reach
+    → s.builder.filter.depth ≡ levels closing → ReadsTokens (left_at states.AfterMoment now (at states.AfterMoment s) (by_value less l ∷ cs, closing)) (t ∷ ts) reach
     → Leads now (at states.AfterMoment s) (by_value less l ∷ cs, closing) ts reach (moment_steps now s states.AfterMoment t t.kind)
 change_leads_at now s false l cs closing t ts reach suits w =
     subst (λ (k : Kind). Leads now (at states.AfterMoment s) (by_value false l ∷ cs, closing) ts reach (moment_steps now s states.AfterMoment t k)) (sym w.0)
@@ -339,7 +339,7 @@ change_leads_at now s true l cs closing t ts reach suits w =
     ((l, (cs, closing)), suits, w.1, refl)
 
 pub change_leads : (now : ℤ) (s : Progress) (c : Change) (cs : List Change) (closing : Closing) (t : Lexeme) (ts : List Lexeme) (reach : Reach)
-    → SuitsAt states.AfterMoment (at states.AfterMoment s) (c ∷ cs, closing) → Reads (left_at states.AfterMoment now (at states.AfterMoment s) (c ∷ cs, closing)) (t ∷ ts) reach
+    → SuitsAt states.AfterMoment (at states.AfterMoment s) (c ∷ cs, closing) → ReadsTokens (left_at states.AfterMoment now (at states.AfterMoment s) (c ∷ cs, closing)) (t ∷ ts) reach
     → Leads now (at states.AfterMoment s) (c ∷ cs, closing) ts reach (timing s states.AfterMoment (moment_at now states.AfterMoment t.kind t s.builder.moment))
 change_leads now s c cs closing t ts reach suits w = change_leads_at now s c.less c.by cs closing t ts reach suits w
 
@@ -349,44 +349,44 @@ examined_change now s less t r =
     Examine (change_fault (by_value less t)) ∷ left_changes now s s.builder.moment.first (total_after s.builder.moment.total (by_value less t)) r
 
 summed_on : (now : ℤ) (s : Progress) (less : Bool) (t : Lexeme) (n : ℤ) (r : List Change × Closing) (ts : List Lexeme) (reach : Reach) → literal false t.text ≡ Some n
-    → Reads (examined_change now s less t r) ts reach
-    → Reads (left_changes now s s.builder.moment.first (changed_by less s.builder.moment.total n) r) ts reach
+    → ReadsTokens (examined_change now s less t r) ts reach
+    → ReadsTokens (left_changes now s s.builder.moment.first (changed_by less s.builder.moment.total n) r) ts reach
 summed_on now s less t n r ts reach v w =
     carried (λ (x : ℤ). left_changes now s s.builder.moment.first x r) ts reach (total_after s.builder.moment.total (by_value less t)) (changed_by less s.builder.moment.total n) (sym (sum_of s less t n v))
     (passed (change_fault (by_value less t)) (left_changes now s s.builder.moment.first (total_after s.builder.moment.total (by_value less t)) r) ts reach
     (valued less t n v) w)
 
 change_failed : (now : ℤ) (s : Progress) (less : Bool) (t : Lexeme) (r : List Change × Closing) (ts : List Lexeme) (reach : Reach) (f : Fault)
-    → change_fault (by_value less t) ≡ Some f → Reads (examined_change now s less t r) ts reach → (ts ≡ []) × (reach ≡ At f)
+    → change_fault (by_value less t) ≡ Some f → ReadsTokens (examined_change now s less t r) ts reach → (ts ≡ []) × (reach ≡ At f)
 change_failed now s less t r ts reach f is w =
     failed (change_fault (by_value less t)) (left_changes now s s.builder.moment.first (total_after s.builder.moment.total (by_value less t)) r) ts reach f is w
 
 plus_leads_at : (now : ℤ) (s : Progress) (t : Lexeme) (r : List Change × Closing) (ts : List Lexeme) (reach : Reach) → s.builder.filter.depth ≡ levels r.1
-    → (o : Option ℤ) → literal false t.text ≡ o → Reads (examined_change now s false t r) ts reach
+    → (o : Option ℤ) → literal false t.text ≡ o → ReadsTokens (examined_change now s false t r) ts reach
     → Leads now (at states.MomentPlus s) (t, r) ts reach (timing s states.MomentPlus (later_by t s.builder.moment o))
 plus_leads_at now s t r ts reach suits (Some n) v w = (r, suits, summed_on now s false t n r ts reach v w, summed_says now s false t n r v)
 plus_leads_at now s t r ts reach suits None v w = change_failed now s false t r ts reach (OutOfRange t.start) (unvalued false t v) w
 
 pub moment_plus_leads : (now : ℤ) (s : Progress) (q : Rest states.MomentPlus) (t : Lexeme) (ts : List Lexeme) (reach : Reach)
-    → SuitsAt states.MomentPlus (at states.MomentPlus s) q → Reads (left_at states.MomentPlus now (at states.MomentPlus s) q) (t ∷ ts) reach
+    → SuitsAt states.MomentPlus (at states.MomentPlus s) q → ReadsTokens (left_at states.MomentPlus now (at states.MomentPlus s) q) (t ∷ ts) reach
     → Leads now (at states.MomentPlus s) q ts reach (timing s states.MomentPlus (moment_at now states.MomentPlus t.kind t s.builder.moment))
 moment_plus_leads now s q t ts reach suits w =
-    subst (λ (x : Lexeme). Reads (left_at states.MomentPlus now (at states.MomentPlus s) (x, q.1)) (t ∷ ts) reach
+    subst (λ (x : Lexeme). ReadsTokens (left_at states.MomentPlus now (at states.MomentPlus s) (x, q.1)) (t ∷ ts) reach
     → Leads now (at states.MomentPlus s) (x, q.1) ts reach (moment_steps now s states.MomentPlus t t.kind)) w.0
     (λ u. subst (λ (k : Kind). Leads now (at states.MomentPlus s) (t, q.1) ts reach (moment_steps now s states.MomentPlus t k)) (sym u.1)
     (plus_leads_at now s t q.1 ts reach suits (literal false t.text) refl u.2)) w
 
 less_leads_at : (now : ℤ) (s : Progress) (t : Lexeme) (r : List Change × Closing) (ts : List Lexeme) (reach : Reach) → s.builder.filter.depth ≡ levels r.1
-    → (o : Option ℤ) → literal false t.text ≡ o → Reads (examined_change now s true t r) ts reach
+    → (o : Option ℤ) → literal false t.text ≡ o → ReadsTokens (examined_change now s true t r) ts reach
     → Leads now (at states.MomentLess s) (t, r) ts reach (timing s states.MomentLess (earlier_by t s.builder.moment o))
 less_leads_at now s t r ts reach suits (Some n) v w = (r, suits, summed_on now s true t n r ts reach v w, summed_says now s true t n r v)
 less_leads_at now s t r ts reach suits None v w = change_failed now s true t r ts reach (OutOfRange t.start) (unvalued true t v) w
 
 pub moment_less_leads : (now : ℤ) (s : Progress) (q : Rest states.MomentLess) (t : Lexeme) (ts : List Lexeme) (reach : Reach)
-    → SuitsAt states.MomentLess (at states.MomentLess s) q → Reads (left_at states.MomentLess now (at states.MomentLess s) q) (t ∷ ts) reach
+    → SuitsAt states.MomentLess (at states.MomentLess s) q → ReadsTokens (left_at states.MomentLess now (at states.MomentLess s) q) (t ∷ ts) reach
     → Leads now (at states.MomentLess s) q ts reach (timing s states.MomentLess (moment_at now states.MomentLess t.kind t s.builder.moment))
 moment_less_leads now s q t ts reach suits w =
-    subst (λ (x : Lexeme). Reads (left_at states.MomentLess now (at states.MomentLess s) (x, q.1)) (t ∷ ts) reach
+    subst (λ (x : Lexeme). ReadsTokens (left_at states.MomentLess now (at states.MomentLess s) (x, q.1)) (t ∷ ts) reach
     → Leads now (at states.MomentLess s) (x, q.1) ts reach (moment_steps now s states.MomentLess t t.kind)) w.0
     (λ u. subst (λ (k : Kind). Leads now (at states.MomentLess s) (t, q.1) ts reach (moment_steps now s states.MomentLess t k)) (sym u.1)
     (less_leads_at now s t q.1 ts reach suits (literal false t.text) refl u.2)) w

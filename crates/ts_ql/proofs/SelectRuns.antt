@@ -11,7 +11,7 @@ use Rattle.ts_ql.specs.declared.token.Kind.{Kind}
 use Rattle.ts_ql.specs.declared.token.Kind.TheVariants as kinds
 use Rattle.ts_ql.specs.QueryFaults.{unexpected, unsupported}
 use Rattle.ts_ql.specs.Grammar.{Examine, Call, FieldType, Field, Integer, FromClause, Measurement, Subquery, Stop, is_name}
-use Rattle.ts_ql.specs.Laws.{Reach, Reads}
+use Rattle.ts_ql.specs.Laws.{Reach, ReadsTokens}
 use Rattle.ts_ql.specs.Literals.{is_word}
 use Rattle.ts_ql.specs.Meanings.{function_of, field_after, after_from}
 use Rattle.ts_ql.specs.Reading.{Progress, Advance, with_builder, in_selection}
@@ -163,7 +163,7 @@ by_name P word quoted k i = absurd cc
 
 function_leads_by : (now : ℤ) (s : Progress) (a : Call) (tail : SelectTail) (ts : List Lexeme) (reach : Reach)
     → a.function.kind ≡ kinds.Word → (o : Option Function) → function_called a.function.text ≡ o
-    → Reads (Examine (function_fault a.function) ∷ left_at states.FunctionOpen now (called_with s (function_of a.function)) (opened a tail)) ts reach
+    → ReadsTokens (Examine (function_fault a.function) ∷ left_at states.FunctionOpen now (called_with s (function_of a.function)) (opened a tail)) ts reach
     → Leads now (at states.Function s) (a, tail) ts reach (selecting s states.Function (with_function a.function s.builder.selection o))
 function_leads_by now s a tail ts reach e None v w =
     failed (function_fault a.function) _ ts reach (unsupported a.function) (ap (λ (k : Kind). function_fault_at k a.function) e ∙ ap (known_function a.function) v) w
@@ -177,30 +177,30 @@ function_leads_by now s a tail ts reach e (Some f) v w =
     )
 
 function_leads_at : (now : ℤ) (s : Progress) (a : Call) (tail : SelectTail) (ts : List Lexeme) (reach : Reach) (k : Kind) → is_name k ≡ true → a.function.kind ≡ k
-    → Reads (Examine (function_fault a.function) ∷ left_at states.FunctionOpen now (called_with s (function_of a.function)) (opened a tail)) ts reach
+    → ReadsTokens (Examine (function_fault a.function) ∷ left_at states.FunctionOpen now (called_with s (function_of a.function)) (opened a tail)) ts reach
     → Leads now (at states.Function s) (a, tail) ts reach (select_steps s states.Function a.function k)
 function_leads_at now s a tail ts reach =
     by_name (λ (k : Kind). a.function.kind ≡ k
-    → Reads (Examine (function_fault a.function) ∷ left_at states.FunctionOpen now (called_with s (function_of a.function)) (opened a tail)) ts reach
+    → ReadsTokens (Examine (function_fault a.function) ∷ left_at states.FunctionOpen now (called_with s (function_of a.function)) (opened a tail)) ts reach
     → Leads now (at states.Function s) (a, tail) ts reach (select_steps s states.Function a.function k))
     (λ e w. function_leads_by now s a tail ts reach e (function_called a.function.text) refl w)
     (λ e w. failed (function_fault a.function) _ ts reach (unsupported a.function) (ap (λ (k : Kind). function_fault_at k a.function) e) w)
 
 pub Function_leads : (now : ℤ) (s : Progress) (q : Rest states.Function) (t : Lexeme) (ts : List Lexeme) (reach : Reach)
-    → Reads (left_at states.Function now (at states.Function s) q) (t ∷ ts) reach
+    → ReadsTokens (left_at states.Function now (at states.Function s) q) (t ∷ ts) reach
     → Leads now (at states.Function s) q ts reach (selecting s states.Function (select_at states.Function t.kind t s.builder.selection))
 Function_leads now s q t ts reach w =
     subst (λ (l : Lexeme). Leads now (at states.Function s) q ts reach (select_steps s states.Function l l.kind)) (sym w.0)
     (function_leads_at now s q.0 q.1 ts reach q.0.function.kind (subst (λ (l : Lexeme). is_name l.kind ≡ true) w.0 w.1) refl w.2)
 
 pub FunctionOpen_leads : (now : ℤ) (s : Progress) (q : Rest states.FunctionOpen) (t : Lexeme) (ts : List Lexeme) (reach : Reach)
-    → Reads (left_at states.FunctionOpen now (at states.FunctionOpen s) q) (t ∷ ts) reach
+    → ReadsTokens (left_at states.FunctionOpen now (at states.FunctionOpen s) q) (t ∷ ts) reach
     → Leads now (at states.FunctionOpen s) q ts reach (selecting s states.FunctionOpen (select_at states.FunctionOpen t.kind t s.builder.selection))
 FunctionOpen_leads now s q t ts reach w =
     subst (λ (k : Kind). Leads now (at states.FunctionOpen s) q ts reach (select_steps s states.FunctionOpen t k)) (sym w.0) (q, tt, w.1, refl)
 
 same_field_leads : (now : ℤ) (s : Progress) (l : Lexeme) (r : Rest states.FieldEnd) (ts : List Lexeme) (reach : Reach) (field : Text) (b : Bool) → bytes_eq field (named l) ≡ b
-    → Reads (Examine (field_fault (Some field) l) ∷ left_at states.FieldEnd now (fielded s (Some field)) r) ts reach
+    → ReadsTokens (Examine (field_fault (Some field) l) ∷ left_at states.FieldEnd now (fielded s (Some field)) r) ts reach
     → Leads now (at states.Field (fielded s (Some field))) (l, r) ts reach
     (selecting (fielded s (Some field)) states.Field (if b then Ok (states.FieldEnd, (fielded s (Some field)).builder.selection) else Err (unsupported l)))
 same_field_leads now s l r ts reach field true v w =
@@ -209,20 +209,20 @@ same_field_leads now s l r ts reach field false v w =
     failed (field_fault (Some field) l) _ ts reach (unsupported l) (ap (λ (b : Bool). if b then None else Some (unsupported l)) v) w
 
 field_leads_by : (now : ℤ) (s : Progress) (l : Lexeme) (r : Rest states.FieldEnd) (ts : List Lexeme) (reach : Reach) (o : Option Text)
-    → Reads (Examine (field_fault o l) ∷ left_at states.FieldEnd now (fielded s (field_after o l)) r) ts reach
+    → ReadsTokens (Examine (field_fault o l) ∷ left_at states.FieldEnd now (fielded s (field_after o l)) r) ts reach
     → Leads now (at states.Field (fielded s o)) (l, r) ts reach (selecting (fielded s o) states.Field (steps.with_call_field l (fielded s o).builder.selection o))
 field_leads_by now s l r ts reach None w = (r, tt, w, refl)
 field_leads_by now s l r ts reach (Some field) w = same_field_leads now s l r ts reach field (bytes_eq field (named l)) refl w
 
 field_leads_at : (now : ℤ) (s : Progress) (l : Lexeme) (r : Rest states.FieldEnd) (ts : List Lexeme) (reach : Reach)
-    → Reads (Examine (field_fault s.builder.selection.field l) ∷ left_at states.FieldEnd now (fielded s (field_after s.builder.selection.field l)) r) ts reach
+    → ReadsTokens (Examine (field_fault s.builder.selection.field l) ∷ left_at states.FieldEnd now (fielded s (field_after s.builder.selection.field l)) r) ts reach
     → (k : Kind) → is_name k ≡ true → Leads now (at states.Field s) (l, r) ts reach (select_steps s states.Field l k)
 field_leads_at now s l r ts reach w =
     by_name (λ (k : Kind). Leads now (at states.Field s) (l, r) ts reach (select_steps s states.Field l k))
     (field_leads_by now s l r ts reach s.builder.selection.field w) (field_leads_by now s l r ts reach s.builder.selection.field w)
 
 pub Field_leads : (now : ℤ) (s : Progress) (q : Rest states.Field) (t : Lexeme) (ts : List Lexeme) (reach : Reach)
-    → Reads (left_at states.Field now (at states.Field s) q) (t ∷ ts) reach
+    → ReadsTokens (left_at states.Field now (at states.Field s) q) (t ∷ ts) reach
     → Leads now (at states.Field s) q ts reach (selecting s states.Field (select_at states.Field t.kind t s.builder.selection))
 Field_leads now s q t ts reach w =
     subst (λ (l : Lexeme). Leads now (at states.Field s) q ts reach (select_steps s states.Field l l.kind)) (sym w.0)
@@ -230,7 +230,7 @@ Field_leads now s q t ts reach w =
 
 -- a field ends with a type or without
 field_end_leads : (now : ℤ) (s : Progress) (o : Option FieldType) (r : ClosedTail) (t : Lexeme) (ts : List Lexeme) (reach : Reach)
-    → Reads (left_at states.FieldEnd now (at states.FieldEnd s) (o, r)) (t ∷ ts) reach
+    → ReadsTokens (left_at states.FieldEnd now (at states.FieldEnd s) (o, r)) (t ∷ ts) reach
     → Leads now (at states.FieldEnd s) (o, r) ts reach (select_steps s states.FieldEnd t t.kind)
 field_end_leads now s None r t ts reach w =
     subst (λ (k : Kind). Leads now (at states.FieldEnd s) (None, r) ts reach (select_steps s states.FieldEnd t k)) (sym w.0) (r, tt, w.1, refl)
@@ -238,7 +238,7 @@ field_end_leads now s (Some type) r t ts reach w =
     subst (λ (k : Kind). Leads now (at states.FieldEnd s) (Some type, r) ts reach (select_steps s states.FieldEnd t k)) (sym w.0) ((type, r), tt, w.1, refl)
 
 pub FieldEnd_leads : (now : ℤ) (s : Progress) (q : Rest states.FieldEnd) (t : Lexeme) (ts : List Lexeme) (reach : Reach)
-    → Reads (left_at states.FieldEnd now (at states.FieldEnd s) q) (t ∷ ts) reach
+    → ReadsTokens (left_at states.FieldEnd now (at states.FieldEnd s) q) (t ∷ ts) reach
     → Leads now (at states.FieldEnd s) q ts reach (selecting s states.FieldEnd (select_at states.FieldEnd t.kind t s.builder.selection))
 FieldEnd_leads now s q t ts reach w = field_end_leads now s q.0 q.1 t ts reach w
 
@@ -247,7 +247,7 @@ abbrev pub typed : Progress → Lexeme → Bool → Bool → Advance
 typed s t field integer = selecting s states.FieldType (if field || integer then Ok (states.FieldClose, s.builder.selection) else Err (unexpected t))
 
 field_type_leads : (now : ℤ) (s : Progress) (type : FieldType) (r : ClosedTail) (t : Lexeme) (ts : List Lexeme) (reach : Reach)
-    → Reads (left_at states.FieldType now (at states.FieldType s) (type, r)) (t ∷ ts) reach
+    → ReadsTokens (left_at states.FieldType now (at states.FieldType s) (type, r)) (t ∷ ts) reach
     → Leads now (at states.FieldType s) (type, r) ts reach (select_steps s states.FieldType t t.kind)
 field_type_leads now s Field r t ts reach w =
     subst (λ (k : Kind). Leads now (at states.FieldType s) (Field, r) ts reach (select_steps s states.FieldType t k)) (sym w.0.0)
@@ -259,12 +259,12 @@ field_type_leads now s Integer r t ts reach w =
     (subst (λ (b : Bool). Leads now (at states.FieldType s) (Integer, r) ts reach (typed s t false b)) (sym w.0.1) (r, tt, w.1, refl)))
 
 pub FieldType_leads : (now : ℤ) (s : Progress) (q : Rest states.FieldType) (t : Lexeme) (ts : List Lexeme) (reach : Reach)
-    → Reads (left_at states.FieldType now (at states.FieldType s) q) (t ∷ ts) reach
+    → ReadsTokens (left_at states.FieldType now (at states.FieldType s) q) (t ∷ ts) reach
     → Leads now (at states.FieldType s) q ts reach (selecting s states.FieldType (select_at states.FieldType t.kind t s.builder.selection))
 FieldType_leads now s q t ts reach w = field_type_leads now s q.0 q.1 t ts reach w
 
 pub FieldClose_leads : (now : ℤ) (s : Progress) (q : Rest states.FieldClose) (t : Lexeme) (ts : List Lexeme) (reach : Reach)
-    → Reads (left_at states.FieldClose now (at states.FieldClose s) q) (t ∷ ts) reach
+    → ReadsTokens (left_at states.FieldClose now (at states.FieldClose s) q) (t ∷ ts) reach
     → Leads now (at states.FieldClose s) q ts reach (selecting s states.FieldClose (select_at states.FieldClose t.kind t s.builder.selection))
 FieldClose_leads now s q t ts reach w =
     subst (λ (k : Kind). Leads now (at states.FieldClose s) q ts reach (select_steps s states.FieldClose t k)) (sym w.0) (q, tt, w.1, refl)
@@ -275,7 +275,7 @@ behind_column s t from named_as = selecting s states.AfterColumn (if from then O
     else if named_as then Ok (states.Alias, s.builder.selection) else Err (unexpected t))
 
 after_column_leads : (now : ℤ) (s : Progress) (o : Option Lexeme) (more : List Call) (r : FromClause × FilterTail) (t : Lexeme) (ts : List Lexeme) (reach : Reach)
-    → Reads (left_at states.AfterColumn now (at states.AfterColumn s) (o, (more, r))) (t ∷ ts) reach
+    → ReadsTokens (left_at states.AfterColumn now (at states.AfterColumn s) (o, (more, r))) (t ∷ ts) reach
     → Leads now (at states.AfterColumn s) (o, (more, r)) ts reach (select_steps s states.AfterColumn t t.kind)
 after_column_leads now s None [] r t ts reach w =
     subst (λ (k : Kind). Leads now (at states.AfterColumn s) (None, ([], r)) ts reach (select_steps s states.AfterColumn t k)) (sym w.0.0)
@@ -290,25 +290,25 @@ after_column_leads now s (Some alias) more r t ts reach w =
     ((alias, (more, r)), tt, w.1, refl)))
 
 pub AfterColumn_leads : (now : ℤ) (s : Progress) (q : Rest states.AfterColumn) (t : Lexeme) (ts : List Lexeme) (reach : Reach)
-    → Reads (left_at states.AfterColumn now (at states.AfterColumn s) q) (t ∷ ts) reach
+    → ReadsTokens (left_at states.AfterColumn now (at states.AfterColumn s) q) (t ∷ ts) reach
     → Leads now (at states.AfterColumn s) q ts reach (selecting s states.AfterColumn (select_at states.AfterColumn t.kind t s.builder.selection))
 AfterColumn_leads now s q t ts reach w = after_column_leads now s q.0 q.1.0 q.1.1 t ts reach w
 
 alias_leads_at : (now : ℤ) (s : Progress) (l : Lexeme) (r : SelectTail) (ts : List Lexeme) (reach : Reach)
-    → Reads (left_at states.AfterAlias now (with_alias s l) r) ts reach
+    → ReadsTokens (left_at states.AfterAlias now (with_alias s l) r) ts reach
     → (k : Kind) → is_name k ≡ true → Leads now (at states.Alias s) (l, r) ts reach (select_steps s states.Alias l k)
 alias_leads_at now s l r ts reach w =
     by_name (λ (k : Kind). Leads now (at states.Alias s) (l, r) ts reach (select_steps s states.Alias l k)) (r, tt, w, refl) (r, tt, w, refl)
 
 pub Alias_leads : (now : ℤ) (s : Progress) (q : Rest states.Alias) (t : Lexeme) (ts : List Lexeme) (reach : Reach)
-    → Reads (left_at states.Alias now (at states.Alias s) q) (t ∷ ts) reach
+    → ReadsTokens (left_at states.Alias now (at states.Alias s) q) (t ∷ ts) reach
     → Leads now (at states.Alias s) q ts reach (selecting s states.Alias (select_at states.Alias t.kind t s.builder.selection))
 Alias_leads now s q t ts reach w =
     subst (λ (l : Lexeme). Leads now (at states.Alias s) q ts reach (select_steps s states.Alias l l.kind)) (sym w.0)
     (alias_leads_at now s q.0 q.1 ts reach w.2 q.0.kind (subst (λ (l : Lexeme). is_name l.kind ≡ true) w.0 w.1))
 
 after_alias_leads : (now : ℤ) (s : Progress) (more : List Call) (r : FromClause × FilterTail) (t : Lexeme) (ts : List Lexeme) (reach : Reach)
-    → Reads (left_at states.AfterAlias now (at states.AfterAlias s) (more, r)) (t ∷ ts) reach
+    → ReadsTokens (left_at states.AfterAlias now (at states.AfterAlias s) (more, r)) (t ∷ ts) reach
     → Leads now (at states.AfterAlias s) (more, r) ts reach (select_steps s states.AfterAlias t t.kind)
 after_alias_leads now s [] r t ts reach w =
     subst (λ (k : Kind). Leads now (at states.AfterAlias s) ([], r) ts reach (select_steps s states.AfterAlias t k)) (sym w.0.0)
@@ -318,19 +318,19 @@ after_alias_leads now s (a ∷ more) r t ts reach w =
     subst (λ (k : Kind). Leads now (at states.AfterAlias s) (a ∷ more, r) ts reach (select_steps s states.AfterAlias t k)) (sym w.0) ((a, (more, r)), tt, w.1, refl)
 
 pub AfterAlias_leads : (now : ℤ) (s : Progress) (q : Rest states.AfterAlias) (t : Lexeme) (ts : List Lexeme) (reach : Reach)
-    → Reads (left_at states.AfterAlias now (at states.AfterAlias s) q) (t ∷ ts) reach
+    → ReadsTokens (left_at states.AfterAlias now (at states.AfterAlias s) q) (t ∷ ts) reach
     → Leads now (at states.AfterAlias s) q ts reach (selecting s states.AfterAlias (select_at states.AfterAlias t.kind t s.builder.selection))
 AfterAlias_leads now s q t ts reach w = after_alias_leads now s q.0 q.1 t ts reach w
 
 -- a measurement leads on, and a subquery is left out
 source_leads_at : (now : ℤ) (s : Progress) (l : Lexeme) (r : FilterTail) (ts : List Lexeme) (reach : Reach)
-    → Reads (left_at states.AfterMeasurement now (with_measurement s l) r) ts reach
+    → ReadsTokens (left_at states.AfterMeasurement now (with_measurement s l) r) ts reach
     → (k : Kind) → is_name k ≡ true → Leads now (at states.Measurement s) (Measurement l, r) ts reach (select_steps s states.Measurement l k)
 source_leads_at now s l r ts reach w =
     by_name (λ (k : Kind). Leads now (at states.Measurement s) (Measurement l, r) ts reach (select_steps s states.Measurement l k)) (r, tt, w, refl) (r, tt, w, refl)
 
 source_leads : (now : ℤ) (s : Progress) (source : FromClause) (r : FilterTail) (t : Lexeme) (ts : List Lexeme) (reach : Reach)
-    → Reads (left_at states.Measurement now (at states.Measurement s) (source, r)) (t ∷ ts) reach
+    → ReadsTokens (left_at states.Measurement now (at states.Measurement s) (source, r)) (t ∷ ts) reach
     → Leads now (at states.Measurement s) (source, r) ts reach (select_steps s states.Measurement t t.kind)
 source_leads now s (Measurement l) r t ts reach w =
     subst (λ (x : Lexeme). Leads now (at states.Measurement s) (Measurement l, r) ts reach (select_steps s states.Measurement x x.kind)) (sym w.0)
@@ -340,6 +340,6 @@ source_leads now s (Subquery l) r t ts reach w =
     (failed (Some (unsupported l)) (left_filter now s (after_from (meaning s.builder) (Subquery l)) r) ts reach (unsupported t) (ap (λ (x : Lexeme). Some (unsupported x)) (sym w.0)) w.2)
 
 pub Measurement_leads : (now : ℤ) (s : Progress) (q : Rest states.Measurement) (t : Lexeme) (ts : List Lexeme) (reach : Reach)
-    → Reads (left_at states.Measurement now (at states.Measurement s) q) (t ∷ ts) reach
+    → ReadsTokens (left_at states.Measurement now (at states.Measurement s) q) (t ∷ ts) reach
     → Leads now (at states.Measurement s) q ts reach (selecting s states.Measurement (select_at states.Measurement t.kind t s.builder.selection))
 Measurement_leads now s q t ts reach w = source_leads now s q.0 q.1 t ts reach w

@@ -5,7 +5,7 @@ use Rattle.ts_ql.specs.declared.state.State.{State}
 use Rattle.ts_ql.specs.declared.state.State.TheVariants as states
 use Rattle.ts_ql.specs.QueryFaults.{Fault}
 use Rattle.ts_ql.specs.Grammar.{Item, Any, This, Examine, FieldType, Call, FromClause, Measurement, Subquery, Measure, Base, Number, Negative, Quoted, Now, Change, Cond, Compare, Match, Group, And, Signed, Dimension, Every, ByTag, GroupBy, FillOption, NullOption, NoneOption, PreviousOption, NumberOption, Ending, Stop, Close, Next}
-use Rattle.ts_ql.specs.Laws.{Reach, Within, Reads}
+use Rattle.ts_ql.specs.Laws.{Reach, Within, ReadsTokens}
 use Rattle.ts_ql.specs.Reading.{Progress}
 use Rattle.ts_ql.specs.Productions.{spell_type, spell_alias, spell_from, spell_base, spell_tag_type, spell_cond, spell_number, spell_offset, spell_dimension, spell_option}
 use Rattle.ts_ql.specs.Statements.{Meaning}
@@ -24,7 +24,7 @@ Starts (Any sort ∷ rest) = ⊤
 Starts (This sort l ∷ rest) = ⊤
 Starts (Examine f ∷ rest) = ⊥
 
-within : (items : List Item) (reach : Reach) → Starts items → Reads items [] reach → reach ≡ Within
+within : (items : List Item) (reach : Reach) → Starts items → ReadsTokens items [] reach → reach ≡ Within
 within [] reach starts v = absurd starts
 within (Any sort ∷ rest) reach starts v = v.0
 within (This sort l ∷ rest) reach starts v = v.0
@@ -168,21 +168,21 @@ stands_by : (s : Progress) (reach : Reach) → reach ≡ Within → Stands reach
 stands_by s reach e = subst (λ (r : Reach). Stands r s) (sym e) tt
 
 moment_stands_by : (now : ℤ) (s : Progress) (q : Closing) (reach : Reach) (o : Option Fault) → moment_fault s ≡ o
-    → Reads (left_at states.AfterMoment now (at states.AfterMoment s) ([], q)) [] reach → Stands reach (at states.AfterMoment s)
+    → ReadsTokens (left_at states.AfterMoment now (at states.AfterMoment s) ([], q)) [] reach → Stands reach (at states.AfterMoment s)
 moment_stands_by now s q reach None valid v =
     stands_by (at states.AfterMoment s) reach (within (left_closing now s (meaning (bounding s)) q) reach (closing_starts now s _ q) (passed (moment_fault s) _ [] reach valid v))
 moment_stands_by now s q reach (Some f) invalid v =
     subst (λ (r : Reach). Stands r (at states.AfterMoment s)) (sym ((failed (moment_fault s) _ [] reach f invalid v).1)) ((unsettled_back s f invalid).1)
 
 moment_stands : (now : ℤ) (s : Progress) (cs : List Change) (q : Closing) (reach : Reach)
-    → Reads (left_at states.AfterMoment now (at states.AfterMoment s) (cs, q)) [] reach → Stands reach (at states.AfterMoment s)
+    → ReadsTokens (left_at states.AfterMoment now (at states.AfterMoment s) (cs, q)) [] reach → Stands reach (at states.AfterMoment s)
 moment_stands now s [] q reach v = moment_stands_by now s q reach (moment_fault s) refl v
 moment_stands now s (c ∷ cs) q reach v = stands_by (at states.AfterMoment s) reach v.0
 
-stands_at : (p : State) (now : ℤ) (s : Progress) (q : Rest p) (reach : Reach) → Reads (left_at p now (at p s) q) [] reach → Stands reach (at p s)
+stands_at : (p : State) (now : ℤ) (s : Progress) (q : Rest p) (reach : Reach) → ReadsTokens (left_at p now (at p s) q) [] reach → Stands reach (at p s)
 stands_at states.AfterMoment now s q reach v = moment_stands now s q.0 q.1 reach v
 stands_at states.Done now s q reach v = subst (λ (r : Reach). Stands r (at states.Done s)) (sym v) refl
 stands_at p now s q reach v = stands_by (at p s) reach (within (left_at p now (at p s) q) reach (starts_at p now s q refl) v)
 
-pub stands : (now : ℤ) (s : Progress) (q : Rest s.state) (reach : Reach) → Reads (left now s q) [] reach → Stands reach s
+pub stands : (now : ℤ) (s : Progress) (q : Rest s.state) (reach : Reach) → ReadsTokens (left now s q) [] reach → Stands reach s
 stands now s q reach v = stands_at s.state now s q reach v

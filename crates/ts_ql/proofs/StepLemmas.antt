@@ -27,7 +27,7 @@ use Rattle.ts_ql.specs.Statements.{statement_query}
 use Rattle.ts_ql.specs.Tokenizing.{is_end_of_text}
 use Rattle.ts_ql.specs.Tokens.{Lexeme}
 use Rattle.ts_ql.specs.WhereSteps.{Filtered, where_at, where_step, term_at, after_term}
-use Rattle.ts_ql.specs.Words.{function_called, is_time, named}
+use Rattle.ts_ql.specs.Words.{function_called, is_time_column, named}
 
 -- ---- within a statement
 
@@ -75,7 +75,7 @@ after_term_goes_on : (depth : ℕ) → is_done (after_term depth) ≡ false
 after_term_goes_on depth = cond_both (eqb depth 0) states.AfterTerm states.NestedTerm (λ p. is_done p ≡ false) (λ e. refl) (λ e. refl)
 
 term_moves : (k : Kind) (t : Lexeme) (f : Filtered) → is_end_of_text k ≡ false → Moves k (term_at t f)
-term_moves k t f other = moves_if k (is_time t.kind t.text) (Ok (states.TimeSign, f)) (Ok (states.TagEnd, record f { tag = text_spelled t.text })) (sym other) (sym other)
+term_moves k t f other = moves_if k (is_time_column t.kind t.text) (Ok (states.TimeSign, f)) (Ok (states.TagEnd, record f { tag = text_spelled t.text })) (sym other) (sym other)
 
 where_moves : (p : State) (k : Kind) (t : Lexeme) (f : Filtered) → Moves k (where_at p k t f)
 where_moves states.Term kinds.Open t f = moves_if kinds.Open (nat_lt f.depth 32) (Ok (states.Term, record f { depth = f.depth + 1 })) (Err (unsupported t)) refl tt
@@ -132,7 +132,7 @@ time_item_moves k t g None other = sym other
 time_item_moves k t g (Some b) other = tt
 
 item_moves : (k : Kind) (t : Lexeme) (g : Grouped) → is_end_of_text k ≡ false → Moves k (item_at t g)
-item_moves k t g other = moves_if k (is_time t.kind t.text) (time_item t g g.buckets) (Ok (states.AfterTag, record g { tags = with_text (text_spelled t.text) g.tags })) (time_item_moves k t g g.buckets other) (sym other)
+item_moves k t g other = moves_if k (is_time_column t.kind t.text) (time_item t g g.buckets) (Ok (states.AfterTag, record g { tags = with_text (text_spelled t.text) g.tags })) (time_item_moves k t g g.buckets other) (sym other)
 
 interval_moves : (t : Lexeme) (g : Grouped) (o : Option ℤ) → Moves kinds.Duration (with_interval t g o)
 interval_moves t g None = tt

@@ -14,7 +14,7 @@ use Rattle.ts_ql.specs.Dates.{timestamp_of}
 use Rattle.ts_ql.specs.Builders.{BuilderState, meaning}
 use Rattle.ts_ql.specs.GroupSteps.{Grouping, FillStep, group_step, fill_step}
 use Rattle.ts_ql.specs.Literals.{is_word, literal}
-use Rattle.ts_ql.specs.MomentSteps.{Timing, HasRoomForMore, based, later_by, earlier_by, moment_at, moment_step, narrowed}
+use Rattle.ts_ql.specs.MomentSteps.{Timing, CanAddMore, based, later_by, earlier_by, moment_at, moment_step, narrowed}
 use Rattle.ts_ql.specs.QueryFaults.{Fault, TooManyStatements, unexpected}
 use Rattle.ts_ql.specs.Reading.{Progress, Advance, BuilderResult, start_progress, narrowed_in, finish_time_at, finish_time_step, in_selection, in_filter, in_moment, in_groups, in_filling, clause_of, builder_at, builder_step, begun_at, begun, ended_with, ended, with_builder, clause_or, next_clause, is_end, may_end, placed_at, after_finishing_time, step}
 use Rattle.ts_ql.specs.Selects.{Select}
@@ -218,5 +218,5 @@ taken now s n (Err f) turn h e before = absurd cc
 pub follows_on : (now : ℤ) (t : Lexeme) (s n : Progress) (turn : ℕ) → step now t s ≡ Ok n → IsAfter now turn s → IsAfter now (turn + 1) n
 follows_on now t s n turn e before = taken now s n (step now t s) turn (step_follows now t s) e before
 
-pub has_room : (now : ℤ) (s : Progress) (turn : ℕ) → turn ≤ 65536 → IsAfter now turn s → HasRoomForMore now s.builder.moment
+pub has_room : (now : ℤ) (s : Progress) (turn : ℕ) → turn ≤ 65536 → IsAfter now turn s → CanAddMore now s.builder.moment
 has_room now s turn few before = omega arith

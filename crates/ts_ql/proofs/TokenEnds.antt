@@ -11,7 +11,7 @@ use Rattle.ts_ql.specs.declared.bytes.Class.{Class}
 use Rattle.ts_ql.specs.declared.bytes.Class.TheVariants.{Space, Name, Digit}
 use Rattle.ts_ql.specs.declared.token.Kind.{Kind}
 use Rattle.ts_ql.specs.declared.token.Kind.TheVariants as kinds
-use Rattle.ts_ql.specs.Lexing.{is_in, run_end, end_of_run, is_escape_byte, closing, closing_quote, parts_end, duration_end, double, single, single_at, double_at, operator_at, number_at, closed_at, quoted_at, shape_at, kind_of, token_at}
+use Rattle.ts_ql.specs.Lexing.{is_in, run_end, end_of_run, is_escape_byte, closing, closing_quote, parts_end, duration_end, double, single, single_at, double_at, operator_at, number_token_at, closed_at, quoted_at, shape_at, kind_of, token_at}
 use Rattle.ts_ql.specs.DurationUnits.{unit_len}
 use Rattle.ts_ql.specs.Tokenizing.{is_end_of_text}
 use Rattle.ts_ql.specs.Words.{is_keyword}
@@ -157,8 +157,8 @@ operator_ends : (text : Text) (start : ℕ) → start < length text → Ends tex
 unfolding operator_at
 operator_ends text start lt = double_ends text start (double (get_or text start 0) (get_or text (start + 1) 0)) lt (double_some (get_or text start 0) (get_or text (start + 1) 0))
 
-number_ends : (text : Text) (start : ℕ) → start < length text → is_ascii_digit (get_or text start 0) ≡ true → Ends text start (number_at text start)
-unfolding number_at
+number_ends : (text : Text) (start : ℕ) → start < length text → is_ascii_digit (get_or text start 0) ≡ true → Ends text start (number_token_at text start)
+unfolding number_token_at
 number_ends text start lt digit =
     let le : start ≤ length text = omega arith in
     let duration : duration_end text start ≤ length text = duration_within text start le in

@@ -10,7 +10,7 @@ use Rattle.ts_ql.specs.declared.token.Kind.TheVariants as kinds
 use Rattle.ts_ql.specs.declared.moment.Comparison.{Comparison}
 use Rattle.ts_ql.specs.QueryFaults.{Fault, unexpected, unsupported}
 use Rattle.ts_ql.specs.Grammar.{Of, Item, Any, This, Examine, Instant, Cond, Compare, Match, Group, And, is_name}
-use Rattle.ts_ql.specs.Laws.{Reach, Reads}
+use Rattle.ts_ql.specs.Laws.{Reach, ReadsTokens}
 use Rattle.ts_ql.specs.Literals.{is_word, text_spelled}
 use Rattle.ts_ql.specs.Meanings.{after_cond}
 use Rattle.ts_ql.specs.Reading.{Progress, Advance, with_builder, in_filter}
@@ -20,7 +20,7 @@ use Rattle.ts_ql.specs.Statements.{Meaning}
 use Rattle.ts_ql.specs.Builders.{BuilderState, meaning}
 use Rattle.ts_ql.specs.Tokens.{Lexeme}
 use Rattle.ts_ql.specs.WhereSteps.{Filtered, Filtering, with_condition, term_at, where_at, after_term}
-use Rattle.ts_ql.specs.Words.{is_time, named}
+use Rattle.ts_ql.specs.Words.{is_time_column, named}
 use Rattle.ts_ql.proofs.Completions.{closing_of, closing_levels}
 use Rattle.ts_ql.proofs.Rests.{Closing, Outside, Inside, GroupTail, levels, after_conds, spell_conds, Rest, left, left_at, left_closing, with_match, said_closing, all_said, SoundAt, Suits, SuitsAt}
 use Rattle.ts_ql.proofs.Steps.{at, Answer, Leads, passes, fails, passed, failed}
@@ -48,7 +48,7 @@ after_joined now p c (d ∷ ds) = after_joined now p (And c d) ds
 -- a rest here spells the token before these items, and says the same
 abbrev pub Behind : ℤ → (s : Progress) → Lexeme → List Item → List (Result Select Fault) → Type 0
 Behind now s t items said =
-    (q : Rest s.state) × Suits s q × ((ts : List Lexeme) (reach : Reach) → Reads items ts reach → Reads (left now s q) (t ∷ ts) reach)
+    (q : Rest s.state) × Suits s q × ((ts : List Lexeme) (reach : Reach) → ReadsTokens items ts reach → ReadsTokens (left now s q) (t ∷ ts) reach)
     × (all_said now s q ≡ map Ok s.queries ++ said)
 
 -- after a term at that depth
@@ -86,7 +86,7 @@ group_back now s t e lt c (Inside cs outer) suits =
         refl,
         e,
         passes (depth_fault (levels outer) t) (group_items now s (joined c cs) outer (after_cond now (meaning s.builder) (joined c cs))) ts reach
-            (no_depth_fault s.builder.filter.depth (levels outer) t same lt) (subst (λ (l : List Item). Reads l ts reach) (sym items) w),
+            (no_depth_fault s.builder.filter.depth (levels outer) t same lt) (subst (λ (l : List Item). ReadsTokens l ts reach) (sym items) w),
       )),
       ap (λ (p : Meaning). map Ok s.queries ++ said_closing now s p outer) after,
     )
@@ -110,7 +110,7 @@ opened now s t e false lt =
     )
 
 -- time, or a tag
-term_answers : (now : ℤ) (s : Progress) (t : Lexeme) → is_name t.kind ≡ true → (b : Bool) → is_time t.kind t.text ≡ b
+term_answers : (now : ℤ) (s : Progress) (t : Lexeme) → is_name t.kind ≡ true → (b : Bool) → is_time_column t.kind t.text ≡ b
     → Answer now (at states.Term s) t (filtering s states.Term
     (if b then Ok (states.TimeSign, s.builder.filter) else Ok (states.TagEnd, record s.builder.filter { tag = text_spelled t.text })))
 term_answers now s t e true is = (tt, λ r suits. ((Compare t r.0 r.1.0, r.1.1), suits, (λ ts reach w. (refl, is, w)), refl))
@@ -164,8 +164,8 @@ matched_builder s t = record s.builder { filter = with_condition (text_spelled t
 pub where_answers : (now : ℤ) (s : Progress) (p : State) (k : Kind) (t : Lexeme) → t.kind ≡ k → SoundAt p (at p s)
     → Answer now (at p s) t (filtering s p (where_at p k t s.builder.filter))
 where_answers now s states.Term kinds.Open t e sound = opened now s t e (nat_lt s.builder.filter.depth 32) refl
-where_answers now s states.Term kinds.Word t e sound = term_answers now s t (ap is_name e) (is_time t.kind t.text) refl
-where_answers now s states.Term kinds.QuotedName t e sound = term_answers now s t (ap is_name e) (is_time t.kind t.text) refl
+where_answers now s states.Term kinds.Word t e sound = term_answers now s t (ap is_name e) (is_time_column t.kind t.text) refl
+where_answers now s states.Term kinds.QuotedName t e sound = term_answers now s t (ap is_name e) (is_time_column t.kind t.text) refl
 where_answers now s states.TagEnd kinds.Cast t e sound = (tt, λ r suits. ((true, r), suits, (λ ts reach w. (e, w)), refl))
 where_answers now s states.TagEnd kinds.Equals t e sound = (tt, λ r suits. ((false, (false, r)), suits, (λ ts reach w. (e, w)), refl))
 where_answers now s states.TagEnd kinds.NotEqual t e sound = (tt, λ r suits. ((false, (true, r)), suits, (λ ts reach w. (e, w)), refl))
@@ -187,15 +187,15 @@ where_steps s p t k = filtering s p (where_at p k t s.builder.filter)
 
 -- after a term at that depth
 pub closing_leads : (now : ℤ) (s : Progress) (q : Rest s.state) (ts : List Lexeme) (reach : Reach) (d : BuilderState) (c : Closing) (b : Bool) → d.filter.depth ≡ levels c
-    → Reads (left_closing now s (meaning d) c) ts reach → all_said now s q ≡ map Ok s.queries ++ said_closing now s (meaning d) c
+    → ReadsTokens (left_closing now s (meaning d) c) ts reach → all_said now s q ≡ map Ok s.queries ++ said_closing now s (meaning d) c
     → Leads now s q ts reach (Ok (record s { state = if b then states.AfterTerm else states.NestedTerm; builder = d }))
 closing_leads now s q ts reach d c true suits w said = (c, suits, w, said)
 closing_leads now s q ts reach d c false suits w said = (c, suits, w, said)
 
 -- ---- the first token of a term
 
-pub time_is_name : (k : Kind) (text : Text) → is_time k text ≡ true → is_name k ≡ true
-unfolding is_time
+pub time_is_name : (k : Kind) (text : Text) → is_time_column k text ≡ true → is_name k ≡ true
+unfolding is_time_column
 time_is_name kinds.Word text is = refl
 time_is_name kinds.QuotedName text is = refl
 time_is_name k text is = absurd cc
@@ -210,7 +210,7 @@ name_steps s t b = filtering s states.Term (if b then Ok (states.TimeSign, s.bui
 
 compare_leads : (now : ℤ) (s : Progress) (l : Lexeme) (c : Comparison) (i : Instant) (closing : Closing) (t : Lexeme) (ts : List Lexeme) (reach : Reach)
     → SuitsAt states.Term (at states.Term s) (Compare l c i, closing)
-    → Reads (left_at states.Term now (at states.Term s) (Compare l c i, closing)) (t ∷ ts) reach
+    → ReadsTokens (left_at states.Term now (at states.Term s) (Compare l c i, closing)) (t ∷ ts) reach
     → Leads now (at states.Term s) (Compare l c i, closing) ts reach (where_steps s states.Term t t.kind)
 compare_leads now s l c i closing t ts reach suits w =
     let stepped : where_steps s states.Term t t.kind ≡ name_steps s t true
@@ -223,7 +223,7 @@ tag_items now s cast negated value closing l = spell_tag_type cast (Any (Of (equ
 
 match_leads : (now : ℤ) (s : Progress) (l : Lexeme) (cast negated : Bool) (value : Lexeme) (closing : Closing) (t : Lexeme) (ts : List Lexeme) (reach : Reach)
     → SuitsAt states.Term (at states.Term s) (Match l cast negated value, closing)
-    → Reads (left_at states.Term now (at states.Term s) (Match l cast negated value, closing)) (t ∷ ts) reach
+    → ReadsTokens (left_at states.Term now (at states.Term s) (Match l cast negated value, closing)) (t ∷ ts) reach
     → Leads now (at states.Term s) (Match l cast negated value, closing) ts reach (where_steps s states.Term t t.kind)
 match_leads now s l cast negated value closing t ts reach suits w =
     let stepped : where_steps s states.Term t t.kind ≡ name_steps s t false
@@ -231,7 +231,7 @@ match_leads now s l cast negated value closing t ts reach suits w =
     subst (Leads now (at states.Term s) (Match l cast negated value, closing) ts reach) (sym stepped) (
       (cast, (negated, (value, closing))),
       suits,
-      subst (λ (x : Lexeme). Reads (tag_items now s cast negated value closing x) ts reach) (sym w.0) w.2,
+      subst (λ (x : Lexeme). ReadsTokens (tag_items now s cast negated value closing x) ts reach) (sym w.0) w.2,
       ap (λ (x : Lexeme). map Ok s.queries ++ said_closing now s (with_match (meaning s.builder) (named x) negated value) closing) (sym w.0),
     )
 
@@ -241,7 +241,7 @@ open_steps s t b =
 
 open_leads : (now : ℤ) (s : Progress) (o : Lexeme) (c : Cond) (closing : Closing) (t : Lexeme) (ts : List Lexeme) (reach : Reach)
     → s.builder.filter.depth ≡ levels closing → t ≡ o
-    → Reads (Examine (depth_fault (levels closing) o) ∷ group_items now s c closing (after_cond now (meaning s.builder) c)) ts reach
+    → ReadsTokens (Examine (depth_fault (levels closing) o) ∷ group_items now s c closing (after_cond now (meaning s.builder) c)) ts reach
     → (b : Bool) → nat_lt s.builder.filter.depth 32 ≡ b → Leads now (at states.Term s) (Group o c, closing) ts reach (open_steps s t b)
 open_leads now s o c closing t ts reach suits same w true lt = (
   (c, Inside [] closing),
@@ -255,7 +255,7 @@ open_leads now s o c closing t ts reach suits same w false lt =
     (a_depth_fault s.builder.filter.depth (levels closing) o suits lt ∙ ap (λ (x : Lexeme). Some (unsupported x)) (sym same)) w
 
 cond_leads : (now : ℤ) (s : Progress) (c : Cond) (closing : Closing) (t : Lexeme) (ts : List Lexeme) (reach : Reach)
-    → SuitsAt states.Term (at states.Term s) (c, closing) → Reads (left_at states.Term now (at states.Term s) (c, closing)) (t ∷ ts) reach
+    → SuitsAt states.Term (at states.Term s) (c, closing) → ReadsTokens (left_at states.Term now (at states.Term s) (c, closing)) (t ∷ ts) reach
     → Leads now (at states.Term s) (c, closing) ts reach (where_steps s states.Term t t.kind)
 cond_leads now s (Compare l c i) closing t ts reach suits w = compare_leads now s l c i closing t ts reach suits w
 cond_leads now s (Match l cast negated value) closing t ts reach suits w = match_leads now s l cast negated value closing t ts reach suits w
@@ -266,14 +266,14 @@ cond_leads now s (And a b) (Outside cs tail) t ts reach suits w = cond_leads now
 cond_leads now s (And a b) (Inside cs outer) t ts reach suits w = cond_leads now s a (Inside (b ∷ cs) outer) t ts reach suits w
 
 pub term_leads : (now : ℤ) (s : Progress) (q : Rest states.Term) (t : Lexeme) (ts : List Lexeme) (reach : Reach) → SuitsAt states.Term (at states.Term s) q
-    → Reads (left_at states.Term now (at states.Term s) q) (t ∷ ts) reach
+    → ReadsTokens (left_at states.Term now (at states.Term s) q) (t ∷ ts) reach
     → Leads now (at states.Term s) q ts reach (filtering s states.Term (where_at states.Term t.kind t s.builder.filter))
 term_leads now s q t ts reach suits w = cond_leads now s q.0 q.1 t ts reach suits w
 
 -- ---- a condition on a tag
 
 tag_end_leads_at : (now : ℤ) (s : Progress) (cast negated : Bool) (tail : Lexeme × Closing) (t : Lexeme) (ts : List Lexeme) (reach : Reach)
-    → SuitsAt states.TagEnd (at states.TagEnd s) (cast, (negated, tail)) → Reads (left_at states.TagEnd now (at states.TagEnd s) (cast, (negated, tail))) (t ∷ ts) reach
+    → SuitsAt states.TagEnd (at states.TagEnd s) (cast, (negated, tail)) → ReadsTokens (left_at states.TagEnd now (at states.TagEnd s) (cast, (negated, tail))) (t ∷ ts) reach
     → Leads now (at states.TagEnd s) (cast, (negated, tail)) ts reach (where_steps s states.TagEnd t t.kind)
 tag_end_leads_at now s true negated tail t ts reach suits w =
     subst (λ (k : Kind). Leads now (at states.TagEnd s) (true, (negated, tail)) ts reach (where_steps s states.TagEnd t k)) (sym w.0) ((negated, tail), suits, w.1, refl)
@@ -283,7 +283,7 @@ tag_end_leads_at now s false false tail t ts reach suits w =
     subst (λ (k : Kind). Leads now (at states.TagEnd s) (false, (false, tail)) ts reach (where_steps s states.TagEnd t k)) (sym w.0) (tail, suits, w.1, refl)
 
 pub tag_end_leads : (now : ℤ) (s : Progress) (q : Rest states.TagEnd) (t : Lexeme) (ts : List Lexeme) (reach : Reach) → SuitsAt states.TagEnd (at states.TagEnd s) q
-    → Reads (left_at states.TagEnd now (at states.TagEnd s) q) (t ∷ ts) reach
+    → ReadsTokens (left_at states.TagEnd now (at states.TagEnd s) q) (t ∷ ts) reach
     → Leads now (at states.TagEnd s) q ts reach (filtering s states.TagEnd (where_at states.TagEnd t.kind t s.builder.filter))
 tag_end_leads now s q t ts reach suits w = tag_end_leads_at now s q.0 q.1.0 q.1.1 t ts reach suits w
 
@@ -291,14 +291,14 @@ abbrev type_steps : Progress → Lexeme → Bool → Advance
 type_steps s t b = filtering s states.TagType (if b then Ok (states.TagSign, s.builder.filter) else Err (unexpected t))
 
 pub tag_type_leads : (now : ℤ) (s : Progress) (q : Rest states.TagType) (t : Lexeme) (ts : List Lexeme) (reach : Reach) → SuitsAt states.TagType (at states.TagType s) q
-    → Reads (left_at states.TagType now (at states.TagType s) q) (t ∷ ts) reach
+    → ReadsTokens (left_at states.TagType now (at states.TagType s) q) (t ∷ ts) reach
     → Leads now (at states.TagType s) q ts reach (filtering s states.TagType (where_at states.TagType t.kind t s.builder.filter))
 tag_type_leads now s q t ts reach suits w =
     subst (λ (k : Kind). Leads now (at states.TagType s) q ts reach (where_steps s states.TagType t k)) (sym w.0.0)
     (subst (λ (b : Bool). Leads now (at states.TagType s) q ts reach (type_steps s t b)) (sym w.0.1) (q, suits, w.1, refl))
 
 tag_sign_leads_at : (now : ℤ) (s : Progress) (negated : Bool) (tail : Lexeme × Closing) (t : Lexeme) (ts : List Lexeme) (reach : Reach)
-    → SuitsAt states.TagSign (at states.TagSign s) (negated, tail) → Reads (left_at states.TagSign now (at states.TagSign s) (negated, tail)) (t ∷ ts) reach
+    → SuitsAt states.TagSign (at states.TagSign s) (negated, tail) → ReadsTokens (left_at states.TagSign now (at states.TagSign s) (negated, tail)) (t ∷ ts) reach
     → Leads now (at states.TagSign s) (negated, tail) ts reach (where_steps s states.TagSign t t.kind)
 tag_sign_leads_at now s true tail t ts reach suits w =
     subst (λ (k : Kind). Leads now (at states.TagSign s) (true, tail) ts reach (where_steps s states.TagSign t k)) (sym w.0) (tail, suits, w.1, refl)
@@ -306,7 +306,7 @@ tag_sign_leads_at now s false tail t ts reach suits w =
     subst (λ (k : Kind). Leads now (at states.TagSign s) (false, tail) ts reach (where_steps s states.TagSign t k)) (sym w.0) (tail, suits, w.1, refl)
 
 pub tag_sign_leads : (now : ℤ) (s : Progress) (q : Rest states.TagSign) (t : Lexeme) (ts : List Lexeme) (reach : Reach) → SuitsAt states.TagSign (at states.TagSign s) q
-    → Reads (left_at states.TagSign now (at states.TagSign s) q) (t ∷ ts) reach
+    → ReadsTokens (left_at states.TagSign now (at states.TagSign s) q) (t ∷ ts) reach
     → Leads now (at states.TagSign s) q ts reach (filtering s states.TagSign (where_at states.TagSign t.kind t s.builder.filter))
 tag_sign_leads now s q t ts reach suits w = tag_sign_leads_at now s q.0 q.1 t ts reach suits w
 
@@ -314,12 +314,12 @@ abbrev matched_parts : Progress → Lexeme → Meaning
 matched_parts s l = with_match (meaning s.builder) s.builder.filter.tag s.builder.filter.negated l
 
 pub tag_value_leads : (now : ℤ) (s : Progress) (q : Rest states.TagValue) (t : Lexeme) (ts : List Lexeme) (reach : Reach) → SuitsAt states.TagValue (at states.TagValue s) q
-    → Reads (left_at states.TagValue now (at states.TagValue s) q) (t ∷ ts) reach
+    → ReadsTokens (left_at states.TagValue now (at states.TagValue s) q) (t ∷ ts) reach
     → Leads now (at states.TagValue s) q ts reach (filtering s states.TagValue (where_at states.TagValue t.kind t s.builder.filter))
 tag_value_leads now s q t ts reach suits w =
     subst (λ (k : Kind). Leads now (at states.TagValue s) q ts reach (where_steps s states.TagValue t k)) (sym w.1)
     (closing_leads now (at states.TagValue s) q ts reach (matched_builder s t) q.1 (s.builder.filter.depth == 0) suits
-    (subst (λ (x : Lexeme). Reads (left_closing now s (matched_parts s x) q.1) ts reach) (sym w.0) w.2)
+    (subst (λ (x : Lexeme). ReadsTokens (left_closing now s (matched_parts s x) q.1) ts reach) (sym w.0) w.2)
     (ap (λ (x : Lexeme). map Ok s.queries ++ said_closing now s (matched_parts s x) q.1) (sym w.0)))
 
 -- ---- after a term
@@ -329,7 +329,7 @@ and_steps s p t b = filtering s p (if b then Ok (states.Term, s.builder.filter) 
 
 pub after_term_leads : (now : ℤ) (s : Progress) (c : Cond) (cs : List Cond) (tail : GroupTail) (t : Lexeme) (ts : List Lexeme) (reach : Reach)
     → SuitsAt states.AfterTerm (at states.AfterTerm s) (Outside (c ∷ cs) tail)
-    → Reads (left_at states.AfterTerm now (at states.AfterTerm s) (Outside (c ∷ cs) tail)) (t ∷ ts) reach
+    → ReadsTokens (left_at states.AfterTerm now (at states.AfterTerm s) (Outside (c ∷ cs) tail)) (t ∷ ts) reach
     → Leads now (at states.AfterTerm s) (Outside (c ∷ cs) tail) ts reach (filtering s states.AfterTerm (where_at states.AfterTerm t.kind t s.builder.filter))
 after_term_leads now s c cs tail t ts reach suits w =
     subst (λ (k : Kind). Leads now (at states.AfterTerm s) (Outside (c ∷ cs) tail) ts reach (where_steps s states.AfterTerm t k)) (sym w.0.0)
@@ -338,7 +338,7 @@ after_term_leads now s c cs tail t ts reach suits w =
 
 pub nested_and_leads : (now : ℤ) (s : Progress) (c : Cond) (cs : List Cond) (closing : Closing) (t : Lexeme) (ts : List Lexeme) (reach : Reach)
     → SuitsAt states.NestedTerm (at states.NestedTerm s) (Inside (c ∷ cs) closing)
-    → Reads (left_at states.NestedTerm now (at states.NestedTerm s) (Inside (c ∷ cs) closing)) (t ∷ ts) reach
+    → ReadsTokens (left_at states.NestedTerm now (at states.NestedTerm s) (Inside (c ∷ cs) closing)) (t ∷ ts) reach
     → Leads now (at states.NestedTerm s) (Inside (c ∷ cs) closing) ts reach (filtering s states.NestedTerm (where_at states.NestedTerm t.kind t s.builder.filter))
 nested_and_leads now s c cs closing t ts reach suits w =
     subst (λ (k : Kind). Leads now (at states.NestedTerm s) (Inside (c ∷ cs) closing) ts reach (where_steps s states.NestedTerm t k)) (sym w.0.0)
@@ -351,7 +351,7 @@ close_steps s t b = filtering s states.NestedTerm
 
 pub nested_close_leads : (now : ℤ) (s : Progress) (closing : Closing) (t : Lexeme) (ts : List Lexeme) (reach : Reach)
     → SuitsAt states.NestedTerm (at states.NestedTerm s) (Inside [] closing)
-    → Reads (left_at states.NestedTerm now (at states.NestedTerm s) (Inside [] closing)) (t ∷ ts) reach
+    → ReadsTokens (left_at states.NestedTerm now (at states.NestedTerm s) (Inside [] closing)) (t ∷ ts) reach
     → Leads now (at states.NestedTerm s) (Inside [] closing) ts reach (filtering s states.NestedTerm (where_at states.NestedTerm t.kind t s.builder.filter))
 nested_close_leads now s closing t ts reach suits w =
     let inside : nat_lt 0 s.builder.filter.depth ≡ true = lt-ltb 0 s.builder.filter.depth (omega (arith, suits)) in

@@ -24,7 +24,7 @@ use Rattle.ts_ql.specs.declared.token.Kind.TheVariants as kinds
 use Rattle.ts_ql.specs.QueryFaults.{Fault}
 use Rattle.ts_ql.specs.Literals.{is_word}
 use Rattle.ts_ql.specs.Tokens.{Lexeme}
-use Rattle.ts_ql.specs.Words.{is_time}
+use Rattle.ts_ql.specs.Words.{is_time_column}
 
 -- ---- tokens
 
@@ -53,8 +53,8 @@ abbrev pub Is : Sort → Lexeme → Type 0
 Is (Keyword word) t = (t.kind ≡ kinds.Keyword) × (is_word word t.text ≡ true)
 Is (Word word) t = (t.kind ≡ kinds.Word) × (is_word word t.text ≡ true)
 Is Name t = is_name t.kind ≡ true
-Is Tag t = (is_name t.kind ≡ true) × (is_time t.kind t.text ≡ false)
-Is Time t = is_time t.kind t.text ≡ true
+Is Tag t = (is_name t.kind ≡ true) × (is_time_column t.kind t.text ≡ false)
+Is Time t = is_time_column t.kind t.text ≡ true
 Is (Of kind) t = t.kind ≡ kind
 
 -- an item of a spelling: any token of a class, one particular token of a class, or a check

@@ -14,7 +14,7 @@ use Rattle.ts_ql.specs.declared.token.Kind.TheVariants as kinds
 use Rattle.ts_ql.specs.QueryFaults.{Fault, OutOfRange, unexpected}
 use Rattle.ts_ql.specs.Literals.{is_word, literal, text_spelled}
 use Rattle.ts_ql.specs.Tokens.{Lexeme}
-use Rattle.ts_ql.specs.Words.{is_time}
+use Rattle.ts_ql.specs.Words.{is_time_column}
 
 -- state of the clause: the buckets, the text offset of the bucket offset's first token, and the sorted set of tags
 pub record Grouped : Type 0 where
@@ -39,7 +39,7 @@ time_item t g (Some buckets) = Err (unexpected t)
 
 abbrev pub item_at : Lexeme → Grouped → Grouping
 item_at t g =
-    if is_time t.kind t.text then time_item t g g.buckets
+    if is_time_column t.kind t.text then time_item t g g.buckets
     else Ok (states.AfterTag, record g { tags = with_text (text_spelled t.text) g.tags })
 
 abbrev pub with_interval : Lexeme → Grouped → Option ℤ → Grouping

@@ -32,33 +32,33 @@ pub data Reach : Type 0 where
   At : Fault → Reach
 
 -- the tokens are those of the spelling, one by one, up to `reach`; no check before that fails
-abbrev pub Reads : List Item → List Lexeme → Reach → Type 0
-Reads [] [] reach = reach ≡ Whole
-Reads [] (t ∷ ts) reach = ⊥
-Reads (Any sort ∷ rest) [] reach = (reach ≡ Within) × CanBeWritten (Any sort ∷ rest)
-Reads (Any sort ∷ rest) (t ∷ ts) reach = Is sort t × Reads rest ts reach
-Reads (This sort l ∷ rest) [] reach = (reach ≡ Within) × CanBeWritten (This sort l ∷ rest)
-Reads (This sort l ∷ rest) (t ∷ ts) reach = (t ≡ l) × Is sort t × Reads rest ts reach
-Reads (Examine None ∷ rest) ts reach = Reads rest ts reach
-Reads (Examine (Some fault) ∷ rest) [] reach = reach ≡ At fault
-Reads (Examine (Some fault) ∷ rest) (t ∷ ts) reach = ⊥
+abbrev pub ReadsTokens : List Item → List Lexeme → Reach → Type 0
+ReadsTokens [] [] reach = reach ≡ Whole
+ReadsTokens [] (t ∷ ts) reach = ⊥
+ReadsTokens (Any sort ∷ rest) [] reach = (reach ≡ Within) × CanBeWritten (Any sort ∷ rest)
+ReadsTokens (Any sort ∷ rest) (t ∷ ts) reach = Is sort t × ReadsTokens rest ts reach
+ReadsTokens (This sort l ∷ rest) [] reach = (reach ≡ Within) × CanBeWritten (This sort l ∷ rest)
+ReadsTokens (This sort l ∷ rest) (t ∷ ts) reach = (t ≡ l) × Is sort t × ReadsTokens rest ts reach
+ReadsTokens (Examine None ∷ rest) ts reach = ReadsTokens rest ts reach
+ReadsTokens (Examine (Some fault) ∷ rest) [] reach = reach ≡ At fault
+ReadsTokens (Examine (Some fault) ∷ rest) (t ∷ ts) reach = ⊥
 
 -- some tree spells the tokens, and its statements mean these queries
 abbrev pub Says : ℤ → List Lexeme → List Select → Type 0
-Says now ts queries = (script : Script) × Reads (spell now script) ts Whole × (script_queries now script ≡ map Ok queries)
+Says now ts queries = (script : Script) × ReadsTokens (spell now script) ts Whole × (script_queries now script ≡ map Ok queries)
 
 -- the tokens begin some text without an error
 abbrev pub MayBecome : ℤ → List Lexeme → Type 0
-MayBecome now ts = (script : Script) × (Reads (spell now script) ts Within ⊎ Reads (spell now script) ts Whole)
+MayBecome now ts = (script : Script) × (ReadsTokens (spell now script) ts Within ⊎ ReadsTokens (spell now script) ts Whole)
 
 -- some tree spells the tokens before this one, or these with this one, and then its next check fails with this error
 abbrev pub HasFault : ℤ → List Lexeme → Lexeme → Fault → Type 0
 HasFault now before token fault =
-    (script : Script) × (Reads (spell now script) before (At fault) ⊎ Reads (spell now script) (before ++ token ∷ []) (At fault))
+    (script : Script) × (ReadsTokens (spell now script) before (At fault) ⊎ ReadsTokens (spell now script) (before ++ token ∷ []) (At fault))
 
 -- The first error: the tokens before some token begin a valid text, but not with that token added. The error is that of
 -- the check that fails there, if any, or else that the token is unexpected.
-pub record IsFirstFault (now : ℤ) (ts : List Lexeme) (fault : Fault) : Type 0 where
+pub record IsFirstQueryFault (now : ℤ) (ts : List Lexeme) (fault : Fault) : Type 0 where
   pub before : List Lexeme
   pub token : Lexeme
   pub behind : List Lexeme
@@ -76,7 +76,7 @@ SaysUnless false now text queries = Says now (tokens_of text) queries
 
 abbrev pub IsFaultIf : Bool → ℤ → Text → Fault → Type 0
 IsFaultIf true now text fault = fault ≡ Syntax 65536
-IsFaultIf false now text fault = IsFirstFault now (tokens_of text) fault
+IsFaultIf false now text fault = IsFirstQueryFault now (tokens_of text) fault
 
 -- the text means these queries at time `now`
 abbrev pub TextSays : ℤ → Text → List Select → Type 0

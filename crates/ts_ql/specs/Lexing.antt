@@ -101,8 +101,8 @@ unfoldable pub operator_at : Text → ℕ → Kind × ℕ
 operator_at text start = double_at text start (double (slice_index text start) (slice_index text (start + 1)))
 
 -- a number: a duration, or digits without a letter or a point after them
-unfoldable pub number_at : Text → ℕ → Kind × ℕ
-number_at text start =
+unfoldable pub number_token_at : Text → ℕ → Kind × ℕ
+number_token_at text start =
     if nat_lt start (duration_end text start) then (kinds.Duration, duration_end text start)
     else if is_ascii_alphabetic (slice_index text (end_of_run Digit text start)) || slice_index text (end_of_run Digit text start) == 46 then (kinds.Bad, length text)
     else (kinds.Integer, end_of_run Digit text start)
@@ -120,7 +120,7 @@ quoted_at text start = closed_at text (slice_index text start) start (closing_qu
 unfoldable pub shape_at : Text → ℕ → Kind × ℕ
 shape_at text start =
     if length text == start then (kinds.End, start)
-    else if is_ascii_digit (slice_index text start) then number_at text start
+    else if is_ascii_digit (slice_index text start) then number_token_at text start
     else if is_in Name (slice_index text start) then (kinds.Word, end_of_run Name text start)
     else if slice_index text start == 34 || slice_index text start == 39 then quoted_at text start
     else operator_at text start

@@ -25,8 +25,8 @@ based first m None = Err (OutOfRange first)
 based first m (Some value) = Ok (states.AfterMoment, record m { first = first; total = value })
 
 -- one more duration can be added to the sum without overflow of 128 bits
-abbrev pub HasRoomForMore : ℤ → Moment → Type 0
-HasRoomForMore now m = unsigned_abs m.total ≤ 2 ^ 126 + unsigned_abs now
+abbrev pub CanAddMore : ℤ → Moment → Type 0
+CanAddMore now m = unsigned_abs m.total ≤ 2 ^ 126 + unsigned_abs now
 
 -- adds a duration
 abbrev pub later_by : Lexeme → Moment → Option ℤ → Timing

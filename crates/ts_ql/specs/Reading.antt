@@ -182,9 +182,9 @@ abbrev pub Advance : Type 0
 Advance = Result Progress Fault
 
 -- a call left this state, unless it ran out of memory
-abbrev pub StepsTo : Result (Unit {0}) ParseError → Progress → Advance → Type 0
-StepsTo (Ok u) s step = step ≡ Ok s
-StepsTo (Err e) s step = IsFailure e step
+abbrev pub LeavesState : Result (Unit {0}) ParseError → Progress → Advance → Type 0
+LeavesState (Ok u) s step = step ≡ Ok s
+LeavesState (Err e) s step = IsFailure e step
 
 -- SELECT begins a statement, and the text may end after one
 abbrev pub begun_at : Kind → Lexeme → Progress → Advance

@@ -11,7 +11,7 @@ use Rattle.ts_ql.specs.declared.token.Kind.TheVariants as kinds
 use Rattle.ts_ql.specs.QueryFaults.{Fault, unsupported, unexpected}
 use Rattle.ts_ql.specs.Literals.{is_word, text_spelled}
 use Rattle.ts_ql.specs.Tokens.{Lexeme}
-use Rattle.ts_ql.specs.Words.{is_time}
+use Rattle.ts_ql.specs.Words.{is_time_column}
 
 -- state of the clause: the tag conditions, the tag and operator of the current one, and the number of open parentheses
 pub record Filtered : Type 0 where
@@ -47,7 +47,7 @@ with_condition value f = record f {
 
 -- the first token of a term, if it is no parenthesis
 abbrev pub term_at : Lexeme → Filtered → Filtering
-term_at t f = if is_time t.kind t.text then Ok (states.TimeSign, f) else Ok (states.TagEnd, record f { tag = text_spelled t.text })
+term_at t f = if is_time_column t.kind t.text then Ok (states.TimeSign, f) else Ok (states.TagEnd, record f { tag = text_spelled t.text })
 
 abbrev pub where_at : State → Kind → Lexeme → Filtered → Filtering
 where_at states.Term kinds.Open t f = if nat_lt f.depth 32 then Ok (states.Term, record f { depth = f.depth + 1 }) else Err (unsupported t)

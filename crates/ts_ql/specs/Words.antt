@@ -47,10 +47,10 @@ function_called text =
     else if is_word (codes "mean") text then Some functions.Mean else None
 
 -- the time column, quoted or not
-unfoldable pub is_time : Kind → Text → Bool
-is_time kinds.Word text = is_word (codes "time") text
-is_time kinds.QuotedName text = bytes_eq text (codes "time")
-is_time kind text = false
+unfoldable pub is_time_column : Kind → Text → Bool
+is_time_column kinds.Word text = is_word (codes "time") text
+is_time_column kinds.QuotedName text = bytes_eq text (codes "time")
+is_time_column kind text = false
 
 -- unsupported: such a word or operator
 unfoldable pub is_unsupported : Kind → Text → Bool

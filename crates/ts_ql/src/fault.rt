@@ -7,7 +7,7 @@ ghost use Rattle.ts_ql.specs.declared.fault.ParseError.TheVariants as errors;
 
 use std::alloc::{AllocError, AllocFailed, Allocator};
 use thiserror::Error;
-use ts_core::{FaultCode, FaultDetail, append_words};
+use ts_core::{FaultCode, FaultDetail, push_all};
 
 /// Kind of error in an InfluxQL text.
 #[derive(Clone, Copy, Debug, PartialEq, Eq, Error)]
@@ -127,7 +127,7 @@ impl<'a> ParseError<'a> {
         ensures { IsAppended (error_text self.now) text.old text.new result }
     {
         match self {
-            ParseError::OutOfMemory => append_words(text, &["fault memory"]),
+            ParseError::OutOfMemory => push_all(text, &["fault memory"]),
             ParseError::Fault(fault) => fault.text_to(text),
         }
     }

@@ -62,7 +62,7 @@ impl<A: Allocator + Copy> Filter<A> {
     fn take_column<'a>(&mut self, alloc: A, token: &Token<'a>) -> Result<State, ParseError<'a>>
         ensures { GivesWith result (filtered self.new) (term_at (lexeme token.now) (filtered self.old)) }
     {
-        if token.is_time() {
+        if token.is_time_column() {
             return Ok(State::TimeSign);
         }
         self.tag = text_spelled(alloc, token.text)?;

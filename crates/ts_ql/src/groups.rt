@@ -54,7 +54,7 @@ impl<A: Allocator + Copy> Groups<A> {
     fn take_column<'a>(&mut self, alloc: A, token: &Token<'a>) -> Result<State, ParseError<'a>>
         ensures { GivesWith result self.new (item_at (lexeme token.now) self.old) }
     {
-        if token.is_time() {
+        if token.is_time_column() {
             return match self.buckets {
                 None => Ok(State::TimeOpen),
                 Some(_) => Err(ParseError::Fault(token.unexpected())),

@@ -2,7 +2,7 @@
 ghost use Rattle.std.specs.Prelude.{◌≡◌, ◌+◌, ◌≤◌, ◌^◌, false, unsigned_abs};
 ghost use Rattle.ts_ql.specs.QueryFaults.{Gives, GivesWith};
 ghost use Rattle.ts_ql.specs.Literals.{literal};
-ghost use Rattle.ts_ql.specs.MomentSteps.{HasRoomForMore, based, later_by, earlier_by, compared, moment_step, moment_time, no_moment, narrowed};
+ghost use Rattle.ts_ql.specs.MomentSteps.{CanAddMore, based, later_by, earlier_by, compared, moment_step, moment_time, no_moment, narrowed};
 ghost use Rattle.ts_ql.specs.Ranges.{unbounded, from_on, before, bounded};
 ghost use Rattle.ts_ql.specs.Tokens.{lexeme};
 
@@ -107,7 +107,7 @@ impl Moment {
         state: State,
         token: &Token<'a>,
     ) -> Result<State, ParseError<'a>>
-        requires { HasRoomForMore now self.old }
+        requires { CanAddMore now self.old }
         ensures { GivesWith result self.new (moment_step now state (lexeme token.now) self.old) }
     {
         let now = i128::from(now.nanos());

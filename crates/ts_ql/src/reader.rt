@@ -2,8 +2,8 @@
 ghost use Rattle.std.specs.Prelude.{◌≡◌, ◌≤◌, ◌&&◌, length};
 ghost use Rattle.ts_ql.specs.QueryFaults.{Gives};
 ghost use Rattle.ts_ql.specs.Laws.{ReadsText, IsDecided, LiteralsCount};
-ghost use Rattle.ts_ql.specs.MomentSteps.{HasRoomForMore};
-ghost use Rattle.ts_ql.specs.Reading.{next_clause, may_end, is_end, after_end, progress, start_progress, StepsTo, begun, ended, step, queries_of};
+ghost use Rattle.ts_ql.specs.MomentSteps.{CanAddMore};
+ghost use Rattle.ts_ql.specs.Reading.{next_clause, may_end, is_end, after_end, progress, start_progress, LeavesState, begun, ended, step, queries_of};
 ghost use Rattle.ts_ql.specs.Tokens.{lexeme};
 
 use crate::fault::{ParseError, QlFaultKind};
@@ -92,7 +92,7 @@ impl<A: Allocator + Copy> Reader<A> {
     /// Begins a statement at SELECT, or finishes at the end of the text. Fails with `TooManyStatements` at the 17th.
     #[tactic(auto, unfolding(crate::specs::Reading::begun))]
     fn begin<'a>(&mut self, token: &Token<'a>) -> Result<(), ParseError<'a>>
-        ensures { StepsTo result (progress self.new) (begun (lexeme token.now) (progress self.old)) }
+        ensures { LeavesState result (progress self.new) (begun (lexeme token.now) (progress self.old)) }
     {
         match token.kind {
             Kind::Keyword => {
@@ -120,7 +120,7 @@ impl<A: Allocator + Copy> Reader<A> {
 
     /// Finishes the current statement and appends its query.
     fn end<'a>(&mut self, alloc: A, now: Time, kind: Kind) -> Result<(), ParseError<'a>>
-        ensures { StepsTo result (progress self.new) (ended now kind (progress self.old)) }
+        ensures { LeavesState result (progress self.new) (ended now kind (progress self.old)) }
     {
         let builder = mem::replace(&mut self.builder, StatementBuilder::new(alloc));
         let query = builder.query(alloc, self.start, now)?;
@@ -133,8 +133,8 @@ impl<A: Allocator + Copy> Reader<A> {
     /// Consumes the next token.
     #[tactic(auto, unfolding(crate::specs::Reading::step))]
     fn take<'a>(&mut self, alloc: A, now: Time, token: &Token<'a>) -> Result<(), ParseError<'a>>
-        requires { HasRoomForMore now self.old.builder.moment }
-        ensures { StepsTo result (progress self.new) (step now (lexeme token.now) (progress self.old)) }
+        requires { CanAddMore now self.old.builder.moment }
+        ensures { LeavesState result (progress self.new) (step now (lexeme token.now) (progress self.old)) }
     {
         self.state = self.builder.finish_time(self.state, token.kind)?;
         if let State::Statement = self.state {

@@ -2,7 +2,7 @@
 ghost use Rattle.std.specs.Prelude.{◌≡◌, ◌≢◌, ◌<◌, IsSome, IfSome, true, false, length, slice_index};
 ghost use Rattle.std.specs.Str.{IsCharBoundary};
 ghost use Rattle.ts_core.specs.text.Cursors.{IsOffsetFrom};
-ghost use Rattle.ts_ql.specs.Lexing.{double, single, operator_at, number_at, quoted_at, shape_at, is_quoted, is_in};
+ghost use Rattle.ts_ql.specs.Lexing.{double, single, operator_at, number_token_at, quoted_at, shape_at, is_quoted, is_in};
 ghost use Rattle.ts_ql.specs.Shapes.{IsTokenFrom};
 ghost use Rattle.ts_ql.specs.declared.bytes.Class.TheVariants as classes;
 
@@ -67,12 +67,12 @@ fn operator_at(text: &str, start: usize) -> (Kind, usize)
     }
 }
 
-#[tactic(auto, unfolding(crate::specs::Lexing::number_at))]
-fn number_at(text: &str, start: usize) -> (Kind, usize)
+#[tactic(auto, unfolding(crate::specs::Lexing::number_token_at))]
+fn number_token_at(text: &str, start: usize) -> (Kind, usize)
     requires in_range { start < length text.now }
     requires first { is_in classes.Digit (slice_index text.now start) ≡ true }
     requires boundary { IsCharBoundary text.now start }
-    ensures value { result ≡ number_at text.now start }
+    ensures value { result ≡ number_token_at text.now start }
     ensures token { IsTokenFrom text.now start result }
     ensures plain { is_quoted result.0 ≡ false }
 {
@@ -118,7 +118,7 @@ pub(crate) fn shape_at(text: &str, start: usize) -> (Kind, usize)
         return (Kind::End, start);
     }
     match byte_at(text, start) {
-        b'0'..=b'9' => number_at(text, start),
+        b'0'..=b'9' => number_token_at(text, start),
         b'"' | b'\'' => quoted_at(text, start),
         byte if is_in(Class::Name, byte) => (Kind::Word, end_of_run(text, start, Class::Name)),
         _ => operator_at(text, start),

@@ -4,7 +4,7 @@ ghost use Rattle.std.specs.Option.{unwrap_or};
 ghost use Rattle.ts_core.specs.facts.Times.{least_time};
 ghost use Rattle.ts_ql.specs.BucketLimits.{IsLimited};
 ghost use Rattle.ts_ql.specs.QueryFaults.{Gives, GivesWith, option_as_fault};
-ghost use Rattle.ts_ql.specs.MomentSteps.{HasRoomForMore};
+ghost use Rattle.ts_ql.specs.MomentSteps.{CanAddMore};
 ghost use Rattle.ts_ql.specs.Reading.{finish_time_step, builder_step};
 ghost use Rattle.ts_ql.specs.Tokens.{lexeme};
 ghost use Rattle.ts_ql.specs.Statements.{repeats, first_start, buckets_between, span_from, span_fault, query_of, statement_query};
@@ -207,7 +207,7 @@ impl<A: Allocator + Copy> StatementBuilder<A> {
         state: State,
         token: &Token<'a>,
     ) -> Result<State, ParseError<'a>>
-        requires { HasRoomForMore now self.old.moment }
+        requires { CanAddMore now self.old.moment }
         ensures { GivesWith result (builder_state self.new) (builder_step now state (lexeme token.now) (builder_state self.old)) }
     {
         match state.clause() {

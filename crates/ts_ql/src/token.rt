@@ -3,7 +3,7 @@ ghost use Rattle.std.specs.Prelude.{◌≡◌, ◌≢◌, ◌<◌};
 ghost use Rattle.std.specs.Str.{IsCharBoundary};
 ghost use Rattle.ts_ql.specs.Lexing.{token_at};
 ghost use Rattle.ts_ql.specs.Tokens.{lexeme};
-ghost use Rattle.ts_ql.specs.Words.{is_time, is_unsupported};
+ghost use Rattle.ts_ql.specs.Words.{is_time_column, is_unsupported};
 ghost use Rattle.ts_ql.specs.QueryFaults.{as_fault, unsupported, unexpected};
 
 use crate::bytes::{Class, end_of_run};
@@ -90,9 +90,9 @@ impl<'a> Token<'a> {
     }
 
     /// Returns true if the token names the time column.
-    #[tactic(auto, unfolding(crate::specs::Words::is_time))]
-    pub(crate) fn is_time(&self) -> bool
-        ensures { result ≡ is_time self.now.kind self.now.text.now }
+    #[tactic(auto, unfolding(crate::specs::Words::is_time_column))]
+    pub(crate) fn is_time_column(&self) -> bool
+        ensures { result ≡ is_time_column self.now.kind self.now.text.now }
     {
         match self.kind {
             Kind::Word => is_word(self.text, "time"),

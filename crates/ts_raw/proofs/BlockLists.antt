@@ -6,25 +6,25 @@ use Rattle.std.specs.List.{AllByRecursion}
 use Rattle.ts_block.specs.Blocks.{times_of, ArePoints, IsBlockOf, last_of}
 use Rattle.ts_block.specs.Appending.{EndsInBlock, values_start, last_time}
 use Rattle.ts_block.proofs.DecodingLemmas.{values_inside}
-use Rattle.ts_raw.specs.declared.mark.Mark.{Mark}
+use Rattle.ts_raw.specs.declared.block_handle.BlockHandle.{BlockHandle}
 use Rattle.ts_raw.specs.Columns.{AreTimed}
 use Rattle.ts_raw.specs.PlainColumns.{IsRising}
-use Rattle.ts_raw.specs.CodedPoints.{text_at, points_at, coded_points, blocks_at, joined, IsMark, AreBlocks, AreMarks, AreOrdered, IsCounted, AllEndBefore, OthersEndBy}
+use Rattle.ts_raw.specs.CodedPoints.{text_at, points_at, coded_points, blocks_at, all_joined, IsBlockHandle, AreBlocks, AreBlockHandles, AreOrdered, AreCountedBlocks, AllEndBefore, OthersEndBy}
 use Rattle.ts_raw.proofs.PushLemmas.{mark_kept, mark_moved, all_within, others_from, marks_push, marks_split, blocks_push, new_mark}
 use Rattle.ts_raw.specs.Rewriting.{IsEncoded}
 use Rattle.ts_raw.proofs.CodedLemmas.{part}
 
 -- ---- all points are those of the blocks
 
-pub coded_concat : (bytes : List ℕ) (ms : List Mark) → coded_points bytes ms ≡ joined (blocks_at bytes ms)
+pub coded_concat : (bytes : List ℕ) (ms : List BlockHandle) → coded_points bytes ms ≡ all_joined (blocks_at bytes ms)
 unfolding coded_points
 coded_concat bytes [] = refl
 coded_concat bytes (m ∷ ms) = ap (λ (x : List (ℤ × ℤ)). points_at bytes m ++ x) (coded_concat bytes ms)
 
-pub same_points : (b c : List ℕ) (ms ns : List Mark) → blocks_at c ns ≡ blocks_at b ms → coded_points c ns ≡ coded_points b ms
-same_points b c ms ns e = coded_concat c ns ∙ ap joined e ∙ sym (coded_concat b ms)
+pub same_points : (b c : List ℕ) (ms ns : List BlockHandle) → blocks_at c ns ≡ blocks_at b ms → coded_points c ns ≡ coded_points b ms
+same_points b c ms ns e = coded_concat c ns ∙ ap all_joined e ∙ sym (coded_concat b ms)
 
-pub blocks_of_marks : (bytes : List ℕ) (before : ℕ) (ms : List Mark) → AreMarks bytes before ms → AreBlocks bytes ms
+pub blocks_of_marks : (bytes : List ℕ) (before : ℕ) (ms : List BlockHandle) → AreBlockHandles bytes before ms → AreBlocks bytes ms
 blocks_of_marks bytes before [] h = tt
 blocks_of_marks bytes before (m ∷ ms) h = (h.0, blocks_of_marks bytes (before + length (points_at bytes m)) ms h.2)
 
@@ -36,22 +36,22 @@ list_head x y xs ys e = ap (λ (z : List _). get_or z 0 x) e
 list_tail : {X : Type 0} (x y : X) (xs ys : List X) → x ∷ xs ≡ y ∷ ys → xs ≡ ys
 list_tail x y xs ys e = ap (drop 1) e
 
-pub ends_again : (t : ℤ) (b c : List ℕ) (ms ns : List Mark) → AreBlocks b ms → AreBlocks c ns → blocks_at c ns ≡ blocks_at b ms → AllEndBefore ms t → AllEndBefore ns t
+pub ends_again : (t : ℤ) (b c : List ℕ) (ms ns : List BlockHandle) → AreBlocks b ms → AreBlocks c ns → blocks_at c ns ≡ blocks_at b ms → AllEndBefore ms t → AllEndBefore ns t
 ends_again t b c ms [] h k e a = tt
 ends_again t b c [] (n ∷ ns) h k e a = absurd (let s = ap length e in omega arith)
 ends_again t b c (m ∷ ms) (n ∷ ns) h k e a =
     let here = k.0.last_is ∙ ap last_time (list_head (points_at c n) (points_at b m) (blocks_at c ns) (blocks_at b ms) e) ∙ sym h.0.last_is in
     (subst (λ z. z <ℤ t) (sym here) a.0, ends_again t b c ms ns h.1 k.1 (list_tail (points_at c n) (points_at b m) (blocks_at c ns) (blocks_at b ms) e) a.1)
 
-pub ordered_again : (b c : List ℕ) (ms ns : List Mark) → AreBlocks b ms → AreBlocks c ns → blocks_at c ns ≡ blocks_at b ms → AreOrdered ms → AreOrdered ns
+pub ordered_again : (b c : List ℕ) (ms ns : List BlockHandle) → AreBlocks b ms → AreBlocks c ns → blocks_at c ns ≡ blocks_at b ms → AreOrdered ms → AreOrdered ns
 ordered_again b c ms [] h k e o = tt
 ordered_again b c [] (n ∷ ns) h k e o = absurd (let s = ap length e in omega arith)
 ordered_again b c (m ∷ ms) (n ∷ ns) h k e o =
     let rest = list_tail (points_at c n) (points_at b m) (blocks_at c ns) (blocks_at b ms) e in
     let here : n.last ≡ m.last = k.0.last_is ∙ ap last_time (list_head (points_at c n) (points_at b m) (blocks_at c ns) (blocks_at b ms) e) ∙ sym h.0.last_is in
-    (all_above n.last ms ns h.1 k.1 rest (subst (λ z. AllByRecursion (λ (x : Mark). z <ℤ x.last) ms) (sym here) o.0), ordered_again b c ms ns h.1 k.1 rest o.1)
+    (all_above n.last ms ns h.1 k.1 rest (subst (λ z. AllByRecursion (λ (x : BlockHandle). z <ℤ x.last) ms) (sym here) o.0), ordered_again b c ms ns h.1 k.1 rest o.1)
   where
-    all_above : (t : ℤ) (ms ns : List Mark) → AreBlocks b ms → AreBlocks c ns → blocks_at c ns ≡ blocks_at b ms → AllByRecursion (λ (x : Mark). t <ℤ x.last) ms → AllByRecursion (λ (x : Mark). t <ℤ x.last) ns
+    all_above : (t : ℤ) (ms ns : List BlockHandle) → AreBlocks b ms → AreBlocks c ns → blocks_at c ns ≡ blocks_at b ms → AllByRecursion (λ (x : BlockHandle). t <ℤ x.last) ms → AllByRecursion (λ (x : BlockHandle). t <ℤ x.last) ns
     all_above t ms [] h k e a = tt
     all_above t [] (n ∷ ns) h k e a = absurd (let s = ap length e in omega arith)
     all_above t (m ∷ ms) (n ∷ ns) h k e a =
@@ -59,7 +59,7 @@ ordered_again b c (m ∷ ms) (n ∷ ns) h k e o =
         (subst (λ z. t <ℤ z) (sym here) a.0, all_above t ms ns h.1 k.1 (list_tail (points_at c n) (points_at b m) (blocks_at c ns) (blocks_at b ms) e) a.1)
 
 -- the same blocks elsewhere hold the same points
-pub counted_again : (b c : List ℕ) (ms ns : List Mark) (total : ℕ) → IsCounted b ms total → AreMarks c 0 ns → blocks_at c ns ≡ blocks_at b ms → IsCounted c ns total
+pub counted_again : (b c : List ℕ) (ms ns : List BlockHandle) (total : ℕ) → AreCountedBlocks b ms total → AreBlockHandles c 0 ns → blocks_at c ns ≡ blocks_at b ms → AreCountedBlocks c ns total
 counted_again b c ms ns total h marked e =
     let same : coded_points c ns ≡ coded_points b ms = same_points b c ms ns e in
     record {
@@ -75,42 +75,42 @@ counted_again b c ms ns total h marked e =
 -- ---- bytes that are longer
 
 module _ (f q : List ℕ) where
-  blocks_longer : (ms : List Mark) (before : ℕ) → AreMarks f before ms → AreMarks (f ++ q) before ms × (blocks_at (f ++ q) ms ≡ blocks_at f ms)
+  blocks_longer : (ms : List BlockHandle) (before : ℕ) → AreBlockHandles f before ms → AreBlockHandles (f ++ q) before ms × (blocks_at (f ++ q) ms ≡ blocks_at f ms)
   blocks_longer [] before h = (tt, refl)
   blocks_longer (m ∷ ms) before h =
-      let whole : IsMark (f ++ []) m = subst (λ (x : List ℕ). IsMark x m) (sym (append-nil f)) h.0 in
+      let whole : IsBlockHandle (f ++ []) m = subst (λ (x : List ℕ). IsBlockHandle x m) (sym (append-nil f)) h.0 in
       let k = mark_kept f [] q m whole h.0.within in
       let same : points_at (f ++ q) m ≡ points_at f m = k.1 ∙ ap (λ (x : List ℕ). points_at x m) (append-nil f) in
       let rest = blocks_longer ms (before + length (points_at f m)) h.2 in (
-        (k.0, h.1, subst (λ (x : List (ℤ × ℤ)). AreMarks (f ++ q) (before + length x) ms) (sym same) rest.0),
+        (k.0, h.1, subst (λ (x : List (ℤ × ℤ)). AreBlockHandles (f ++ q) (before + length x) ms) (sym same) rest.0),
         (λ i. same i ∷ rest.1 i),
       )
 
 -- if the bytes begin with the old ones, the blocks are as they were
-pub marks_stay : (old new : List ℕ) (ms : List Mark) → take (length old) new ≡ old → AreMarks old 0 ms → AreMarks new 0 ms × (blocks_at new ms ≡ blocks_at old ms)
+pub marks_stay : (old new : List ℕ) (ms : List BlockHandle) → take (length old) new ≡ old → AreBlockHandles old 0 ms → AreBlockHandles new 0 ms × (blocks_at new ms ≡ blocks_at old ms)
 marks_stay old new ms front h =
     let text : new ≡ old ++ drop (length old) new = sym (take-append-drop (length old) new) ∙ ap (λ (x : List ℕ). x ++ drop (length old) new) front in
-    subst (λ (x : List ℕ). AreMarks x 0 ms × (blocks_at x ms ≡ blocks_at old ms)) (sym text) (blocks_longer old (drop (length old) new) ms 0 h)
+    subst (λ (x : List ℕ). AreBlockHandles x 0 ms × (blocks_at x ms ≡ blocks_at old ms)) (sym text) (blocks_longer old (drop (length old) new) ms 0 h)
 
-pub stays : (old new : List ℕ) (ms ns : List Mark) (n : ℕ) → n ≡ length old → take n new ≡ old → ns ≡ ms → AreMarks old 0 ms → AreMarks new 0 ns × (blocks_at new ns ≡ blocks_at old ms)
+pub stays : (old new : List ℕ) (ms ns : List BlockHandle) (n : ℕ) → n ≡ length old → take n new ≡ old → ns ≡ ms → AreBlockHandles old 0 ms → AreBlockHandles new 0 ns × (blocks_at new ns ≡ blocks_at old ms)
 stays old new ms ns n size front items marked =
-    subst (λ (x : List Mark). AreMarks new 0 x × (blocks_at new x ≡ blocks_at old ms)) (sym items) (marks_stay old new ms (subst (λ k. take k new ≡ old) size front) marked)
+    subst (λ (x : List BlockHandle). AreBlockHandles new 0 x × (blocks_at new x ≡ blocks_at old ms)) (sym items) (marks_stay old new ms (subst (λ k. take k new ≡ old) size front) marked)
 
-pub mark_stays : (old new : List ℕ) (m : Mark) → take (length old) new ≡ old → IsMark old m → IsMark new m × (points_at new m ≡ points_at old m)
+pub mark_stays : (old new : List ℕ) (m : BlockHandle) → take (length old) new ≡ old → IsBlockHandle old m → IsBlockHandle new m × (points_at new m ≡ points_at old m)
 mark_stays old new m front h =
     let text : new ≡ old ++ drop (length old) new = sym (take-append-drop (length old) new) ∙ ap (λ (x : List ℕ). x ++ drop (length old) new) front in
-    let whole : IsMark (old ++ []) m = subst (λ (x : List ℕ). IsMark x m) (sym (append-nil old)) h in
+    let whole : IsBlockHandle (old ++ []) m = subst (λ (x : List ℕ). IsBlockHandle x m) (sym (append-nil old)) h in
     let k = mark_kept old [] (drop (length old) new) m whole h.within in
-    let both : IsMark (old ++ drop (length old) new) m × (points_at (old ++ drop (length old) new) m ≡ points_at old m) = (k.0, k.1 ∙ ap (λ (x : List ℕ). points_at x m) (append-nil old)) in
-    subst (λ (x : List ℕ). IsMark x m × (points_at x m ≡ points_at old m)) (sym text) both
+    let both : IsBlockHandle (old ++ drop (length old) new) m × (points_at (old ++ drop (length old) new) m ≡ points_at old m) = (k.0, k.1 ∙ ap (λ (x : List ℕ). points_at x m) (append-nil old)) in
+    subst (λ (x : List ℕ). IsBlockHandle x m × (points_at x m ≡ points_at old m)) (sym text) both
 
 -- ---- blocks that are copied
 
-text_size : (bytes : List ℕ) (m : Mark) → m.start < m.end → m.end ≤ length bytes → length (text_at bytes m) ≡ m.end - m.start
+text_size : (bytes : List ℕ) (m : BlockHandle) → m.start < m.end → m.end ≤ length bytes → length (text_at bytes m) ≡ m.end - m.start
 text_size bytes m s h = length-take-le (m.end - m.start) (drop m.start bytes) (let e = length-drop m.start bytes in omega arith)
 
 -- the bytes of a block at the end of others
-pub mark_copied : (src old new : List ℕ) (m n : Mark) → IsMark src m → new ≡ old ++ text_at src m → n.start ≡ length old → n.end ≡ length new → n.values ≡ m.values → n.count ≡ m.count → n.last ≡ m.last → IsMark new n × (points_at new n ≡ points_at src m)
+pub mark_copied : (src old new : List ℕ) (m n : BlockHandle) → IsBlockHandle src m → new ≡ old ++ text_at src m → n.start ≡ length old → n.end ≡ length new → n.values ≡ m.values → n.count ≡ m.count → n.last ≡ m.last → IsBlockHandle new n × (points_at new n ≡ points_at src m)
 mark_copied src old new m n h is s e v k l =
     let size = text_size src m h.some h.within in
     let all = ap length is ∙ length-append old (text_at src m) in
@@ -119,21 +119,21 @@ mark_copied src old new m n h is s e v k l =
     let text : text_at new n ≡ text_at src m = (λ i. take (width i) (drop (s i) (is i))) ∙ ap (take (length (text_at src m))) (drop-append_seam old (text_at src m)) ∙ take-length (text_at src m) in
     mark_moved src new m n h text (omega arith) (omega arith) v k l
 
-module _ (old new : List ℕ) (ms : List Mark) (m n : Mark) (h : AreMarks old 0 (ms ++ m ∷ [])) (is : new ≡ old ++ text_at old m)
+module _ (old new : List ℕ) (ms : List BlockHandle) (m n : BlockHandle) (h : AreBlockHandles old 0 (ms ++ m ∷ [])) (is : new ≡ old ++ text_at old m)
     (s : n.start ≡ length old) (e : n.end ≡ length new) (v : n.values ≡ m.values) (k : n.count ≡ m.count) (b : n.before ≡ m.before) (l : n.last ≡ m.last) where
   front : take (length old) new ≡ old
   front = ap (take (length old)) is ∙ take-append_seam old (text_at old m)
 
-  old_parts : AreMarks old 0 ms × IsMark old m × (m.before ≡ 0 + length (coded_points old ms))
+  old_parts : AreBlockHandles old 0 ms × IsBlockHandle old m × (m.before ≡ 0 + length (coded_points old ms))
   old_parts = marks_split old m ms 0 h
 
-  stay : AreMarks new 0 ms × (blocks_at new ms ≡ blocks_at old ms)
+  stay : AreBlockHandles new 0 ms × (blocks_at new ms ≡ blocks_at old ms)
   stay = marks_stay old new ms front old_parts.0
 
-  moved : IsMark new n × (points_at new n ≡ points_at old m)
+  moved : IsBlockHandle new n × (points_at new n ≡ points_at old m)
   moved = mark_copied old old new m n old_parts.1 is s e v k l
 
-  pub moved_marked : AreMarks new 0 (ms ++ n ∷ [])
+  pub moved_marked : AreBlockHandles new 0 (ms ++ n ∷ [])
   moved_marked = marks_push new n ms 0 stay.0 moved.0 (let a = old_parts.2 in let c = ap length (same_points old new ms ms stay.1) in omega arith)
 
   pub moved_blocks : blocks_at new (ms ++ n ∷ []) ≡ blocks_at old (ms ++ m ∷ [])
@@ -142,10 +142,10 @@ module _ (old new : List ℕ) (ms : List Mark) (m n : Mark) (h : AreMarks old 0 
   pub moved_others : OthersEndBy (length old) (ms ++ n ∷ [])
   moved_others = others_from (length old) ms n (all_within old ms 0 old_parts.0)
 
-pub mark_at : (bytes : List ℕ) (ms : List Mark) (before i : ℕ) (d : Mark) → AreMarks bytes before ms → i < length ms → IsMark bytes (get_or ms i d)
-mark_at bytes ms before i d h l = let p = part bytes ms before i d h l in p.mark
+pub mark_at : (bytes : List ℕ) (ms : List BlockHandle) (before i : ℕ) (d : BlockHandle) → AreBlockHandles bytes before ms → i < length ms → IsBlockHandle bytes (get_or ms i d)
+mark_at bytes ms before i d h l = let p = part bytes ms before i d h l in p.handle
 
-pub before_at : (bytes : List ℕ) (ms : List Mark) (before i : ℕ) (d : Mark) → AreMarks bytes before ms → i < length ms → (get_or ms i d).before ≡ before + length (coded_points bytes (take i ms))
+pub before_at : (bytes : List ℕ) (ms : List BlockHandle) (before i : ℕ) (d : BlockHandle) → AreBlockHandles bytes before ms → i < length ms → (get_or ms i d).before ≡ before + length (coded_points bytes (take i ms))
 unfolding coded_points
 before_at bytes [] before i d h l = absurd (omega arith)
 before_at bytes (m ∷ ms) before zero d h l = h.1 ∙ (let n : before ≡ before + 0 = omega arith in n)
@@ -162,11 +162,11 @@ take_next (x ∷ xs) (suc i) d l =
     ap (λ k. take k (x ∷ xs)) n ∙ ap (λ (z : List _). x ∷ z) (take_next xs i d (omega arith))
 
 -- one more block is copied
-pub copied_more : (src old new : List ℕ) (all ms : List Mark) (i : ℕ) (n d : Mark) → AreMarks src 0 all → i < length all → AreMarks old 0 ms → blocks_at old ms ≡ blocks_at src (take i all) → new ≡ old ++ text_at src (get_or all i d)
+pub copied_more : (src old new : List ℕ) (all ms : List BlockHandle) (i : ℕ) (n d : BlockHandle) → AreBlockHandles src 0 all → i < length all → AreBlockHandles old 0 ms → blocks_at old ms ≡ blocks_at src (take i all) → new ≡ old ++ text_at src (get_or all i d)
     → n.start ≡ length old → n.end ≡ length new → n.values ≡ (get_or all i d).values → n.count ≡ (get_or all i d).count → n.before ≡ (get_or all i d).before → n.last ≡ (get_or all i d).last
-    → AreMarks new 0 (ms ++ n ∷ []) × (blocks_at new (ms ++ n ∷ []) ≡ blocks_at src (take (i + 1) all))
+    → AreBlockHandles new 0 (ms ++ n ∷ []) × (blocks_at new (ms ++ n ∷ []) ≡ blocks_at src (take (i + 1) all))
 copied_more src old new all ms i n d h l marked blocks is s e v k b last =
-    let m : Mark = get_or all i d in
+    let m : BlockHandle = get_or all i d in
     let front : take (length old) new ≡ old = ap (take (length old)) is ∙ take-append_seam old (text_at src m) in
     let stay = marks_stay old new ms front marked in
     let here = mark_copied src old new m n (mark_at src all 0 i d h l) is s e v k last in
@@ -186,7 +186,7 @@ pub last_point : (ps : List (ℤ × ℤ)) (d : ℤ × ℤ) → ArePoints ps → 
 last_point [] d h = absurd h
 last_point (p ∷ ps) d h = ap (λ k. (get_or (p ∷ ps) k d).0) (let n : suc (length ps) - 1 ≡ length ps = omega arith in n) ∙ last_at p ps d
 
-pub block_at_end : (old block new : List ℕ) (ps : List (ℤ × ℤ)) (m : Mark) → IsBlockOf block ps → new ≡ old ++ block → m.start ≡ length old → m.end ≡ length new → m.values ≡ values_start ps → m.count ≡ length ps → m.last ≡ last_time ps → IsEncoded new m ps
+pub block_at_end : (old block new : List ℕ) (ps : List (ℤ × ℤ)) (m : BlockHandle) → IsBlockOf block ps → new ≡ old ++ block → m.start ≡ length old → m.end ≡ length new → m.values ≡ values_start ps → m.count ≡ length ps → m.last ≡ last_time ps → IsEncoded new m ps
 block_at_end old block new ps m b is s e v k l =
     let rest : drop m.start new ≡ block = (λ i. drop (s i) (is i)) ∙ drop-append_seam old block in
     let some : 0 < length block = let w = values_inside block ps b (values_start ps) refl in let n = nine ps b.points_are in omega arith in
@@ -197,7 +197,7 @@ block_at_end old block new ps m b is s e v k l =
       last_is = l;
     } in
     let both = new_mark new m ps ends e k in
-    record { mark = both.0; points_are = both.1 }
+    record { handle = both.0; points_are = both.1 }
   where
     nine : (ps : List (ℤ × ℤ)) → ArePoints ps → 0 < values_start ps
     nine [] h = absurd h

@@ -84,30 +84,30 @@ both_len m n s = len-from_sorted int_cmp (entries m ++ entries n) s ∙ length-a
 pub from_entries_of : (m : PointMap) → map.from_sorted {R = int_cmp} (entries m) ≡ m
 from_entries_of m = same_entries_map _ m (entries-from_sorted int_cmp (entries m) (entries_sorted m))
 
-pub from_entries_at : (m : PointMap) (mark : ℤ) → entries (points_from m mark) ≡ where_key int_cmp (int_le mark) (entries m)
-from_entries_at m mark =
-    ap entries (ap (λ k. points_from k mark) (sym (from_entries_of m)) ∙ sym (kept_map (entries m) (entries_sorted m) (int_le mark)))
-    ∙ entries-from_sorted int_cmp (where_key int_cmp (int_le mark) (entries m)) (is_sorted-where_key int_cmp (int_le mark) (entries m) (entries_sorted m))
+pub from_entries_at : (m : PointMap) (handle : ℤ) → entries (points_from m handle) ≡ where_key int_cmp (int_le handle) (entries m)
+from_entries_at m handle =
+    ap entries (ap (λ k. points_from k handle) (sym (from_entries_of m)) ∙ sym (kept_map (entries m) (entries_sorted m) (int_le handle)))
+    ∙ entries-from_sorted int_cmp (where_key int_cmp (int_le handle) (entries m)) (is_sorted-where_key int_cmp (int_le handle) (entries m) (entries_sorted m))
 
 -- ---- the points from a mark on
 
-kept_after : (mark : ℤ) (xs : List (ℤ × ℤ)) → AreBefore mark xs → where_key int_cmp (int_le mark) xs ≡ []
-kept_after mark [] h = refl
-kept_after mark (x ∷ xs) h =
+kept_after : (handle : ℤ) (xs : List (ℤ × ℤ)) → AreBefore handle xs → where_key int_cmp (int_le handle) xs ≡ []
+kept_after handle [] h = refl
+kept_after handle (x ∷ xs) h =
     let l = h.0 in
-    let e : int_le mark x.0 ≡ false = grind (arith, ints, l) in
-    ap (λ b. cond b (x ∷ where_key int_cmp (int_le mark) xs) (where_key int_cmp (int_le mark) xs)) e ∙ kept_after mark xs h.1
+    let e : int_le handle x.0 ≡ false = grind (arith, ints, l) in
+    ap (λ b. cond b (x ∷ where_key int_cmp (int_le handle) xs) (where_key int_cmp (int_le handle) xs)) e ∙ kept_after handle xs h.1
 
 -- if none of the second list is kept, none of the first is
-pub none_kept : (mark : ℤ) (xs ys : List (ℤ × ℤ)) → IsRising (xs ++ ys) → (length ys ≡ 0 → length xs ≡ 0) → length (where_key int_cmp (int_le mark) ys) ≡ 0 → length (where_key int_cmp (int_le mark) xs) ≡ 0
-none_kept mark [] ys s some e = refl
-none_kept mark (x ∷ xs) [] s some e = absurd (let a = some refl in omega arith)
-none_kept mark (x ∷ xs) (y ∷ ys) s some e =
-    elim (int_le mark y.0) as (λ b. int_le mark y.0 ≡ b → length (cond b (y ∷ where_key int_cmp (int_le mark) ys) (where_key int_cmp (int_le mark) ys)) ≡ 0 → length (where_key int_cmp (int_le mark) (x ∷ xs)) ≡ 0) [
+pub none_kept : (handle : ℤ) (xs ys : List (ℤ × ℤ)) → IsRising (xs ++ ys) → (length ys ≡ 0 → length xs ≡ 0) → length (where_key int_cmp (int_le handle) ys) ≡ 0 → length (where_key int_cmp (int_le handle) xs) ≡ 0
+none_kept handle [] ys s some e = refl
+none_kept handle (x ∷ xs) [] s some e = absurd (let a = some refl in omega arith)
+none_kept handle (x ∷ xs) (y ∷ ys) s some e =
+    elim (int_le handle y.0) as (λ b. int_le handle y.0 ≡ b → length (cond b (y ∷ where_key int_cmp (int_le handle) ys) (where_key int_cmp (int_le handle) ys)) ≡ 0 → length (where_key int_cmp (int_le handle) (x ∷ xs)) ≡ 0) [
       | true ↦ λ is h. absurd (omega arith)
       | false ↦ λ is h.
-          let l : y.0 ≤ℤ mark = grind (arith, ints, is) in
-          ap length (kept_after mark (x ∷ xs) (before_too y.0 mark (x ∷ xs) l (before_first_of (x ∷ xs) y ys s)))
+          let l : y.0 ≤ℤ handle = grind (arith, ints, is) in
+          ap length (kept_after handle (x ∷ xs) (before_too y.0 handle (x ∷ xs) l (before_first_of (x ∷ xs) y ys s)))
     ] refl e
 
 -- ---- the first point

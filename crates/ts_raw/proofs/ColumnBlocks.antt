@@ -16,12 +16,12 @@ use Rattle.ts_core.proofs.lists.Places.{both_of}
 use Rattle.ts_core.proofs.lists.Comparisons.{lt_from}
 use Rattle.ts_block.specs.Blocks.{times_of, ArePoints, last_of}
 use Rattle.ts_block.specs.Appending.{last_time}
-use Rattle.ts_raw.specs.declared.mark.Mark.{Mark}
+use Rattle.ts_raw.specs.declared.block_handle.BlockHandle.{BlockHandle}
 use Rattle.ts_raw.specs.declared.rewriting.Rewritten.{Rewritten}
 use Rattle.ts_raw.specs.Columns.{AreTimed}
 use Rattle.ts_raw.specs.PlainColumns.{IsRising, IsStartOf}
-use Rattle.ts_raw.specs.CodedPoints.{text_at, points_at, coded_points, blocks_at, IsMark, AreBlocks, AreMarks, AreOrdered, IsCounted, numbered, count_of, before_first, AllEndBefore, OthersEndBy, IsLastBefore, CutFits}
-use Rattle.ts_raw.specs.Rewriting.{IsRewritten, blocks_of, marks_replaced, cut_at, cut_after}
+use Rattle.ts_raw.specs.CodedPoints.{text_at, points_at, coded_points, blocks_at, IsBlockHandle, AreBlocks, AreBlockHandles, AreOrdered, AreCountedBlocks, with_starts, count_in_blocks, before_first, AllEndBefore, OthersEndBy, IsLastBefore, CutFits}
+use Rattle.ts_raw.specs.Rewriting.{IsRewritten, blocks_of, handles_replaced, cut_in_block, cut_after}
 use Rattle.ts_raw.specs.BlockColumns.{AreBlocksOf, texts_at, IsColumn}
 use Rattle.ts_raw.proofs.CodedLemmas.{points_hold}
 use Rattle.ts_raw.proofs.CutLemmas.{first_parts, first_bound, start_behind, is_rising_behind, timed_behind}
@@ -33,7 +33,7 @@ use Rattle.ts_raw.proofs.RewriteLemmas.{counts_are, marks_numbered, coded_join, 
 
 -- ---- the removed points are within the first block
 
-pub cut_within : (bytes : List ℕ) (ms : List Mark) (cut : ℕ) → CutFits cut (blocks_at bytes ms) → cut ≤ length (coded_points bytes ms)
+pub cut_within : (bytes : List ℕ) (ms : List BlockHandle) (cut : ℕ) → CutFits cut (blocks_at bytes ms) → cut ≤ length (coded_points bytes ms)
 unfolding coded_points
 cut_within bytes [] cut h = omega arith
 cut_within bytes (m ∷ ms) cut h = let a = length-append (points_at bytes m) (coded_points bytes ms) in omega arith
@@ -42,12 +42,12 @@ few_in : (ps : List (ℤ × ℤ)) → ArePoints ps → (length ps ≤ 256) × (0
 few_in [] h = absurd h
 few_in (p ∷ ps) h = let a = h.0 in (omega arith, omega arith)
 
-pub cut_few : (bytes : List ℕ) (ms : List Mark) (cut : ℕ) → AreMarks bytes 0 ms → CutFits cut (blocks_at bytes ms) → cut ≤ 255
+pub cut_few : (bytes : List ℕ) (ms : List BlockHandle) (cut : ℕ) → AreBlockHandles bytes 0 ms → CutFits cut (blocks_at bytes ms) → cut ≤ 255
 cut_few bytes [] cut marked h = omega arith
 cut_few bytes (m ∷ ms) cut marked h = let a = (few_in (points_at bytes m) marked.0.block.points_are).0 in omega arith
 
-pub no_points : (bytes : List ℕ) (ms : List Mark) (capacity marks_capacity : ℕ) → bytes ≡ [] → ms ≡ [] → IsColumn bytes ms 0 0 0 capacity marks_capacity None
-no_points bytes ms c d b m = subst (λ (x : List Mark). IsColumn bytes x 0 0 0 c d None) (sym m) (record {
+pub no_points : (bytes : List ℕ) (ms : List BlockHandle) (capacity handles_capacity : ℕ) → bytes ≡ [] → ms ≡ [] → IsColumn bytes ms 0 0 0 capacity handles_capacity None
+no_points bytes ms c d b m = subst (λ (x : List BlockHandle). IsColumn bytes x 0 0 0 c d None) (sym m) (record {
   counted = (none_counted bytes [] b refl).0;
   others = tt;
   cut_fits = refl;
@@ -56,18 +56,18 @@ no_points bytes ms c d b m = subst (λ (x : List Mark). IsColumn bytes x 0 0 0 c
 
 -- ---- the blocks' bytes
 
-pub blocks_are : (bytes : List ℕ) (ms : List Mark) (before : ℕ) → AreMarks bytes before ms → AreBlocksOf (texts_at bytes ms) (blocks_at bytes ms)
+pub blocks_are : (bytes : List ℕ) (ms : List BlockHandle) (before : ℕ) → AreBlockHandles bytes before ms → AreBlocksOf (texts_at bytes ms) (blocks_at bytes ms)
 blocks_are bytes [] before h = tt
 blocks_are bytes (m ∷ ms) before h = (h.0.block, blocks_are bytes ms (before + length (points_at bytes m)) h.2)
 
-pub mark_found : (bytes : List ℕ) (ms : List Mark) (before i : ℕ) (m : Mark) → AreMarks bytes before ms → slice_get ms i ≡ Some m → IsMark bytes m × (slice_get (texts_at bytes ms) i ≡ Some (text_at bytes m))
+pub mark_found : (bytes : List ℕ) (ms : List BlockHandle) (before i : ℕ) (m : BlockHandle) → AreBlockHandles bytes before ms → slice_get ms i ≡ Some m → IsBlockHandle bytes m × (slice_get (texts_at bytes ms) i ≡ Some (text_at bytes m))
 mark_found bytes [] before i m h e = absurd (none_some m e)
   where
-    none_some : (m : Mark) → slice_get {X = Mark} [] i ≡ Some m → ⊥
+    none_some : (m : BlockHandle) → slice_get {X = BlockHandle} [] i ≡ Some m → ⊥
     none_some m e = cc
-mark_found bytes (n ∷ ms) before zero m h e = let same : n ≡ m = ap (λ (x : Option Mark). or_else n x) e in (subst (IsMark bytes) same h.0, ap (λ x. Some (text_at bytes x)) same)
+mark_found bytes (n ∷ ms) before zero m h e = let same : n ≡ m = ap (λ (x : Option BlockHandle). or_else n x) e in (subst (IsBlockHandle bytes) same h.0, ap (λ x. Some (text_at bytes x)) same)
   where
-    or_else : Mark → Option Mark → Mark
+    or_else : BlockHandle → Option BlockHandle → BlockHandle
     or_else d None = d
     or_else d (Some x) = x
 mark_found bytes (n ∷ ms) before (suc i) m h e = mark_found bytes ms (before + length (points_at bytes n)) i m h.2 e
@@ -99,25 +99,25 @@ value_first t (e ∷ es) rest r h =
 
 -- ---- a rewritten block
 
-split_there : (ms : List Mark) (at : ℕ) (d : Mark) → at < length ms → ms ≡ take at ms ++ (get_or ms at d ∷ drop (at + 1) ms)
-split_there ms at d l = sym (take-append-drop at ms) ∙ ap (λ (x : List Mark). take at ms ++ x) (drop-cons ms at d l ∙ ap (λ k. get_or ms at d ∷ drop k ms) (let n : suc at ≡ at + 1 = omega arith in n))
+split_there : (ms : List BlockHandle) (at : ℕ) (d : BlockHandle) → at < length ms → ms ≡ take at ms ++ (get_or ms at d ∷ drop (at + 1) ms)
+split_there ms at d l = sym (take-append-drop at ms) ∙ ap (λ (x : List BlockHandle). take at ms ++ x) (drop-cons ms at d l ∙ ap (λ k. get_or ms at d ∷ drop k ms) (let n : suc at ≡ at + 1 = omega arith in n))
 
-ends_of : (t : ℤ) (ms : List Mark) (at : ℕ) → ((k : ℕ) (d : Mark) → k < at → k < length ms → int_lt (get_or ms k d).last t ≡ true) → AllEndBefore (take at ms) t
+ends_of : (t : ℤ) (ms : List BlockHandle) (at : ℕ) → ((k : ℕ) (d : BlockHandle) → k < at → k < length ms → int_lt (get_or ms k d).last t ≡ true) → AllEndBefore (take at ms) t
 ends_of t ms zero f = tt
 ends_of t [] (suc at) f = tt
 ends_of t (m ∷ ms) (suc at) f = (lt_from m.last t (f 0 m (omega arith) (omega arith)), ends_of t ms at (λ k d a b. f (suc k) d (omega arith) (omega arith)))
 
-pub ends_before : (t : ℤ) (ms : List Mark) (at : ℕ) → at ≤ length ms → IsLastBefore t ms at → AllEndBefore (take at ms) t
+pub ends_before : (t : ℤ) (ms : List BlockHandle) (at : ℕ) → at ≤ length ms → IsLastBefore t ms at → AllEndBefore (take at ms) t
 ends_before t ms at l p = ends_of t ms at (λ k d a b. p.0 k d (omega arith) a)
 
 not_less : (x t : ℤ) → int_lt x t ≡ false → t ≤ℤ x
 not_less x t h = grind (arith, ints, h)
 
-pub reaches : (t : ℤ) (ms : List Mark) (at : ℕ) (d : Mark) → at < length ms → IsLastBefore t ms at → t ≤ℤ (get_or ms at d).last
+pub reaches : (t : ℤ) (ms : List BlockHandle) (at : ℕ) (d : BlockHandle) → at < length ms → IsLastBefore t ms at → t ≤ℤ (get_or ms at d).last
 reaches t ms at d l p = not_less (get_or ms at d).last t (p.1 at d (omega arith) l)
 
-pub is_rewritten : (old new : List ℕ) (ms : List Mark) (at cut : ℕ) (d : Mark) (p : ℤ × ℤ) (r : Rewritten) → AreMarks old 0 ms → at < length ms → IsLastBefore p.0 ms at → r.at ≡ at → AreBlocks new (blocks_of r)
-    → coded_points new (blocks_of r) ≡ put int_cmp p.0 p.1 (drop (cut_at at cut) (points_at old (get_or ms at d))) → take (length old) new ≡ old → IsRewritten new ms cut p r
+pub is_rewritten : (old new : List ℕ) (ms : List BlockHandle) (at cut : ℕ) (d : BlockHandle) (p : ℤ × ℤ) (r : Rewritten) → AreBlockHandles old 0 ms → at < length ms → IsLastBefore p.0 ms at → r.at ≡ at → AreBlocks new (blocks_of r)
+    → coded_points new (blocks_of r) ≡ put int_cmp p.0 p.1 (drop (cut_in_block at cut) (points_at old (get_or ms at d))) → take (length old) new ≡ old → IsRewritten new ms cut p r
 is_rewritten old new ms at cut d p r marked l part is blocks points front =
     let stays = mark_stays old new (get_or ms at d) front (mark_at old ms 0 at d marked l) in
     record {
@@ -125,7 +125,7 @@ is_rewritten old new ms at cut d p r marked l part is blocks points front =
       old = get_or ms at d;
       split = split_there ms at d l ∙ ap (λ k. take k ms ++ (get_or ms at d ∷ drop (k + 1) ms)) (sym is);
       blocks = blocks;
-      points = points ∙ (λ i. put int_cmp p.0 p.1 (drop (cut_at (sym is i) cut) (sym stays.1 i)));
+      points = points ∙ (λ i. put int_cmp p.0 p.1 (drop (cut_in_block (sym is i) cut) (sym stays.1 i)));
       earlier = subst (λ k. AllEndBefore (take k ms) p.0) (sym is) (ends_before p.0 ms at (omega arith) part);
       reached = reaches p.0 ms at d l part;
     }
@@ -163,26 +163,26 @@ last_above t (p ∷ ps) h a = last_one t p ps a
     last_one t p [] a = a.0
     last_one t p (q ∷ ps) a = last_one t q ps a.1
 
-marks_above : (bytes : List ℕ) (t : ℤ) (ms : List Mark) → AreBlocks bytes ms → AllByRecursion (λ (q : ℤ × ℤ). t <ℤ q.0) (coded_points bytes ms) → AllByRecursion (λ (n : Mark). t <ℤ n.last) ms
+marks_above : (bytes : List ℕ) (t : ℤ) (ms : List BlockHandle) → AreBlocks bytes ms → AllByRecursion (λ (q : ℤ × ℤ). t <ℤ q.0) (coded_points bytes ms) → AllByRecursion (λ (n : BlockHandle). t <ℤ n.last) ms
 unfolding coded_points
 marks_above bytes t [] h a = tt
 marks_above bytes t (m ∷ ms) h a =
     let parts = all_first t (points_at bytes m) (coded_points bytes ms) a in
     (subst (λ z. t <ℤ z) (sym h.0.last_is) (last_above t (points_at bytes m) h.0.block.points_are parts.0), marks_above bytes t ms h.1 parts.1)
 
-pub ordered_from : (bytes : List ℕ) (ms : List Mark) → AreBlocks bytes ms → IsRising (coded_points bytes ms) → AreOrdered ms
+pub ordered_from : (bytes : List ℕ) (ms : List BlockHandle) → AreBlocks bytes ms → IsRising (coded_points bytes ms) → AreOrdered ms
 unfolding coded_points
 ordered_from bytes [] h s = tt
 ordered_from bytes (m ∷ ms) h s = (
-  subst (λ z. AllByRecursion (λ (n : Mark). z <ℤ n.last) ms) (sym h.0.last_is) (marks_above bytes (last_time (points_at bytes m)) ms h.1 (above_last (points_at bytes m) (coded_points bytes ms) h.0.block.points_are s)),
+  subst (λ z. AllByRecursion (λ (n : BlockHandle). z <ℤ n.last) ms) (sym h.0.last_is) (marks_above bytes (last_time (points_at bytes m)) ms h.1 (above_last (points_at bytes m) (coded_points bytes ms) h.0.block.points_are s)),
   ordered_from bytes ms h.1 (rising_rest (points_at bytes m) (coded_points bytes ms) s),
 )
 
 -- blocks that are counted anew hold rising points
-pub counted_anew : (bytes : List ℕ) (ms : List Mark) → AreBlocks bytes ms → IsRising (coded_points bytes ms) → AreTimed (coded_points bytes ms)
-    → IsCounted bytes (numbered 0 ms) (length (coded_points bytes ms)) × (coded_points bytes (numbered 0 ms) ≡ coded_points bytes ms)
+pub counted_anew : (bytes : List ℕ) (ms : List BlockHandle) → AreBlocks bytes ms → IsRising (coded_points bytes ms) → AreTimed (coded_points bytes ms)
+    → AreCountedBlocks bytes (with_starts 0 ms) (length (coded_points bytes ms)) × (coded_points bytes (with_starts 0 ms) ≡ coded_points bytes ms)
 counted_anew bytes ms h s t =
-    let new : List Mark = numbered 0 ms in
+    let new : List BlockHandle = with_starts 0 ms in
     let marked = numbered_marks bytes 0 ms h in
     let same : coded_points bytes new ≡ coded_points bytes ms = same_points bytes bytes ms new (numbered_blocks bytes 0 ms) in
     let rising = subst IsRising (sym same) s in (
@@ -193,21 +193,21 @@ counted_anew bytes ms h s t =
       same,
     )
 
-blocks_front : (bytes : List ℕ) (k : ℕ) (ms : List Mark) → AreBlocks bytes ms → AreBlocks bytes (take k ms)
+blocks_front : (bytes : List ℕ) (k : ℕ) (ms : List BlockHandle) → AreBlocks bytes ms → AreBlocks bytes (take k ms)
 blocks_front bytes zero ms h = tt
 blocks_front bytes (suc k) [] h = tt
 blocks_front bytes (suc k) (m ∷ ms) h = (h.0, blocks_front bytes k ms h.1)
 
-pub blocks_behind : (bytes : List ℕ) (k : ℕ) (ms : List Mark) → AreBlocks bytes ms → AreBlocks bytes (drop k ms)
+pub blocks_behind : (bytes : List ℕ) (k : ℕ) (ms : List BlockHandle) → AreBlocks bytes ms → AreBlocks bytes (drop k ms)
 blocks_behind bytes zero ms h = h
 blocks_behind bytes (suc k) [] h = h
 blocks_behind bytes (suc k) (m ∷ ms) h = blocks_behind bytes k ms h.1
 
-blocks_join : (bytes : List ℕ) (ms ns : List Mark) → AreBlocks bytes ms → AreBlocks bytes ns → AreBlocks bytes (ms ++ ns)
+blocks_join : (bytes : List ℕ) (ms ns : List BlockHandle) → AreBlocks bytes ms → AreBlocks bytes ns → AreBlocks bytes (ms ++ ns)
 blocks_join bytes [] ns h k = k
 blocks_join bytes (m ∷ ms) ns h k = (h.0, blocks_join bytes ms ns h.1 k)
 
-marks_front : (bytes : List ℕ) (before k : ℕ) (ms : List Mark) → AreMarks bytes before ms → AreMarks bytes before (take k ms)
+marks_front : (bytes : List ℕ) (before k : ℕ) (ms : List BlockHandle) → AreBlockHandles bytes before ms → AreBlockHandles bytes before (take k ms)
 marks_front bytes before zero ms h = tt
 marks_front bytes before (suc k) [] h = tt
 marks_front bytes before (suc k) (m ∷ ms) h = (h.0, h.1, marks_front bytes (before + length (points_at bytes m)) k ms h.2)
@@ -219,7 +219,7 @@ all_dropped t (suc k) (p ∷ ps) h = all_dropped t k ps h.1
 
 -- ---- a rewritten block takes the place of the old one
 
-module _ (bytes : List ℕ) (ms : List Mark) (total cut : ℕ) (p : ℤ × ℤ) (r : Rewritten) (c : IsCounted bytes ms total) (f : CutFits cut (blocks_at bytes ms)) (w : IsRewritten bytes ms cut p r) where
+module _ (bytes : List ℕ) (ms : List BlockHandle) (total cut : ℕ) (p : ℤ × ℤ) (r : Rewritten) (c : AreCountedBlocks bytes ms total) (f : CutFits cut (blocks_at bytes ms)) (w : IsRewritten bytes ms cut p r) where
   abbrev F : List (ℤ × ℤ)
   F = coded_points bytes (take r.at ms)
 
@@ -233,17 +233,17 @@ module _ (bytes : List ℕ) (ms : List Mark) (total cut : ℕ) (p : ℤ × ℤ) 
   unfolding coded_points
   old_is = ap (coded_points bytes) w.split ∙ coded_join bytes (take r.at ms) (w.old ∷ drop (r.at + 1) ms)
 
-  new_is : coded_points bytes (marks_replaced r ms) ≡ F ++ (put int_cmp p.0 p.1 (drop (cut_at r.at cut) P) ++ B)
+  new_is : coded_points bytes (handles_replaced r ms) ≡ F ++ (put int_cmp p.0 p.1 (drop (cut_in_block r.at cut) P) ++ B)
   new_is = coded_join bytes (take r.at ms) (blocks_of r ++ drop (r.at + 1) ms) ∙ ap (λ (x : List (ℤ × ℤ)). F ++ x) (coded_join bytes (blocks_of r) (drop (r.at + 1) ms) ∙ ap (λ (x : List (ℤ × ℤ)). x ++ B) w.points)
 
   split_blocks : AreBlocks bytes (take r.at ms ++ (w.old ∷ drop (r.at + 1) ms))
   split_blocks = subst (AreBlocks bytes) w.split (blocks_of_marks bytes 0 ms c.coded.marked)
 
-  old_mark : (xs ys : List Mark) (m : Mark) → AreBlocks bytes (xs ++ (m ∷ ys)) → IsMark bytes m
+  old_mark : (xs ys : List BlockHandle) (m : BlockHandle) → AreBlocks bytes (xs ++ (m ∷ ys)) → IsBlockHandle bytes m
   old_mark [] ys m h = h.0
   old_mark (x ∷ xs) ys m h = old_mark xs ys m h.1
 
-  is_old : IsMark bytes w.old
+  is_old : IsBlockHandle bytes w.old
   is_old = old_mark (take r.at ms) (drop (r.at + 1) ms) w.old split_blocks
 
   less : AllByRecursion (λ (q : ℤ × ℤ). q.0 <ℤ p.0) F
@@ -253,26 +253,26 @@ module _ (bytes : List ℕ) (ms : List Mark) (total cut : ℕ) (p : ℤ × ℤ) 
   reach = subst (λ z. p.0 ≤ℤ z) is_old.last_is w.reached
 
   -- the first block alone has removed points, which are left out of the new one
-  first_case : (at : ℕ) (xs : List Mark) → at ≡ 0 → xs ≡ take at ms → (cut_at at cut ≡ cut) × (cut_after at cut ≡ 0) × (coded_points bytes xs ≡ [])
+  first_case : (at : ℕ) (xs : List BlockHandle) → at ≡ 0 → xs ≡ take at ms → (cut_in_block at cut ≡ cut) × (cut_after at cut ≡ 0) × (coded_points bytes xs ≡ [])
   unfolding coded_points
   first_case zero xs e x = (refl, refl, ap (coded_points bytes) x)
   first_case (suc k) xs e x = absurd (omega arith)
 
-  later_case : (at : ℕ) → (at ≡ 0 → ⊥) → (cut_at at cut ≡ 0) × (cut_after at cut ≡ cut)
+  later_case : (at : ℕ) → (at ≡ 0 → ⊥) → (cut_in_block at cut ≡ 0) × (cut_after at cut ≡ cut)
   later_case zero n = absurd (n refl)
   later_case (suc k) n = (refl, refl)
 
-  first_cut : (ns : List Mark) (m : Mark) (ys : List Mark) → ns ≡ m ∷ ys → CutFits cut (blocks_at bytes ns) → cut < length (points_at bytes m)
-  first_cut ns m ys e h = subst (λ (x : List Mark). CutFits cut (blocks_at bytes x)) e h
+  first_cut : (ns : List BlockHandle) (m : BlockHandle) (ys : List BlockHandle) → ns ≡ m ∷ ys → CutFits cut (blocks_at bytes ns) → cut < length (points_at bytes m)
+  first_cut ns m ys e h = subst (λ (x : List BlockHandle). CutFits cut (blocks_at bytes x)) e h
 
-  front_cut : (ns : List Mark) (at : ℕ) → (at ≡ 0 → ⊥) → at < length ns → CutFits cut (blocks_at bytes ns) → cut ≤ length (coded_points bytes (take at ns))
+  front_cut : (ns : List BlockHandle) (at : ℕ) → (at ≡ 0 → ⊥) → at < length ns → CutFits cut (blocks_at bytes ns) → cut ≤ length (coded_points bytes (take at ns))
   unfolding coded_points
   front_cut ns zero n l h = absurd (n refl)
   front_cut [] (suc k) n l h = absurd (omega arith)
   front_cut (m ∷ ns) (suc k) n l h = let a = length-append (points_at bytes m) (coded_points bytes (take k ns)) in omega arith
 
-  whole : (at : ℕ) → r.at ≡ at → (F ++ (put int_cmp p.0 p.1 (drop (cut_at at cut) P) ++ B) ≡ put int_cmp p.0 p.1 (drop (cut_at at cut) (F ++ (P ++ B))))
-      × (drop (cut_after at cut) (F ++ (put int_cmp p.0 p.1 (drop (cut_at at cut) P) ++ B)) ≡ put int_cmp p.0 p.1 (drop cut (F ++ (P ++ B))))
+  whole : (at : ℕ) → r.at ≡ at → (F ++ (put int_cmp p.0 p.1 (drop (cut_in_block at cut) P) ++ B) ≡ put int_cmp p.0 p.1 (drop (cut_in_block at cut) (F ++ (P ++ B))))
+      × (drop (cut_after at cut) (F ++ (put int_cmp p.0 p.1 (drop (cut_in_block at cut) P) ++ B)) ≡ put int_cmp p.0 p.1 (drop cut (F ++ (P ++ B))))
   unfolding coded_points
   whole zero e =
       let none : F ≡ [] = ap (λ k. coded_points bytes (take k ms)) e in
@@ -296,50 +296,50 @@ module _ (bytes : List ℕ) (ms : List Mark) (total cut : ℕ) (p : ℤ × ℤ) 
             ∙ ap (put int_cmp p.0 p.1) (sym (drop-append-le cut F (P ++ B) fits)),
       )
 
-  pub replaced_blocks : AreBlocks bytes (marks_replaced r ms)
+  pub replaced_blocks : AreBlocks bytes (handles_replaced r ms)
   replaced_blocks =
       let all = blocks_of_marks bytes 0 ms c.coded.marked in
       blocks_join bytes (take r.at ms) (blocks_of r ++ drop (r.at + 1) ms) (blocks_front bytes r.at ms all) (blocks_join bytes (blocks_of r) (drop (r.at + 1) ms) w.blocks (blocks_behind bytes (r.at + 1) ms all))
 
-  all_new : coded_points bytes (marks_replaced r ms) ≡ put int_cmp p.0 p.1 (drop (cut_at r.at cut) (coded_points bytes ms))
-  all_new = new_is ∙ (whole r.at refl).0 ∙ ap (λ (x : List (ℤ × ℤ)). put int_cmp p.0 p.1 (drop (cut_at r.at cut) x)) (sym old_is)
+  all_new : coded_points bytes (handles_replaced r ms) ≡ put int_cmp p.0 p.1 (drop (cut_in_block r.at cut) (coded_points bytes ms))
+  all_new = new_is ∙ (whole r.at refl).0 ∙ ap (λ (x : List (ℤ × ℤ)). put int_cmp p.0 p.1 (drop (cut_in_block r.at cut) x)) (sym old_is)
 
-  pub replaced_count : count_of (marks_replaced r ms) ≡ length (coded_points bytes (marks_replaced r ms))
-  replaced_count = counts_are bytes (marks_replaced r ms) replaced_blocks
+  pub replaced_count : count_in_blocks (handles_replaced r ms) ≡ length (coded_points bytes (handles_replaced r ms))
+  replaced_count = counts_are bytes (handles_replaced r ms) replaced_blocks
 
-  pub replaced_few : total < 18446744073709551615 → count_of (marks_replaced r ms) ≤ 18446744073709551615
+  pub replaced_few : total < 18446744073709551615 → count_in_blocks (handles_replaced r ms) ≤ 18446744073709551615
   replaced_few t =
       let n = replaced_count in
       let a = ap length all_new in
-      let b = (length_put p.0 p.1 (drop (cut_at r.at cut) (coded_points bytes ms))).0 in
-      let d = length-drop (cut_at r.at cut) (coded_points bytes ms) in
+      let b = (length_put p.0 p.1 (drop (cut_in_block r.at cut) (coded_points bytes ms))).0 in
+      let d = length-drop (cut_in_block r.at cut) (coded_points bytes ms) in
       let e = c.total_is in
       omega arith
 
-  replaced_anew : IsTime p.0 → IsCounted bytes (numbered 0 (marks_replaced r ms)) (length (coded_points bytes (marks_replaced r ms))) × (coded_points bytes (numbered 0 (marks_replaced r ms)) ≡ coded_points bytes (marks_replaced r ms))
+  replaced_anew : IsTime p.0 → AreCountedBlocks bytes (with_starts 0 (handles_replaced r ms)) (length (coded_points bytes (handles_replaced r ms))) × (coded_points bytes (with_starts 0 (handles_replaced r ms)) ≡ coded_points bytes (handles_replaced r ms))
   replaced_anew is =
-      let rest : List (ℤ × ℤ) = drop (cut_at r.at cut) (coded_points bytes ms) in
-      counted_anew bytes (marks_replaced r ms) replaced_blocks
-      (subst IsRising (sym all_new) (rising-put rest (is_rising_behind (cut_at r.at cut) (coded_points bytes ms) c.coded.rising) p.0 p.1))
-      (subst AreTimed (sym all_new) (timed-put rest (timed_behind (cut_at r.at cut) (coded_points bytes ms) c.coded.timed) p.0 p.1 is))
+      let rest : List (ℤ × ℤ) = drop (cut_in_block r.at cut) (coded_points bytes ms) in
+      counted_anew bytes (handles_replaced r ms) replaced_blocks
+      (subst IsRising (sym all_new) (rising-put rest (is_rising_behind (cut_in_block r.at cut) (coded_points bytes ms) c.coded.rising) p.0 p.1))
+      (subst AreTimed (sym all_new) (timed-put rest (timed_behind (cut_in_block r.at cut) (coded_points bytes ms) c.coded.timed) p.0 p.1 is))
 
-  pub replaced_points : IsTime p.0 → drop (cut_after r.at cut) (coded_points bytes (numbered 0 (marks_replaced r ms))) ≡ put int_cmp p.0 p.1 (drop cut (coded_points bytes ms))
+  pub replaced_points : IsTime p.0 → drop (cut_after r.at cut) (coded_points bytes (with_starts 0 (handles_replaced r ms))) ≡ put int_cmp p.0 p.1 (drop cut (coded_points bytes ms))
   replaced_points is = ap (drop (cut_after r.at cut)) ((replaced_anew is).1 ∙ new_is) ∙ (whole r.at refl).1 ∙ ap (λ (x : List (ℤ × ℤ)). put int_cmp p.0 p.1 (drop cut x)) (sym old_is)
 
-  cut_again : (at : ℕ) → r.at ≡ at → CutFits (cut_after at cut) (blocks_at bytes (marks_replaced r ms))
+  cut_again : (at : ℕ) → r.at ≡ at → CutFits (cut_after at cut) (blocks_at bytes (handles_replaced r ms))
   cut_again zero e = subst (λ k. CutFits 0 (blocks_at bytes (take k ms ++ (blocks_of r ++ drop (r.at + 1) ms)))) (sym e) ((few_in (points_at bytes r.first) w.blocks.0.block.points_are).1)
   cut_again (suc k) e = subst (λ j. CutFits cut (blocks_at bytes (take j ms ++ (blocks_of r ++ drop (r.at + 1) ms)))) (sym e) (same_first ms f (subst (λ j. j < length ms) e w.within))
     where
-      same_first : (ns : List Mark) → CutFits cut (blocks_at bytes ns) → suc k < length ns → CutFits cut (blocks_at bytes (take (suc k) ns ++ (blocks_of r ++ drop (r.at + 1) ms)))
+      same_first : (ns : List BlockHandle) → CutFits cut (blocks_at bytes ns) → suc k < length ns → CutFits cut (blocks_at bytes (take (suc k) ns ++ (blocks_of r ++ drop (r.at + 1) ms)))
       same_first [] h l = absurd (omega arith)
       same_first (m ∷ ns) h l = h
 
-  pub replaced_column : (capacity marks_capacity tail : ℕ) → IsTime p.0 → tail ≡ length bytes
-      → IsColumn bytes (numbered 0 (marks_replaced r ms)) (length (coded_points bytes (marks_replaced r ms))) (cut_after r.at cut) tail capacity marks_capacity None
-  replaced_column capacity marks_capacity tail is t = record {
+  pub replaced_column : (capacity handles_capacity tail : ℕ) → IsTime p.0 → tail ≡ length bytes
+      → IsColumn bytes (with_starts 0 (handles_replaced r ms)) (length (coded_points bytes (handles_replaced r ms))) (cut_after r.at cut) tail capacity handles_capacity None
+  replaced_column capacity handles_capacity tail is t = record {
     counted = (replaced_anew is).0;
-    others = subst (λ n. OthersEndBy n (numbered 0 (marks_replaced r ms))) (sym t) (others_by (length bytes) (numbered 0 (marks_replaced r ms)) (all_within bytes (numbered 0 (marks_replaced r ms)) 0 (replaced_anew is).0.coded.marked));
-    cut_fits = subst (CutFits (cut_after r.at cut)) (sym (numbered_blocks bytes 0 (marks_replaced r ms))) (cut_again r.at refl);
+    others = subst (λ n. OthersEndBy n (with_starts 0 (handles_replaced r ms))) (sym t) (others_by (length bytes) (with_starts 0 (handles_replaced r ms)) (all_within bytes (with_starts 0 (handles_replaced r ms)) 0 (replaced_anew is).0.coded.marked));
+    cut_fits = subst (CutFits (cut_after r.at cut)) (sym (numbered_blocks bytes 0 (handles_replaced r ms))) (cut_again r.at refl);
     is_staged = tt;
   }
 
@@ -351,7 +351,7 @@ before_all t (x ∷ xs) ys h =
     let yes : int_lt x.0 t ≡ true = grind (arith, ints) in
     ap (λ b. cond b (suc (before_first t (xs ++ ys))) 0) yes ∙ ap suc (before_all t xs ys h.1) ∙ (let n : suc (length xs + before_first t ys) ≡ suc (length xs) + before_first t ys = omega arith in n)
 
-module _ (bytes : List ℕ) (ms : List Mark) (total cut at n : ℕ) (t : ℤ) (c : IsCounted bytes ms total) (f : CutFits cut (blocks_at bytes ms)) (l : at ≤ length ms) (part : IsLastBefore t ms at) (is : n ≡ before_first t (coded_points bytes ms)) where
+module _ (bytes : List ℕ) (ms : List BlockHandle) (total cut at n : ℕ) (t : ℤ) (c : AreCountedBlocks bytes ms total) (f : CutFits cut (blocks_at bytes ms)) (l : at ≤ length ms) (part : IsLastBefore t ms at) (is : n ≡ before_first t (coded_points bytes ms)) where
   abbrev G : List (ℤ × ℤ)
   G = coded_points bytes (take at ms)
 
@@ -389,10 +389,10 @@ module _ (bytes : List ℕ) (ms : List Mark) (total cut at n : ℕ) (t : ℤ) (c
       let empty : R ≡ [] = ap (coded_points bytes) none in
       let whole = dropped_points in (
         empty ∙ sym (drop_none (max n cut - length G) R empty) ∙ whole,
-        subst (λ (x : List Mark). CutFits 0 (blocks_at bytes x)) (sym none) refl,
+        subst (λ (x : List BlockHandle). CutFits 0 (blocks_at bytes x)) (sym none) refl,
       )
     where
-      nothing_left : (k : ℕ) (xs : List Mark) → length xs ≤ k → drop k xs ≡ []
+      nothing_left : (k : ℕ) (xs : List BlockHandle) → length xs ≤ k → drop k xs ≡ []
       nothing_left zero [] h = refl
       nothing_left zero (x ∷ xs) h = absurd (omega arith)
       nothing_left (suc k) [] h = refl
@@ -403,18 +403,18 @@ module _ (bytes : List ℕ) (ms : List Mark) (total cut at n : ℕ) (t : ℤ) (c
       drop_none (suc k) xs e = ap (drop (suc k)) e
 
   -- the rest begins with a block that isn't removed whole
-  pub dropped_some : (d : Mark) → at < length ms → CutFits (max n cut - length G) (blocks_at bytes (drop at ms))
+  pub dropped_some : (d : BlockHandle) → at < length ms → CutFits (max n cut - length G) (blocks_at bytes (drop at ms))
   unfolding coded_points
   dropped_some d h =
-      let m : Mark = get_or ms at d in
+      let m : BlockHandle = get_or ms at d in
       let first : drop at ms ≡ m ∷ drop (suc at) ms = drop-cons ms at d h in
       let is_mark = mark_at bytes ms 0 at d c.coded.marked h in
       let held : before_first t (points_at bytes m ++ coded_points bytes (drop (suc at) ms)) ≡ before_first t (points_at bytes m) = points_hold t (points_at bytes m) (coded_points bytes (drop (suc at) ms)) is_mark.block.points_are (ap (λ z. int_lt z t) (sym is_mark.last_is) ∙ part.1 at d (omega arith) h) in
-      let some : before_first t R ≡ before_first t (points_at bytes m) = ap (λ (x : List Mark). before_first t (coded_points bytes x)) first ∙ held in
+      let some : before_first t R ≡ before_first t (points_at bytes m) = ap (λ (x : List BlockHandle). before_first t (coded_points bytes x)) first ∙ held in
       let fewer = last_stays t (points_at bytes m) is_mark.block.points_are (not_less (last_time (points_at bytes m)) t (ap (λ z. int_lt z t) (sym is_mark.last_is) ∙ part.1 at d (omega arith) h)) in
       let count = count_is in
       let cuts = first_or_none at refl in
-      subst (λ (x : List Mark). CutFits (max n cut - length G) (blocks_at bytes x)) (sym first) (omega arith)
+      subst (λ (x : List BlockHandle). CutFits (max n cut - length G) (blocks_at bytes x)) (sym first) (omega arith)
     where
       last_stays : (t : ℤ) (ps : List (ℤ × ℤ)) → ArePoints ps → t ≤ℤ last_time ps → before_first t ps < length ps
       last_stays t [] a b = absurd a
@@ -424,7 +424,7 @@ module _ (bytes : List ℕ) (ms : List Mark) (total cut at n : ℕ) (t : ℤ) (c
           last_later p [] b = let no : int_lt p.0 t ≡ false = grind (arith, ints, b) in subst (λ x. cond x 1 0 < 1) (sym no) (omega arith)
           last_later p (q ∷ ps) b = elim (int_lt p.0 t) as (λ x. cond x (suc (before_first t (q ∷ ps))) 0 < suc (suc (length ps))) [ true ↦ let a = last_later q ps b in omega arith | false ↦ omega arith ]
 
-      front_cut : (ns : List Mark) (k : ℕ) → suc k ≤ length ns → CutFits cut (blocks_at bytes ns) → cut ≤ length (coded_points bytes (take (suc k) ns))
+      front_cut : (ns : List BlockHandle) (k : ℕ) → suc k ≤ length ns → CutFits cut (blocks_at bytes ns) → cut ≤ length (coded_points bytes (take (suc k) ns))
       front_cut [] k a b = absurd (omega arith)
       front_cut (x ∷ ns) k a b = let e = length-append (points_at bytes x) (coded_points bytes (take k ns)) in omega arith
 
@@ -432,16 +432,16 @@ module _ (bytes : List ℕ) (ms : List Mark) (total cut at n : ℕ) (t : ℤ) (c
       first_or_none zero e =
           let here = drop-cons ms at d h in
           let ms_is : ms ≡ get_or ms at d ∷ drop (suc at) ms = ap (λ j. drop j ms) (sym e) ∙ here in
-          let first : cut < length (points_at bytes (get_or ms at d)) = subst (λ (x : List Mark). CutFits cut (blocks_at bytes x)) ms_is f in
+          let first : cut < length (points_at bytes (get_or ms at d)) = subst (λ (x : List BlockHandle). CutFits cut (blocks_at bytes x)) ms_is f in
           omega arith
       first_or_none (suc k) e =
           let fits : cut ≤ length G = subst (λ j. cut ≤ length (coded_points bytes (take j ms))) (sym e) (front_cut ms k (omega arith) f) in
           let some = (few_in (points_at bytes (get_or ms at d)) (mark_at bytes ms 0 at d c.coded.marked h).block.points_are).1 in
           omega arith
 
-pub dropped_column : (bytes : List ℕ) (ms : List Mark) (total cut at tail capacity marks_capacity : ℕ) → IsCounted bytes ms total → OthersEndBy tail ms → CutFits cut (blocks_at bytes (drop at ms))
-    → IsColumn bytes (numbered 0 (drop at ms)) (length (coded_points bytes (drop at ms))) cut tail capacity marks_capacity None × (coded_points bytes (numbered 0 (drop at ms)) ≡ coded_points bytes (drop at ms))
-dropped_column bytes ms total cut at tail capacity marks_capacity c o f =
+pub dropped_column : (bytes : List ℕ) (ms : List BlockHandle) (total cut at tail capacity handles_capacity : ℕ) → AreCountedBlocks bytes ms total → OthersEndBy tail ms → CutFits cut (blocks_at bytes (drop at ms))
+    → IsColumn bytes (with_starts 0 (drop at ms)) (length (coded_points bytes (drop at ms))) cut tail capacity handles_capacity None × (coded_points bytes (with_starts 0 (drop at ms)) ≡ coded_points bytes (drop at ms))
+dropped_column bytes ms total cut at tail capacity handles_capacity c o f =
     let all = blocks_of_marks bytes 0 ms c.coded.marked in
     let split : coded_points bytes ms ≡ coded_points bytes (take at ms) ++ coded_points bytes (drop at ms) = ap (coded_points bytes) (sym (take-append-drop at ms)) ∙ coded_join bytes (take at ms) (drop at ms) in
     let rising = rising_rest (coded_points bytes (take at ms)) (coded_points bytes (drop at ms)) (subst IsRising split c.coded.rising) in
@@ -460,36 +460,36 @@ dropped_column bytes ms total cut at tail capacity marks_capacity c o f =
     timed_rest [] qs h = h
     timed_rest (p ∷ ps) qs h = timed_rest ps qs h.1
 
-    others_next : (m : Mark) (ns : List Mark) → OthersEndBy tail (m ∷ ns) → OthersEndBy tail ns
+    others_next : (m : BlockHandle) (ns : List BlockHandle) → OthersEndBy tail (m ∷ ns) → OthersEndBy tail ns
     others_next m [] h = tt
     others_next m (n ∷ ns) h = h.1
 
-    others_behind : (k : ℕ) (ns : List Mark) → OthersEndBy tail ns → OthersEndBy tail (drop k ns)
+    others_behind : (k : ℕ) (ns : List BlockHandle) → OthersEndBy tail ns → OthersEndBy tail (drop k ns)
     others_behind zero ns h = h
     others_behind (suc k) [] h = tt
     others_behind (suc k) (n ∷ ns) h = others_behind k ns (others_next n ns h)
 
-    others_numbered : (before : ℕ) (ns : List Mark) → OthersEndBy tail ns → OthersEndBy tail (numbered before ns)
+    others_numbered : (before : ℕ) (ns : List BlockHandle) → OthersEndBy tail ns → OthersEndBy tail (with_starts before ns)
     others_numbered before [] h = tt
     others_numbered before (n ∷ []) h = tt
     others_numbered before (n ∷ k ∷ ns) h = (h.0, others_numbered (before + n.count) (k ∷ ns) h.1)
 
-pub cut_at_later : (at cut : ℕ) → (at ≡ 0 → ⊥) → (0 ≡ cut_at at cut) × (cut ≡ cut_after at cut)
+pub cut_at_later : (at cut : ℕ) → (at ≡ 0 → ⊥) → (0 ≡ cut_in_block at cut) × (cut ≡ cut_after at cut)
 cut_at_later zero cut n = absurd (n refl)
 cut_at_later (suc at) cut n = (refl, refl)
 
-pub rewritten_if_ok : (old new : List ℕ) (ms : List Mark) (at cut : ℕ) (d : Mark) (p : ℤ × ℤ) (r : Result Rewritten AllocError) → AreMarks old 0 ms → at < length ms → IsLastBefore p.0 ms at → IfOk r (λ n. n.at ≡ at) → IfOk r (λ n. AreBlocks new (blocks_of n))
-    → IfOk r (λ n. coded_points new (blocks_of n) ≡ put int_cmp p.0 p.1 (drop (cut_at at cut) (points_at old (get_or ms at d)))) → take (length old) new ≡ old → IfOk r (λ n. IsRewritten new ms cut p n)
+pub rewritten_if_ok : (old new : List ℕ) (ms : List BlockHandle) (at cut : ℕ) (d : BlockHandle) (p : ℤ × ℤ) (r : Result Rewritten AllocError) → AreBlockHandles old 0 ms → at < length ms → IsLastBefore p.0 ms at → IfOk r (λ n. n.at ≡ at) → IfOk r (λ n. AreBlocks new (blocks_of n))
+    → IfOk r (λ n. coded_points new (blocks_of n) ≡ put int_cmp p.0 p.1 (drop (cut_in_block at cut) (points_at old (get_or ms at d)))) → take (length old) new ≡ old → IfOk r (λ n. IsRewritten new ms cut p n)
 rewritten_if_ok old new ms at cut d p (Ok n) marked l part is blocks points front = is_rewritten old new ms at cut d p n marked l part is blocks points front
 rewritten_if_ok old new ms at cut d p (Err e) marked l part is blocks points front = tt
 
-pub rest_count : (bytes : List ℕ) (k : ℕ) (ms : List Mark) → AreBlocks bytes ms → count_of (drop k ms) ≡ length (coded_points bytes (drop k ms))
+pub rest_count : (bytes : List ℕ) (k : ℕ) (ms : List BlockHandle) → AreBlocks bytes ms → count_in_blocks (drop k ms) ≡ length (coded_points bytes (drop k ms))
 rest_count bytes k ms h = counts_are bytes (drop k ms) (blocks_behind bytes k ms h)
 
-pub rest_few : (bytes : List ℕ) (k : ℕ) (ms : List Mark) → AreBlocks bytes ms → count_of (drop k ms) ≤ length (coded_points bytes ms)
+pub rest_few : (bytes : List ℕ) (k : ℕ) (ms : List BlockHandle) → AreBlocks bytes ms → count_in_blocks (drop k ms) ≤ length (coded_points bytes ms)
 rest_few bytes k ms h =
     let n = rest_count bytes k ms h in
-    let a = ap (λ (x : List Mark). length (coded_points bytes x)) (take-append-drop k ms) in
+    let a = ap (λ (x : List BlockHandle). length (coded_points bytes x)) (take-append-drop k ms) in
     let b = ap length (coded_join bytes (take k ms) (drop k ms)) in
     let c = length-append (coded_points bytes (take k ms)) (coded_points bytes (drop k ms)) in
     omega arith
@@ -520,5 +520,5 @@ next_map ps i d s l =
     sym (from_sorted-put int_cmp_total (take i ps) (rising_first i ps s) x.0 x.1)
     ∙ ap (map.from_sorted {R = int_cmp}) (ap (put int_cmp x.0 x.1) (sym (append-nil (take i ps))) ∙ put_after x.0 x.1 (take i ps) [] (rising_splits (take i ps) x first) ∙ sym next)
 
-pub numbered_front : (bytes : List ℕ) (ms : List Mark) (at : ℕ) → AreMarks bytes 0 ms → numbered 0 (take at ms) ≡ take at ms
+pub numbered_front : (bytes : List ℕ) (ms : List BlockHandle) (at : ℕ) → AreBlockHandles bytes 0 ms → with_starts 0 (take at ms) ≡ take at ms
 numbered_front bytes ms at h = marks_numbered bytes 0 (take at ms) (marks_front bytes 0 at ms h)

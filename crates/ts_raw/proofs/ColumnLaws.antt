@@ -47,20 +47,20 @@ within-rising m a b = is_sorted-where_key int_cmp (is_within a b) (entries m) (e
 pub in_bucket-rising : (m : PointMap) (k i o : ℤ) → IsRising (points_in_bucket m k i o)
 in_bucket-rising m k i o = is_sorted-where_key int_cmp (λ t. int_eq (bucket_of t i o) k) (entries m) (entries_sorted m)
 
-pub get-points_from : (m : PointMap) (mark t : ℤ) → map.get (points_from m mark) t ≡ cond (int_le mark t) (map.get m t) None
-get-points_from m mark t = get-retain_keys m (int_le mark) t (λ x e. ap (int_le mark) (sym (int_cmp-IsAntisymmetric t x e)))
+pub get-points_from : (m : PointMap) (handle t : ℤ) → map.get (points_from m handle) t ≡ cond (int_le handle t) (map.get m t) None
+get-points_from m handle t = get-retain_keys m (int_le handle) t (λ x e. ap (int_le handle) (sym (int_cmp-IsAntisymmetric t x e)))
 
 some_where : (b : Bool) (x : Option ℤ) (v : ℤ) → cond b x None ≡ Some v → (b ≡ true) × (x ≡ Some v)
 some_where true x v h = (refl, h)
 some_where false x v h = absurd (let e : None ≡ Some v = h in cc)
 
 -- from a mark on: those at the mark and after it
-pub among-from : (m : PointMap) (mark : ℤ) (p : ℤ × ℤ) → Among p (entries (points_from m mark)) ↔ (Among p (entries m) × (mark ≤ℤ p.0))
-among-from m mark p = (
+pub among-from : (m : PointMap) (handle : ℤ) (p : ℤ × ℤ) → Among p (entries (points_from m handle)) ↔ (Among p (entries m) × (handle ≤ℤ p.0))
+among-from m handle p = (
   λ h.
-      let t = some_where (int_le mark p.0) (map.get m p.0) p.1 (sym (get-points_from m mark p.0) ∙ among-get (points_from m mark) p h) in
-      (get-among m p t.1, le_from mark p.0 t.0),
-  λ h. get-among (points_from m mark) p (get-points_from m mark p.0 ∙ ap (λ b. cond b (map.get m p.0) None) (le_true mark p.0 h.1) ∙ among-get m p h.0),
+      let t = some_where (int_le handle p.0) (map.get m p.0) p.1 (sym (get-points_from m handle p.0) ∙ among-get (points_from m handle) p h) in
+      (get-among m p t.1, le_from handle p.0 t.0),
+  λ h. get-among (points_from m handle) p (get-points_from m handle p.0 ∙ ap (λ b. cond b (map.get m p.0) None) (le_true handle p.0 h.1) ∙ among-get m p h.0),
 )
 
 same_time : (x y : ℤ) → is_eq (int_cmp x y) ≡ true → x ≡ y

@@ -8,9 +8,9 @@ use Rattle.ts_core.specs.facts.Facts.{Text, Series, Column, is_of, same_text}
 use Rattle.ts_core.proofs.facts.Ids.{same_text-eq}
 use Rattle.ts_core.proofs.lists.Comparisons.{same_text-from_eq, same_bool}
 use Rattle.ts_raw.specs.FieldKeys.{FieldKey, field_key}
-use Rattle.ts_raw.specs.ColumnTables.{ColumnNumbers, has_field}
+use Rattle.ts_raw.specs.ColumnTables.{ColumnNumbers, is_of_field}
 use Rattle.ts_raw.specs.Indexed.{IsSoundIndex, no_series, column_in}
-use Rattle.ts_raw.specs.IndexParts.{no_field, column_named, IsNamed, index_by_numbers, IsIndex}
+use Rattle.ts_raw.specs.IndexParts.{no_field, column_named, HasSeriesAndField, index_by_numbers, IsIndexOfParts}
 use Rattle.ts_core.specs.lists.Numbered.{IsAt, numbers_where, numbers_where_from}
 use Rattle.ts_core.proofs.lists.MembersLemmas.{Among-map, map_back}
 use Rattle.ts_core.proofs.lists.NumberedLemmas.{at_among, among_at, at_within, same_place, AllDistinct-map, numbers_from-map, numbers_from-none}
@@ -22,12 +22,12 @@ none_pass n xs = numbers_from-none (λ x. false) n xs (λ x a. refl)
 pub measurement_of : (series : List Series) (s : ℕ) (key : Series) (m : Text) → IsAt series s key → m ≡ key.measurement → (get_or series s no_series).measurement ≡ m
 measurement_of series s key m at e = ap (λ (r : Series). r.measurement) (get_or_from_slice_get series s key no_series at) ∙ sym e
 
-module _ (series : List Series) (fields : List FieldKey) (t : ColumnNumbers) (is : IsIndex series fields t) where
-  pub among_named : (x : ℕ × ℕ) → Among x t.columns → IsNamed series fields x
+module _ (series : List Series) (fields : List FieldKey) (t : ColumnNumbers) (is : IsIndexOfParts series fields t) where
+  pub among_named : (x : ℕ × ℕ) → Among x t.columns → HasSeriesAndField series fields x
   among_named x a = let at = among_at t.columns x a in is.named at.0 x at.1
 
   -- other numbers are other names
-  pub named_apart : (x y : ℕ × ℕ) → IsNamed series fields x → IsNamed series fields y → column_named series fields x ≡ column_named series fields y → x ≡ y
+  pub named_apart : (x y : ℕ × ℕ) → HasSeriesAndField series fields x → HasSeriesAndField series fields y → column_named series fields x ≡ column_named series fields y → x ≡ y
   named_apart x y s u e =
       let same_series : get_or series x.0 no_series ≡ get_or series y.0 no_series = ap (λ (c : Column). c.series) e in
       let same_field : (get_or fields x.1 no_field).field ≡ (get_or fields y.1 no_field).field = ap (λ (c : Column). c.field) e in
@@ -56,7 +56,7 @@ module _ (series : List Series) (fields : List FieldKey) (t : ColumnNumbers) (is
     name_is f at =
         ap (λ (k : FieldKey). let c : Column = record { series = get_or series s no_series; field = k.field } in c) (get_or_from_slice_get fields f (field_key m field) no_field at)
 
-    pub both_named : (f : ℕ) → IsAt fields f (field_key m field) → IsNamed series fields (s, f)
+    pub both_named : (f : ℕ) → IsAt fields f (field_key m field) → HasSeriesAndField series fields (s, f)
     both_named f at = record {
       series_there = there;
       field_there = at_within fields f (field_key m field) at;
@@ -88,7 +88,7 @@ module _ (series : List Series) (fields : List FieldKey) (t : ColumnNumbers) (is
 
   -- ---- the columns of a measurement and a field
 
-  pub asked_key : (m field : Text) (x : ℕ × ℕ) → IsNamed series fields x → is_of m field (column_named series fields x) ≡ true → get_or fields x.1 no_field ≡ field_key m field
+  pub asked_key : (m field : Text) (x : ℕ × ℕ) → HasSeriesAndField series fields x → is_of m field (column_named series fields x) ≡ true → get_or fields x.1 no_field ≡ field_key m field
   asked_key m field x named h =
       let s = and_parts (same_text (get_or series x.0 no_series).measurement m) (same_text (get_or fields x.1 no_field).field field) h in
       let measurement = sym named.together ∙ same_text-eq (get_or series x.0 no_series).measurement m s.0 in
@@ -96,10 +96,10 @@ module _ (series : List Series) (fields : List FieldKey) (t : ColumnNumbers) (is
       λ i. record { measurement = measurement i; field = name i }
 
   pub numbers_of_field : (m field : Text) (f : ℕ) → IsAt fields f (field_key m field)
-      → numbers_where (has_field f) t.columns ≡ numbers_where (is_of m field) (map (column_named series fields) t.columns)
-  numbers_of_field m field f at = sym (numbers_from-map (is_of m field) (column_named series fields) (has_field f) 0 t.columns alike)
+      → numbers_where (is_of_field f) t.columns ≡ numbers_where (is_of m field) (map (column_named series fields) t.columns)
+  numbers_of_field m field f at = sym (numbers_from-map (is_of m field) (column_named series fields) (is_of_field f) 0 t.columns alike)
     where
-      alike : (x : ℕ × ℕ) → Among x t.columns → is_of m field (column_named series fields x) ≡ has_field f x
+      alike : (x : ℕ × ℕ) → Among x t.columns → is_of m field (column_named series fields x) ≡ is_of_field f x
       alike x a =
           let named = among_named x a in
           let key : get_or fields f no_field ≡ field_key m field = get_or_from_slice_get fields f (field_key m field) no_field at in

@@ -7,7 +7,7 @@ use Rattle.ts_core.proofs.lists.MembersLemmas.{Among-append}
 use Rattle.ts_raw.specs.FieldKeys.{FieldKey, field_key}
 use Rattle.ts_raw.specs.ColumnTables.{ColumnNumbers}
 use Rattle.ts_raw.specs.Indexed.{no_series, column_in}
-use Rattle.ts_raw.specs.IndexParts.{no_field, column_named, IsNamed, index_by_numbers, IsIndex}
+use Rattle.ts_raw.specs.IndexParts.{no_field, column_named, HasSeriesAndField, index_by_numbers, IsIndexOfParts}
 use Rattle.ts_core.specs.lists.Numbered.{IsAt, Gains}
 use Rattle.ts_raw.proofs.IndexLemmas.{among_named, name_is, both_named, no_numbers}
 use Rattle.ts_core.proofs.lists.NumberedLemmas.{at_among, at_end, at_within, once_more, map_alike}
@@ -26,13 +26,13 @@ module _ {X : Type 0} (xs ys : List X) (x : X) where
       ⊎_elim {C = get_or ys n d ≡ get_or xs n d} (λ p. ap (λ (zs : List X). get_or zs n d) p.1)
       (λ p. ap (λ (zs : List X). get_or zs n d) p.1 ∙ get_or_append_left xs (x ∷ []) d n l) h
 
-module _ (series series' : List Series) (fields : List FieldKey) (t : ColumnNumbers) (is : IsIndex series fields t) (key : Series) (more : Gains series series' key) where
-  pub index_registers : AllDistinct series' → IsIndex series' fields t
+module _ (series series' : List Series) (fields : List FieldKey) (t : ColumnNumbers) (is : IsIndexOfParts series fields t) (key : Series) (more : Gains series series' key) where
+  pub index_registers : AllDistinct series' → IsIndexOfParts series' fields t
   index_registers once = record {
     series_once = once;
     fields_once = is.fields_once;
     columns_once = is.columns_once;
-    room = is.room;
+    spare = is.spare;
     named = λ n x at.
         let old = is.named n x at in
         let longer = gains_length series series' key more in
@@ -50,8 +50,8 @@ module _ (series series' : List Series) (fields : List FieldKey) (t : ColumnNumb
       let old = among_named series fields t is x a in
       ap (λ (s : Series). let c : Column = record { series = s; field = (get_or fields x.1 no_field).field } in c) (gains_same series series' key more no_series x.0 old.series_there))
 
-module _ (series : List Series) (fields fields' : List FieldKey) (t t' : ColumnNumbers) (is : IsIndex series fields t) (key : FieldKey) (more : Gains fields fields' key) where
-  pub named_still : (x : ℕ × ℕ) → IsNamed series fields x → IsNamed series fields' x
+module _ (series : List Series) (fields fields' : List FieldKey) (t t' : ColumnNumbers) (is : IsIndexOfParts series fields t) (key : FieldKey) (more : Gains fields fields' key) where
+  pub named_still : (x : ℕ × ℕ) → HasSeriesAndField series fields x → HasSeriesAndField series fields' x
   named_still x old =
       let longer = gains_length fields fields' key more in
       record {
@@ -60,12 +60,12 @@ module _ (series : List Series) (fields fields' : List FieldKey) (t t' : ColumnN
         together = old.together ∙ sym (ap (λ (k : FieldKey). k.measurement) (gains_same fields fields' key more no_field x.1 old.field_there));
       }
 
-  pub index_names : AllDistinct fields' → t'.columns ≡ t.columns → length fields < t'.fields → IsIndex series fields' t'
-  index_names once same room = record {
+  pub index_names : AllDistinct fields' → t'.columns ≡ t.columns → length fields < t'.fields → IsIndexOfParts series fields' t'
+  index_names once same spare = record {
     series_once = is.series_once;
     fields_once = once;
     columns_once = subst (λ (cs : List (ℕ × ℕ)). AllDistinct cs) (sym same) is.columns_once;
-    room = let longer = gains_length fields fields' key more in omega (arith, room, longer.1);
+    spare = let longer = gains_length fields fields' key more in omega (arith, spare, longer.1);
     named = λ n x at. named_still x (is.named n x (subst (λ (cs : List (ℕ × ℕ)). IsAt cs n x) same at));
   }
 
@@ -76,45 +76,45 @@ module _ (series : List Series) (fields fields' : List FieldKey) (t t' : ColumnN
       let old = among_named series fields t is x a in
       ap (λ (k : FieldKey). let c : Column = record { series = get_or series x.0 no_series; field = k.field } in c) (gains_same fields fields' key more no_field x.1 old.field_there))
 
-module _ (series : List Series) (fields : List FieldKey) (t t' : ColumnNumbers) (is : IsIndex series fields t) where
+module _ (series : List Series) (fields : List FieldKey) (t t' : ColumnNumbers) (is : IsIndexOfParts series fields t) where
   -- more room changes nothing
-  pub index_roomy : t'.columns ≡ t.columns → t.fields ≤ t'.fields → IsIndex series fields t'
-  index_roomy same room = record {
+  pub index_can_grow : t'.columns ≡ t.columns → t.fields ≤ t'.fields → IsIndexOfParts series fields t'
+  index_can_grow same spare = record {
     series_once = is.series_once;
     fields_once = is.fields_once;
     columns_once = subst (λ (cs : List (ℕ × ℕ)). AllDistinct cs) (sym same) is.columns_once;
-    room = omega (arith, is.room, room);
+    spare = omega (arith, is.spare, spare);
     named = λ n x at. is.named n x (subst (λ (cs : List (ℕ × ℕ)). IsAt cs n x) same at);
   }
 
-  module _ (x : ℕ × ℕ) (named : IsNamed series fields x) (absent : Among x t.columns → ⊥) (pushed : t'.columns ≡ t.columns ++ x ∷ []) where
-    pub index_pushes : t'.fields ≡ t.fields → IsIndex series fields t'
-    index_pushes room = record {
+  module _ (x : ℕ × ℕ) (named : HasSeriesAndField series fields x) (absent : Among x t.columns → ⊥) (pushed : t'.columns ≡ t.columns ++ x ∷ []) where
+    pub index_pushes : t'.fields ≡ t.fields → IsIndexOfParts series fields t'
+    index_pushes spare = record {
       series_once = is.series_once;
       fields_once = is.fields_once;
       columns_once = subst (λ (cs : List (ℕ × ℕ)). AllDistinct cs) (sym pushed) (once_more t.columns x is.columns_once absent);
-      room = omega (arith, is.room, room);
+      spare = omega (arith, is.spare, spare);
       named = λ n y at.
-          ⊎_elim {C = IsNamed series fields y} (λ a. among_named series fields t is y a)
-          (λ a. ⊎_elim {C = IsNamed series fields y} (λ (e : y ≡ x). subst (λ z. IsNamed series fields z) (sym e) named) (λ k. absurd k) a)
+          ⊎_elim {C = HasSeriesAndField series fields y} (λ a. among_named series fields t is y a)
+          (λ a. ⊎_elim {C = HasSeriesAndField series fields y} (λ (e : y ≡ x). subst (λ z. HasSeriesAndField series fields z) (sym e) named) (λ k. absurd k) a)
           (Among-append y t.columns (x ∷ []) (subst (λ (cs : List (ℕ × ℕ)). Among y cs) pushed (at_among t'.columns n y at)));
     }
 
 -- ---- a column is made: there is room for its field, and the field has a number
 
 pub record IsMaking (series : List Series) (fields fields' : List FieldKey) (t t' : ColumnNumbers) (s : ℕ) (m field : Text) (f : ℕ) : Type 0 where
-  pub is : IsIndex series fields t
+  pub is : IsIndexOfParts series fields t
   pub there : s < length series
   pub of : (get_or series s no_series).measurement ≡ m
   pub same : t'.columns ≡ t.columns
-  pub room : length fields < t'.fields
+  pub spare : length fields < t'.fields
   pub more : Gains fields fields' (field_key m field)
   pub once : AllDistinct fields'
   pub at : IsAt fields' f (field_key m field)
 
 module _ (series : List Series) (fields fields' : List FieldKey) (t t' : ColumnNumbers) (s : ℕ) (m field : Text) (f : ℕ) (h : IsMaking series fields fields' t t' s m field f) where
-  made_index : IsIndex series fields' t'
-  made_index = index_names series fields fields' t t' h.is (field_key m field) h.more h.once h.same h.room
+  made_index : IsIndexOfParts series fields' t'
+  made_index = index_names series fields fields' t t' h.is (field_key m field) h.more h.once h.same h.spare
 
   made_columns : map (column_named series fields') t'.columns ≡ map (column_named series fields) t.columns
   made_columns = ap (λ (cs : List (ℕ × ℕ)). map (column_named series fields') cs) h.same ∙ columns_still series fields fields' t t' h.is (field_key m field) h.more
@@ -123,7 +123,7 @@ module _ (series : List Series) (fields fields' : List FieldKey) (t t' : ColumnN
   made_room =
       let longer = gains_length fields fields' (field_key m field) h.more in
       let within = at_within fields' f (field_key m field) h.at in
-      omega (arith, h.room, longer.1, within)
+      omega (arith, h.spare, longer.1, within)
 
   pub made_absent : (Among (column_in (index_by_numbers series fields t) s field) (map (column_named series fields) t.columns) → ⊥) → Among (s, f) t'.columns → ⊥
   made_absent absent =
@@ -141,16 +141,16 @@ module _ (series : List Series) (fields fields' : List FieldKey) (t t' : ColumnN
     made_same kept = ap (λ (cs : List (ℕ × ℕ)). map (column_named series fields') cs) kept ∙ made_columns
 
     pub made_pushes : (Among (column_in (index_by_numbers series fields t) s field) (map (column_named series fields) t.columns) → ⊥)
-        → (t''.columns ≡ t'.columns ++ (s, f) ∷ []) ⊎ (t''.columns ≡ t'.columns) → t''.fields ≡ t'.fields → IsIndex series fields' t''
-    made_pushes absent pushed room =
-        ⊎_elim {C = IsIndex series fields' t''}
-        (λ p. index_pushes series fields' t' t'' made_index (s, f) (both_named series fields' t' made_index s m field h.there h.of f h.at) (made_absent absent) p room)
-        (λ kept. index_roomy series fields' t' t'' made_index kept (omega (arith, room))) pushed
+        → (t''.columns ≡ t'.columns ++ (s, f) ∷ []) ⊎ (t''.columns ≡ t'.columns) → t''.fields ≡ t'.fields → IsIndexOfParts series fields' t''
+    made_pushes absent pushed spare =
+        ⊎_elim {C = IsIndexOfParts series fields' t''}
+        (λ p. index_pushes series fields' t' t'' made_index (s, f) (both_named series fields' t' made_index s m field h.there h.of f h.at) (made_absent absent) p spare)
+        (λ kept. index_can_grow series fields' t' t'' made_index kept (omega (arith, spare))) pushed
 
     pub made_at : (n : ℕ) → n ≡ length t'.columns → t''.columns ≡ t'.columns ++ (s, f) ∷ []
         → IsAt (map (column_named series fields') t''.columns) n (column_in (index_by_numbers series fields t) s field)
     made_at n e pushed =
-        let place : n ≡ length (map (column_named series fields) t.columns) = e ∙ ap (λ (cs : List (ℕ × ℕ)). length cs) h.same ∙ sym (length-map t.columns (column_named series fields)) in
+        let index : n ≡ length (map (column_named series fields) t.columns) = e ∙ ap (λ (cs : List (ℕ × ℕ)). length cs) h.same ∙ sym (length-map t.columns (column_named series fields)) in
         subst (λ (cs : List Column). IsAt cs n (column_in (index_by_numbers series fields t) s field)) (sym (made_more pushed))
-        (subst (λ k. IsAt (map (column_named series fields) t.columns ++ column_in (index_by_numbers series fields t) s field ∷ []) k (column_in (index_by_numbers series fields t) s field)) (sym place)
+        (subst (λ k. IsAt (map (column_named series fields) t.columns ++ column_in (index_by_numbers series fields t) s field ∷ []) k (column_in (index_by_numbers series fields t) s field)) (sym index)
         (at_end (map (column_named series fields) t.columns) (column_in (index_by_numbers series fields t) s field)))

@@ -13,7 +13,7 @@ use Rattle.ts_core.proofs.lists.Places.{rises, found_at, put_at, put_between}
 use Rattle.ts_core.proofs.facts.Ids.{equal_of}
 use Rattle.std.proofs.lemmas.Cmp.{tied_itself}
 use Rattle.ts_raw.specs.Columns.{AreTimed}
-use Rattle.ts_raw.specs.PlainColumns.{IsRising, IsPlaceOf}
+use Rattle.ts_raw.specs.PlainColumns.{IsRising, IsIndexOf}
 
 pub from_sorted-nothing : {K X : Type 0} (R : K → K → Ordering) (es : List (K × X)) → es ≡ [] → from_sorted {R = R} es ≡ map.empty
 from_sorted-nothing R es e = empty_of_len _ (len-entries (from_sorted es) ∙ ap length (ap (λ fs. entries (from_sorted {R = R} fs)) e ∙ entries-from_sorted R [] tt))
@@ -68,7 +68,7 @@ less_is Equal h = absurd (true≢false (sym h))
 less_is Greater h = absurd (true≢false (sym h))
 
 -- a time after the last one comes after all
-after_last : (points : List (ℤ × ℤ)) → IsRising points → (t : ℤ) (last : ℤ × ℤ) → last ≡ get_or points (length points - 1) last → int_cmp last.0 t ≡ Less → IsPlaceOf t points (Err (length points))
+after_last : (points : List (ℤ × ℤ)) → IsRising points → (t : ℤ) (last : ℤ × ℤ) → last ≡ get_or points (length points - 1) last → int_cmp last.0 t ≡ Less → IsIndexOf t points (Err (length points))
 after_last points s t last is before = (
   λ k d l h.
       let up = rises int_cmp_total points s t k (length points - 1) d (omega arith) (omega arith) in
@@ -78,13 +78,13 @@ after_last points s t last is before = (
   λ k d l h. absurd (omega arith),
 )
 
-pub put_there : (points : List (ℤ × ℤ)) → IsRising points → (point : ℤ × ℤ) (i : ℕ) → i < length points → IsPlaceOf point.0 points (Ok i)
+pub put_there : (points : List (ℤ × ℤ)) → IsRising points → (point : ℤ × ℤ) (i : ℕ) → i < length points → IsIndexOf point.0 points (Ok i)
     → set points i point ≡ put int_cmp point.0 point.1 points
 put_there points s point i l e =
     let same : (get_or points i point).0 ≡ point.0 = int_cmp-IsAntisymmetric _ _ (e point) in
     ap (λ (t : ℤ). set points i (t, point.1)) (sym same) ∙ sym (put_at int_cmp_total points s point.0 point.1 i point l (e point))
 
-pub put_new : (points : List (ℤ × ℤ)) (point : ℤ × ℤ) (i : ℕ) → i ≤ length points → IsPlaceOf point.0 points (Err i)
+pub put_new : (points : List (ℤ × ℤ)) (point : ℤ × ℤ) (i : ℕ) → i ≤ length points → IsIndexOf point.0 points (Err i)
     → insert points i point ≡ put int_cmp point.0 point.1 points
 put_new points point i l p = sym (put_between int_cmp_total points point.0 point.1 i l p)
 
@@ -94,9 +94,9 @@ pub put_last : (points : List (ℤ × ℤ)) → IsRising points → (point last 
 put_last points s point last is before = sym (insert_end points point) ∙ put_new points point (length points) (omega arith) (after_last points s point.0 last is before)
 
 -- the result of a binary search
-pub found_place : (points : List (ℤ × ℤ)) → IsRising points → (t : ℤ) (r : Result ℕ ℕ) → IsBinarySearchResult (λ (p : ℤ × ℤ). int_cmp p.0 t) points r → IsPlaceOf t points r
-found_place points s t (Ok i) h = h
-found_place points s t (Err i) h = h (rises int_cmp_total points s t)
+pub found_index : (points : List (ℤ × ℤ)) → IsRising points → (t : ℤ) (r : Result ℕ ℕ) → IsBinarySearchResult (λ (p : ℤ × ℤ). int_cmp p.0 t) points r → IsIndexOf t points r
+found_index points s t (Ok i) h = h
+found_index points s t (Err i) h = h (rises int_cmp_total points s t)
 
 -- ---- the value at a time
 
@@ -121,11 +121,11 @@ before_or : (k i : ℕ) → (k < i) ⊎ (i ≤ k)
 before_or k i = grind arith
 
 -- where a binary search found no point
-pub value_nowhere : (points : List (ℤ × ℤ)) (t : ℤ) (i : ℕ) → IsPlaceOf t points (Err i) → find int_cmp t points ≡ None
-value_nowhere points t i place = absent points t (λ k d l e. ⊎_elim {C = ⊥} (λ h. less_apart (sym (place.0 k d (omega arith) h) ∙ e)) (λ h. greater_apart (sym (place.1 k d h l) ∙ e)) (before_or k i))
+pub value_nowhere : (points : List (ℤ × ℤ)) (t : ℤ) (i : ℕ) → IsIndexOf t points (Err i) → find int_cmp t points ≡ None
+value_nowhere points t i index = absent points t (λ k d l e. ⊎_elim {C = ⊥} (λ h. less_apart (sym (index.0 k d (omega arith) h) ∙ e)) (λ h. greater_apart (sym (index.1 k d h l) ∙ e)) (before_or k i))
 
 -- and where it found one
-pub value_there : (points : List (ℤ × ℤ)) → IsRising points → (t : ℤ) (i : ℕ) (d : ℤ × ℤ) → i < length points → IsPlaceOf t points (Ok i) → find int_cmp t points ≡ Some (get_or points i d).1
+pub value_there : (points : List (ℤ × ℤ)) → IsRising points → (t : ℤ) (i : ℕ) (d : ℤ × ℤ) → i < length points → IsIndexOf t points (Ok i) → find int_cmp t points ≡ Some (get_or points i d).1
 value_there points s t i d l e = found_at int_cmp_total points s t i d l (e d)
 
 -- a time after the last one has none

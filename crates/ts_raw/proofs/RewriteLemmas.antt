@@ -13,12 +13,12 @@ use Rattle.ts_core.proofs.lists.Places.{both_of}
 use Rattle.ts_core.specs.facts.Times.{IsTime}
 use Rattle.ts_block.specs.Blocks.{times_of, values_of, AreLater, ArePoints, AreValues, last_of}
 use Rattle.ts_block.specs.Appending.{last_time}
-use Rattle.ts_raw.specs.declared.mark.Mark.{Mark}
+use Rattle.ts_raw.specs.declared.block_handle.BlockHandle.{BlockHandle}
 use Rattle.ts_raw.specs.Columns.{AreTimed}
 use Rattle.ts_raw.specs.PlainColumns.{IsRising}
-use Rattle.ts_raw.specs.CodedPoints.{points_at, coded_points, blocks_at, IsMark, AreBlocks, AreMarks, numbered, count_of}
+use Rattle.ts_raw.specs.CodedPoints.{points_at, coded_points, blocks_at, IsBlockHandle, AreBlocks, AreBlockHandles, with_starts, count_in_blocks}
 use Rattle.ts_raw.specs.declared.rewriting.Rewritten.{Rewritten}
-use Rattle.ts_raw.specs.Rewriting.{marks_replaced, blocks_of, IsEncoded, AreEncodable}
+use Rattle.ts_raw.specs.Rewriting.{handles_replaced, blocks_of, IsEncoded, AreEncodable}
 use Rattle.ts_raw.proofs.PointMaps.{rising-put, timed-put}
 use Rattle.ts_raw.proofs.CutLemmas.{is_rising_behind, timed_behind, timed_first}
 use Rattle.ts_raw.proofs.PushLemmas.{and_T, less_T}
@@ -137,102 +137,102 @@ last_after_drop k (p ∷ ps) l = last_dropped k p ps l
 
 -- ---- blocks that are counted anew
 
-pub counts_are : (bytes : List ℕ) (ms : List Mark) → AreBlocks bytes ms → count_of ms ≡ length (coded_points bytes ms)
+pub counts_are : (bytes : List ℕ) (ms : List BlockHandle) → AreBlocks bytes ms → count_in_blocks ms ≡ length (coded_points bytes ms)
 unfolding coded_points
 counts_are bytes [] h = refl
 counts_are bytes (m ∷ ms) h = let a = h.0.count_is in let b = counts_are bytes ms h.1 in let c = length-append (points_at bytes m) (coded_points bytes ms) in omega arith
 
 module _ (bytes : List ℕ) where
-  pub numbered_marks : (before : ℕ) (ms : List Mark) → AreBlocks bytes ms → AreMarks bytes before (numbered before ms)
+  pub numbered_marks : (before : ℕ) (ms : List BlockHandle) → AreBlocks bytes ms → AreBlockHandles bytes before (with_starts before ms)
   numbered_marks before [] h = tt
   numbered_marks before (m ∷ ms) h = (
     record { some = h.0.some; within = h.0.within; block = h.0.block; values_at = h.0.values_at; count_is = h.0.count_is; last_is = h.0.last_is },
     refl,
-    subst (λ n. AreMarks bytes (before + n) (numbered (before + m.count) ms)) h.0.count_is (numbered_marks (before + m.count) ms h.1),
+    subst (λ n. AreBlockHandles bytes (before + n) (with_starts (before + m.count) ms)) h.0.count_is (numbered_marks (before + m.count) ms h.1),
   )
 
-  pub numbered_blocks : (before : ℕ) (ms : List Mark) → blocks_at bytes (numbered before ms) ≡ blocks_at bytes ms
+  pub numbered_blocks : (before : ℕ) (ms : List BlockHandle) → blocks_at bytes (with_starts before ms) ≡ blocks_at bytes ms
   numbered_blocks before [] = refl
   numbered_blocks before (m ∷ ms) = ap (λ (x : List (List (ℤ × ℤ))). points_at bytes m ∷ x) (numbered_blocks (before + m.count) ms)
 
-unfoldable pub with_before : ℕ → Mark → Mark
+unfoldable pub with_before : ℕ → BlockHandle → BlockHandle
 with_before n m = record { start = m.start; values = m.values; end = m.end; count = m.count; before = n; last = m.last }
 
-numbered_push : (before : ℕ) (ms : List Mark) (m : Mark) → numbered before (ms ++ m ∷ []) ≡ numbered before ms ++ with_before (before + count_of ms) m ∷ []
+numbered_push : (before : ℕ) (ms : List BlockHandle) (m : BlockHandle) → with_starts before (ms ++ m ∷ []) ≡ with_starts before ms ++ with_before (before + count_in_blocks ms) m ∷ []
 unfolding with_before
 numbered_push before [] m = ap (λ n. with_before n m ∷ []) (let n : before ≡ before + 0 = omega arith in n)
 numbered_push before (k ∷ ms) m =
-    ap (λ (x : List Mark). with_before before k ∷ x)
-    (numbered_push (before + k.count) ms m ∙ ap (λ n. numbered (before + k.count) ms ++ with_before n m ∷ []) (let n : before + k.count + count_of ms ≡ before + (k.count + count_of ms) = omega arith in n))
+    ap (λ (x : List BlockHandle). with_before before k ∷ x)
+    (numbered_push (before + k.count) ms m ∙ ap (λ n. with_starts (before + k.count) ms ++ with_before n m ∷ []) (let n : before + k.count + count_in_blocks ms ≡ before + (k.count + count_in_blocks ms) = omega arith in n))
 
-numbered_length : (before : ℕ) (ms : List Mark) → length (numbered before ms) ≡ length ms
+numbered_length : (before : ℕ) (ms : List BlockHandle) → length (with_starts before ms) ≡ length ms
 numbered_length before [] = refl
 numbered_length before (m ∷ ms) = ap suc (numbered_length (before + m.count) ms)
 
-pub set_seam : (xs ys : List Mark) (y z : Mark) → set (xs ++ y ∷ ys) (length xs) z ≡ xs ++ z ∷ ys
+pub set_seam : (xs ys : List BlockHandle) (y z : BlockHandle) → set (xs ++ y ∷ ys) (length xs) z ≡ xs ++ z ∷ ys
 set_seam [] ys y z = refl
-set_seam (x ∷ xs) ys y z = ap (λ (q : List Mark). x ∷ q) (set_seam xs ys y z)
+set_seam (x ∷ xs) ys y z = ap (λ (q : List BlockHandle). x ∷ q) (set_seam xs ys y z)
 
-pub insert_seam : (xs ys : List Mark) (z : Mark) → insert (xs ++ ys) (length xs) z ≡ xs ++ z ∷ ys
+pub insert_seam : (xs ys : List BlockHandle) (z : BlockHandle) → insert (xs ++ ys) (length xs) z ≡ xs ++ z ∷ ys
 insert_seam [] ys z = insert_first ys z
   where
-    insert_first : (ys : List Mark) (z : Mark) → insert ys 0 z ≡ z ∷ ys
+    insert_first : (ys : List BlockHandle) (z : BlockHandle) → insert ys 0 z ≡ z ∷ ys
     insert_first [] z = refl
     insert_first (y ∷ ys) z = refl
-insert_seam (x ∷ xs) ys z = ap (λ (q : List Mark). x ∷ q) (insert_seam xs ys z)
+insert_seam (x ∷ xs) ys z = ap (λ (q : List BlockHandle). x ∷ q) (insert_seam xs ys z)
 
-get_seam : (xs ys : List Mark) (y d : Mark) → get_or (xs ++ y ∷ ys) (length xs) d ≡ y
+get_seam : (xs ys : List BlockHandle) (y d : BlockHandle) → get_or (xs ++ y ∷ ys) (length xs) d ≡ y
 get_seam [] ys y d = refl
 get_seam (x ∷ xs) ys y d = get_seam xs ys y d
 
-pub count_join : (xs ys : List Mark) → count_of (xs ++ ys) ≡ count_of xs + count_of ys
-count_join [] ys = let n : count_of ys ≡ 0 + count_of ys = omega arith in n
+pub count_join : (xs ys : List BlockHandle) → count_in_blocks (xs ++ ys) ≡ count_in_blocks xs + count_in_blocks ys
+count_join [] ys = let n : count_in_blocks ys ≡ 0 + count_in_blocks ys = omega arith in n
 count_join (m ∷ xs) ys = let a = count_join xs ys in omega arith
 
-module _ (all cur : List Mark) (i total : ℕ) (d : Mark) (l : i < length all) (is : cur ≡ numbered 0 (take i all) ++ drop i all) (t : total ≡ count_of (take i all)) where
-  abbrev done : List Mark
-  done = numbered 0 (take i all)
+module _ (all cur : List BlockHandle) (i total : ℕ) (d : BlockHandle) (l : i < length all) (is : cur ≡ with_starts 0 (take i all) ++ drop i all) (t : total ≡ count_in_blocks (take i all)) where
+  abbrev done : List BlockHandle
+  done = with_starts 0 (take i all)
 
   size : length done ≡ i
   size = numbered_length 0 (take i all) ∙ length-take-le i all (omega arith)
 
   seam : cur ≡ done ++ (get_or all i d ∷ drop (i + 1) all)
-  seam = is ∙ ap (λ (x : List Mark). done ++ x) (drop-cons all i d l ∙ ap (λ k. get_or all i d ∷ drop k all) (let n : suc i ≡ i + 1 = omega arith in n))
+  seam = is ∙ ap (λ (x : List BlockHandle). done ++ x) (drop-cons all i d l ∙ ap (λ k. get_or all i d ∷ drop k all) (let n : suc i ≡ i + 1 = omega arith in n))
 
   pub here : get_or cur i d ≡ get_or all i d
   here = (λ j. get_or (seam j) (sym size j) d) ∙ get_seam done (drop (i + 1) all) (get_or all i d) d
 
-  pub numbered_next : set cur i (with_before total (get_or cur i d)) ≡ numbered 0 (take (i + 1) all) ++ drop (i + 1) all
+  pub numbered_next : set cur i (with_before total (get_or cur i d)) ≡ with_starts 0 (take (i + 1) all) ++ drop (i + 1) all
   unfolding with_before
   numbered_next =
-      let new : Mark = with_before total (get_or cur i d) in
-      let same : new ≡ with_before (0 + count_of (take i all)) (get_or all i d) = (λ j. with_before ((let n : total ≡ 0 + count_of (take i all) = omega arith in n) j) (here j)) in
+      let new : BlockHandle = with_before total (get_or cur i d) in
+      let same : new ≡ with_before (0 + count_in_blocks (take i all)) (get_or all i d) = (λ j. with_before ((let n : total ≡ 0 + count_in_blocks (take i all) = omega arith in n) j) (here j)) in
       (λ j. set (seam j) (sym size j) new) ∙ set_seam done (drop (i + 1) all) (get_or all i d) new
       ∙ ap (λ x. done ++ (x ∷ drop (i + 1) all)) same
-      ∙ sym (append_assoc done (with_before (0 + count_of (take i all)) (get_or all i d) ∷ []) (drop (i + 1) all))
-      ∙ ap (λ (x : List Mark). x ++ drop (i + 1) all) (sym (numbered_push 0 (take i all) (get_or all i d)))
-      ∙ ap (λ (x : List Mark). numbered 0 x ++ drop (i + 1) all) (sym (take_next all i d l))
+      ∙ sym (append_assoc done (with_before (0 + count_in_blocks (take i all)) (get_or all i d) ∷ []) (drop (i + 1) all))
+      ∙ ap (λ (x : List BlockHandle). x ++ drop (i + 1) all) (sym (numbered_push 0 (take i all) (get_or all i d)))
+      ∙ ap (λ (x : List BlockHandle). with_starts 0 x ++ drop (i + 1) all) (sym (take_next all i d l))
 
-  pub count_next : total + (get_or cur i d).count ≡ count_of (take (i + 1) all)
+  pub count_next : total + (get_or cur i d).count ≡ count_in_blocks (take (i + 1) all)
   count_next =
-      let a = ap count_of (take_next all i d l) in
+      let a = ap count_in_blocks (take_next all i d l) in
       let b = count_join (take i all) (get_or all i d ∷ []) in
-      let c : (get_or cur i d).count ≡ (get_or all i d).count = ap (λ (x : Mark). x.count) here in
+      let c : (get_or cur i d).count ≡ (get_or all i d).count = ap (λ (x : BlockHandle). x.count) here in
       omega arith
 
-  pub count_within : total + (get_or cur i d).count ≤ count_of all
+  pub count_within : total + (get_or cur i d).count ≤ count_in_blocks all
   count_within =
       let a = count_next in
-      let b = ap count_of (take-append-drop (i + 1) all) in
+      let b = ap count_in_blocks (take-append-drop (i + 1) all) in
       let c = count_join (take (i + 1) all) (drop (i + 1) all) in
       omega arith
 
-pub coded_join : (bytes : List ℕ) (xs ys : List Mark) → coded_points bytes (xs ++ ys) ≡ coded_points bytes xs ++ coded_points bytes ys
+pub coded_join : (bytes : List ℕ) (xs ys : List BlockHandle) → coded_points bytes (xs ++ ys) ≡ coded_points bytes xs ++ coded_points bytes ys
 unfolding coded_points
 coded_join bytes [] ys = refl
 coded_join bytes (m ∷ xs) ys = ap (λ (z : List (ℤ × ℤ)). points_at bytes m ++ z) (coded_join bytes xs ys) ∙ sym (append_assoc (points_at bytes m) (coded_points bytes xs) (coded_points bytes ys))
 
-pub coded_one : (bytes : List ℕ) (m : Mark) → coded_points bytes (m ∷ []) ≡ points_at bytes m
+pub coded_one : (bytes : List ℕ) (m : BlockHandle) → coded_points bytes (m ∷ []) ≡ points_at bytes m
 unfolding coded_points
 coded_one bytes m = append-nil (points_at bytes m)
 
@@ -248,7 +248,7 @@ rising_first (suc k) (p ∷ ps) s = let b = both_of _ _ s in and_T _ _ (below_fi
     below_first (suc k) t [] h = tt
     below_first (suc k) t (p ∷ ps) h = let b = both_of _ _ h in and_T _ _ b.0 (below_first k t ps b.1)
 
-pub encodable : (bytes : List ℕ) (m : Mark) (skip : ℕ) (t v : ℤ) → IsMark bytes m → IsTime t → FitsSigned w64 v → AreEncodable (put int_cmp t v (drop skip (points_at bytes m)))
+pub encodable : (bytes : List ℕ) (m : BlockHandle) (skip : ℕ) (t v : ℤ) → IsBlockHandle bytes m → IsTime t → FitsSigned w64 v → AreEncodable (put int_cmp t v (drop skip (points_at bytes m)))
 encodable bytes m skip t v h is f =
     let ps : List (ℤ × ℤ) = points_at bytes m in
     let rest : List (ℤ × ℤ) = drop skip ps in
@@ -279,76 +279,76 @@ back_points ps k h l few =
     are_points (drop k ps) (omega arith) (omega arith) (is_rising_behind k ps h.rising) (timed_behind k ps h.timed) (values_drop k ps h.values)
 
 -- two blocks, the second encoded after the first
-pub two_blocks : (one two : List ℕ) (m n : Mark) (ps qs : List (ℤ × ℤ)) → IsEncoded one m ps → IsEncoded two n qs → take (length one) two ≡ one → AreBlocks two (m ∷ n ∷ []) × (coded_points two (m ∷ n ∷ []) ≡ ps ++ qs)
+pub two_blocks : (one two : List ℕ) (m n : BlockHandle) (ps qs : List (ℤ × ℤ)) → IsEncoded one m ps → IsEncoded two n qs → take (length one) two ≡ one → AreBlocks two (m ∷ n ∷ []) × (coded_points two (m ∷ n ∷ []) ≡ ps ++ qs)
 unfolding coded_points
 two_blocks one two m n ps qs a b front =
-    let k = mark_stays one two m front a.mark in
-    ((k.0, (b.mark, tt)), (λ i. (k.1 ∙ a.points_are) i ++ (append-nil (points_at two n) ∙ b.points_are) i))
+    let k = mark_stays one two m front a.handle in
+    ((k.0, (b.handle, tt)), (λ i. (k.1 ∙ a.points_are) i ++ (append-nil (points_at two n) ∙ b.points_are) i))
 
-pub set_replaced : (ms : List Mark) (at : ℕ) (x : Mark) → at < length ms → set ms at x ≡ take at ms ++ (x ∷ drop (at + 1) ms)
+pub set_replaced : (ms : List BlockHandle) (at : ℕ) (x : BlockHandle) → at < length ms → set ms at x ≡ take at ms ++ (x ∷ drop (at + 1) ms)
 set_replaced [] at x l = absurd (omega arith)
 set_replaced (m ∷ ms) zero x l = refl
-set_replaced (m ∷ ms) (suc at) x l = ap (λ (z : List Mark). m ∷ z) (set_replaced ms at x (omega arith)) ∙ ap (λ k. m ∷ (take at ms ++ (x ∷ drop k (m ∷ ms)))) (let n : suc (at + 1) ≡ suc at + 1 = omega arith in n)
+set_replaced (m ∷ ms) (suc at) x l = ap (λ (z : List BlockHandle). m ∷ z) (set_replaced ms at x (omega arith)) ∙ ap (λ k. m ∷ (take at ms ++ (x ∷ drop k (m ∷ ms)))) (let n : suc (at + 1) ≡ suc at + 1 = omega arith in n)
 
-pub insert_replaced : (ms : List Mark) (at : ℕ) (x y : Mark) → at < length ms → insert (set ms at x) (at + 1) y ≡ take at ms ++ (x ∷ y ∷ drop (at + 1) ms)
+pub insert_replaced : (ms : List BlockHandle) (at : ℕ) (x y : BlockHandle) → at < length ms → insert (set ms at x) (at + 1) y ≡ take at ms ++ (x ∷ y ∷ drop (at + 1) ms)
 insert_replaced ms at x y l =
-    let front : List Mark = take at ms ++ (x ∷ []) in
+    let front : List BlockHandle = take at ms ++ (x ∷ []) in
     let size : length front ≡ at + 1 = length-append (take at ms) (x ∷ []) ∙ ap (λ k. k + 1) (length-take-le at ms (omega arith)) in
     let split : set ms at x ≡ front ++ drop (at + 1) ms = set_replaced ms at x l ∙ sym (append_assoc (take at ms) (x ∷ []) (drop (at + 1) ms)) in
     (λ i. insert (split i) (sym size i) y) ∙ insert_seam front (drop (at + 1) ms) y ∙ append_assoc (take at ms) (x ∷ []) (y ∷ drop (at + 1) ms)
 
 -- marks that are right are numbered
-pub marks_numbered : (bytes : List ℕ) (before : ℕ) (ms : List Mark) → AreMarks bytes before ms → numbered before ms ≡ ms
+pub marks_numbered : (bytes : List ℕ) (before : ℕ) (ms : List BlockHandle) → AreBlockHandles bytes before ms → with_starts before ms ≡ ms
 marks_numbered bytes before [] h = refl
 marks_numbered bytes before (m ∷ ms) h =
     let next : before + m.count ≡ before + length (points_at bytes m) = let a = h.0.count_is in omega arith in
-    (λ i. record { start = m.start; values = m.values; end = m.end; count = m.count; before = sym h.1 i; last = m.last } ∷ numbered (next i) ms)
-    ∙ ap (λ (x : List Mark). m ∷ x) (marks_numbered bytes (before + length (points_at bytes m)) ms h.2)
+    (λ i. record { start = m.start; values = m.values; end = m.end; count = m.count; before = sym h.1 i; last = m.last } ∷ with_starts (next i) ms)
+    ∙ ap (λ (x : List BlockHandle). m ∷ x) (marks_numbered bytes (before + length (points_at bytes m)) ms h.2)
 
 -- the count up to a numbered block, and its own
-pub numbered_up_to : (before : ℕ) (ms : List Mark) (k : ℕ) (d : Mark) → numbered before (take (suc k) ms) ≡ take (suc k) ms → k < length ms → (get_or ms k d).before + (get_or ms k d).count ≡ before + count_of (take (suc k) ms)
+pub numbered_up_to : (before : ℕ) (ms : List BlockHandle) (k : ℕ) (d : BlockHandle) → with_starts before (take (suc k) ms) ≡ take (suc k) ms → k < length ms → (get_or ms k d).before + (get_or ms k d).count ≡ before + count_in_blocks (take (suc k) ms)
 numbered_up_to before [] k d e l = absurd (omega arith)
 numbered_up_to before (m ∷ ms) zero d e l =
-    let b : before ≡ m.before = ap (λ (x : List Mark). (get_or x 0 m).before) e in
+    let b : before ≡ m.before = ap (λ (x : List BlockHandle). (get_or x 0 m).before) e in
     omega arith
 numbered_up_to before (m ∷ ms) (suc k) d e l =
     let rest = numbered_up_to (before + m.count) ms k d (ap (drop 1) e) (omega arith) in
     omega arith
 
-pub numbered_seam : (ms : List Mark) (from : ℕ) → numbered 0 (take from ms) ≡ take from ms → ms ≡ numbered 0 (take from ms) ++ drop from ms
-numbered_seam ms from e = sym (take-append-drop from ms) ∙ ap (λ (x : List Mark). x ++ drop from ms) (sym e)
+pub numbered_seam : (ms : List BlockHandle) (from : ℕ) → with_starts 0 (take from ms) ≡ take from ms → ms ≡ with_starts 0 (take from ms) ++ drop from ms
+numbered_seam ms from e = sym (take-append-drop from ms) ∙ ap (λ (x : List BlockHandle). x ++ drop from ms) (sym e)
 
-take_replaced : (r : Rewritten) (ms : List Mark) → r.at < length ms → take r.at (marks_replaced r ms) ≡ take r.at ms
+take_replaced : (r : Rewritten) (ms : List BlockHandle) → r.at < length ms → take r.at (handles_replaced r ms) ≡ take r.at ms
 take_replaced r ms l =
     let size : length (take r.at ms) ≡ r.at = length-take-le r.at ms (omega arith) in
-    (λ i. take (sym size i) (marks_replaced r ms)) ∙ take-append_seam (take r.at ms) (blocks_of r ++ drop (r.at + 1) ms)
+    (λ i. take (sym size i) (handles_replaced r ms)) ∙ take-append_seam (take r.at ms) (blocks_of r ++ drop (r.at + 1) ms)
 
-pub replaced_front : (r : Rewritten) (ms : List Mark) → r.at < length ms → numbered 0 (take r.at ms) ≡ take r.at ms → numbered 0 (take r.at (marks_replaced r ms)) ≡ take r.at (marks_replaced r ms)
-replaced_front r ms l e = subst (λ (x : List Mark). numbered 0 x ≡ x) (sym (take_replaced r ms l)) e
+pub replaced_front : (r : Rewritten) (ms : List BlockHandle) → r.at < length ms → with_starts 0 (take r.at ms) ≡ take r.at ms → with_starts 0 (take r.at (handles_replaced r ms)) ≡ take r.at (handles_replaced r ms)
+replaced_front r ms l e = subst (λ (x : List BlockHandle). with_starts 0 x ≡ x) (sym (take_replaced r ms l)) e
 
-pub replaced_length : (r : Rewritten) (ms : List Mark) → r.at < length ms → r.at ≤ length (marks_replaced r ms)
+pub replaced_length : (r : Rewritten) (ms : List BlockHandle) → r.at < length ms → r.at ≤ length (handles_replaced r ms)
 replaced_length r ms l =
     let a = length-append (take r.at ms) (blocks_of r ++ drop (r.at + 1) ms) in
     let b = length-take-le r.at ms (omega arith) in
     omega arith
 
-pub none_counted_to : (ms : List Mark) (at : ℕ) → at ≡ 0 → 0 ≡ count_of (take at ms)
+pub none_counted_to : (ms : List BlockHandle) (at : ℕ) → at ≡ 0 → 0 ≡ count_in_blocks (take at ms)
 none_counted_to ms zero e = refl
 none_counted_to ms (suc at) e = absurd (omega arith)
 
-pub counted_before : (ms : List Mark) (at : ℕ) (m : Mark) → numbered 0 (take at ms) ≡ take at ms → (at ≡ 0 → ⊥) → at ≤ length ms → m ≡ get_or ms (at - 1) m → m.before + m.count ≡ count_of (take at ms)
+pub counted_before : (ms : List BlockHandle) (at : ℕ) (m : BlockHandle) → with_starts 0 (take at ms) ≡ take at ms → (at ≡ 0 → ⊥) → at ≤ length ms → m ≡ get_or ms (at - 1) m → m.before + m.count ≡ count_in_blocks (take at ms)
 counted_before ms zero m front some l is = absurd (some refl)
 counted_before ms (suc k) m front some l is =
-    let place : suc k - 1 ≡ k = omega arith in
-    let there : m ≡ get_or ms k m = is ∙ ap (λ n. get_or ms n m) place in
-    (λ i. (there i).before + (there i).count) ∙ numbered_up_to 0 ms k m front (omega arith) ∙ (let n : 0 + count_of (take (suc k) ms) ≡ count_of (take (suc k) ms) = omega arith in n)
+    let index : suc k - 1 ≡ k = omega arith in
+    let there : m ≡ get_or ms k m = is ∙ ap (λ n. get_or ms n m) index in
+    (λ i. (there i).before + (there i).count) ∙ numbered_up_to 0 ms k m front (omega arith) ∙ (let n : 0 + count_in_blocks (take (suc k) ms) ≡ count_in_blocks (take (suc k) ms) = omega arith in n)
 
-pub count_front : (ms : List Mark) (at : ℕ) → count_of (take at ms) ≤ count_of ms
+pub count_front : (ms : List BlockHandle) (at : ℕ) → count_in_blocks (take at ms) ≤ count_in_blocks ms
 count_front ms at =
-    let a = ap count_of (take-append-drop at ms) in
+    let a = ap count_in_blocks (take-append-drop at ms) in
     let b = count_join (take at ms) (drop at ms) in
     omega arith
 
-pub numbered_whole : (all cur : List Mark) (i : ℕ) → length all ≤ i → cur ≡ numbered 0 (take i all) ++ drop i all → cur ≡ numbered 0 all
+pub numbered_whole : (all cur : List BlockHandle) (i : ℕ) → length all ≤ i → cur ≡ with_starts 0 (take i all) ++ drop i all → cur ≡ with_starts 0 all
 numbered_whole all cur i l is =
-    is ∙ (λ j. numbered 0 (take_all i all l j) ++ drop_of_length-le all l j) ∙ append-nil (numbered 0 all)
+    is ∙ (λ j. with_starts 0 (take_all i all l j) ++ drop_of_length-le all l j) ∙ append-nil (with_starts 0 all)

@@ -35,22 +35,22 @@ same_rising (n ∷ ns) (m ∷ ms) r s f g =
 -- ---- the numbers of those that pass
 
 pub record IsNumbered {X : Type 0} (p : X → Bool) (b : ℕ) (xs : List X) (n : ℕ) : Type 0 where
-  pub place : ℕ
+  pub index : ℕ
   pub member : X
-  pub is : n ≡ b + place
-  pub at : IsAt xs place member
+  pub is : n ≡ b + index
+  pub at : IsAt xs index member
   pub passes : p member ≡ true
 
 module _ {X : Type 0} (p : X → Bool) where
   numbered_later : (b : ℕ) (x : X) (xs : List X) (n : ℕ) → IsNumbered p (b + 1) xs n → IsNumbered p b (x ∷ xs) n
-  numbered_later b x xs n s = record { place = suc s.place; member = s.member; is = let e = s.is in omega (arith, e); at = s.at; passes = s.passes }
+  numbered_later b x xs n s = record { index = suc s.index; member = s.member; is = let e = s.is in omega (arith, e); at = s.at; passes = s.passes }
 
   pub numbered_from : (b : ℕ) (xs : List X) (n : ℕ) → Among n (numbers_where_from p b xs) → IsNumbered p b xs n
   numbered_from b [] n h = absurd h
   numbered_from b (x ∷ xs) n h =
       elim (p x) as (λ v. p x ≡ v → Among n (cond v (b ∷ numbers_where_from p (b + 1) xs) (numbers_where_from p (b + 1) xs)) → IsNumbered p b (x ∷ xs) n) [
         | true ↦ λ e a.
-            ⊎_elim {C = IsNumbered p b (x ∷ xs) n} (λ (q : n ≡ b). record { place = 0; member = x; is = q ∙ sym (add-zero b); at = refl; passes = e })
+            ⊎_elim {C = IsNumbered p b (x ∷ xs) n} (λ (q : n ≡ b). record { index = 0; member = x; is = q ∙ sym (add-zero b); at = refl; passes = e })
             (λ k. numbered_later b x xs n (numbered_from (b + 1) xs n k)) a
         | false ↦ λ e a. numbered_later b x xs n (numbered_from (b + 1) xs n a)
       ] refl h
@@ -59,13 +59,13 @@ module _ {X : Type 0} (p : X → Bool) where
   either_way n b ns true a = inr a
   either_way n b ns false a = a
 
-  pub numbered : (b : ℕ) (xs : List X) (i : ℕ) (x : X) → IsAt xs i x → p x ≡ true → Among (b + i) (numbers_where_from p b xs)
-  numbered b [] i x h t = absurd (cc)
-  numbered b (y ∷ ys) zero x h t =
+  pub with_starts : (b : ℕ) (xs : List X) (i : ℕ) (x : X) → IsAt xs i x → p x ≡ true → Among (b + i) (numbers_where_from p b xs)
+  with_starts b [] i x h t = absurd (cc)
+  with_starts b (y ∷ ys) zero x h t =
       subst (λ v. Among (b + 0) (cond v (b ∷ numbers_where_from p (b + 1) ys) (numbers_where_from p (b + 1) ys))) (sym (ap p (same_Some y x h) ∙ t)) (inl (add-zero b))
-  numbered b (y ∷ ys) (suc i) x h t =
+  with_starts b (y ∷ ys) (suc i) x h t =
       let e : b + 1 + i ≡ b + suc i = omega arith in
-      either_way (b + suc i) b (numbers_where_from p (b + 1) ys) (p y) (subst (λ n. Among n (numbers_where_from p (b + 1) ys)) e (numbered (b + 1) ys i x h t))
+      either_way (b + suc i) b (numbers_where_from p (b + 1) ys) (p y) (subst (λ n. Among n (numbers_where_from p (b + 1) ys)) e (with_starts (b + 1) ys i x h t))
 
   pub numbers_rise : (b : ℕ) (xs : List X) → IsRisingList (numbers_where_from p b xs)
   numbers_rise b [] = tt
@@ -78,8 +78,8 @@ module _ {X : Type 0} (p : X → Bool) where
   -- rising numbers, each of one that passes, and of all that do
   pub is_numbers_where : (xs : List X) (ns : List ℕ) → IsRisingList ns → ((n : ℕ) (x : X) → IsAt xs n x → p x ≡ true → Among n ns) → ((n : ℕ) → Among n ns → (x : X) × IsAt xs n x × (p x ≡ true)) → ns ≡ numbers_where p xs
   is_numbers_where xs ns rise complete sound =
-      same_rising ns (numbers_where p xs) rise (numbers_rise 0 xs) (λ k a. let s = sound k a in subst (λ n. Among n (numbers_where p xs)) (zero-add k) (numbered 0 xs k s.0 s.1 s.2))
-      (λ k a. let s = numbered_from 0 xs k a in subst (λ n. Among n ns) (let e = s.is in let f : s.place ≡ k = omega (arith, e) in f) (complete s.place s.member s.at s.passes))
+      same_rising ns (numbers_where p xs) rise (numbers_rise 0 xs) (λ k a. let s = sound k a in subst (λ n. Among n (numbers_where p xs)) (zero-add k) (with_starts 0 xs k s.0 s.1 s.2))
+      (λ k a. let s = numbered_from 0 xs k a in subst (λ n. Among n ns) (let e = s.is in let f : s.index ≡ k = omega (arith, e) in f) (complete s.index s.member s.at s.passes))
 
 -- ---- in std's words
 

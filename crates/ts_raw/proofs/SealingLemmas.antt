@@ -4,10 +4,10 @@ use Rattle.std.specs.Cmp.{int_cmp_total}
 use Rattle.std.specs.FinMap.Entries.{below_all}
 use Rattle.ts_core.proofs.lists.Places.{both_of, less_of}
 use Rattle.ts_block.specs.Blocks.{values_of, ArePoints, AreValues}
-use Rattle.ts_raw.specs.declared.mark.Mark.{Mark}
+use Rattle.ts_raw.specs.declared.block_handle.BlockHandle.{BlockHandle}
 use Rattle.ts_raw.specs.Columns.{AreTimed}
 use Rattle.ts_raw.specs.PlainColumns.{IsRising}
-use Rattle.ts_raw.specs.CodedPoints.{points_at, coded_points, blocks_at, joined, IsMark, IsCounted, CutFits}
+use Rattle.ts_raw.specs.CodedPoints.{points_at, coded_points, blocks_at, all_joined, IsBlockHandle, AreCountedBlocks, CutFits}
 use Rattle.ts_raw.specs.Rewriting.{IsEncoded}
 use Rattle.ts_raw.proofs.PushLemmas.{and_T, mark_moved, marks_push, coded_push, blocks_push}
 use Rattle.ts_raw.proofs.BlockLists.{coded_concat, take_next, marks_stay, same_points, blocks_of_marks}
@@ -15,19 +15,19 @@ use Rattle.ts_raw.proofs.RewriteLemmas.{timed_of, are_points}
 use Rattle.ts_raw.proofs.ColumnBlocks.{rising_rest, ordered_from}
 
 -- the mark of an encoded block, with the number of points before it
-abbrev pub counted_mark : Mark → ℕ → Mark
+abbrev pub counted_mark : BlockHandle → ℕ → BlockHandle
 counted_mark m before = record { start = m.start; values = m.values; end = m.end; count = m.count; before = before; last = m.last }
 
 pub timed_join : (ps qs : List (ℤ × ℤ)) → AreTimed ps → AreTimed qs → AreTimed (ps ++ qs)
 timed_join [] qs h k = k
 timed_join (p ∷ ps) qs h k = (h.0, timed_join ps qs h.1 k)
 
-pub sealed : (old new : List ℕ) (ms : List Mark) (m : Mark) (total : ℕ) (ps : List (ℤ × ℤ)) → IsCounted old ms total → take (length old) new ≡ old → IsEncoded new m ps → ArePoints ps → IsRising (coded_points old ms ++ ps)
-    → IsCounted new (ms ++ counted_mark m total ∷ []) (total + length ps) × (blocks_at new (ms ++ counted_mark m total ∷ []) ≡ blocks_at old ms ++ (ps ∷ []))
+pub sealed : (old new : List ℕ) (ms : List BlockHandle) (m : BlockHandle) (total : ℕ) (ps : List (ℤ × ℤ)) → AreCountedBlocks old ms total → take (length old) new ≡ old → IsEncoded new m ps → ArePoints ps → IsRising (coded_points old ms ++ ps)
+    → AreCountedBlocks new (ms ++ counted_mark m total ∷ []) (total + length ps) × (blocks_at new (ms ++ counted_mark m total ∷ []) ≡ blocks_at old ms ++ (ps ∷ []))
 sealed old new ms m total ps c front e are rising =
-    let n : Mark = counted_mark m total in
+    let n : BlockHandle = counted_mark m total in
     let stay = marks_stay old new ms front c.coded.marked in
-    let here : IsMark new n × (points_at new n ≡ points_at new m) = mark_moved new new m n e.mark refl e.mark.some e.mark.within refl refl refl in
+    let here : IsBlockHandle new n × (points_at new n ≡ points_at new m) = mark_moved new new m n e.handle refl e.handle.some e.handle.within refl refl refl in
     let same : coded_points new ms ≡ coded_points old ms = same_points old new ms ms stay.1 in
     let before : total ≡ 0 + length (coded_points new ms) = let a = c.total_is in let b = ap length same in omega arith in
     let marked = marks_push new n ms 0 stay.0 here.0 before in
@@ -76,15 +76,15 @@ rising_whole (suc cut) [] qs l s r = absurd (omega arith)
 rising_whole (suc cut) (p ∷ []) qs l s r = absurd (omega arith)
 rising_whole (suc cut) (p ∷ q ∷ ps) qs l s r = let l' : cut < length (q ∷ ps) = omega arith in rising_front p q (ps ++ qs) (both_of _ _ (both_of _ _ s).0).0 (rising_whole cut (q ∷ ps) qs l' (both_of _ _ s).1 r)
 
-pub all_rising : (bytes : List ℕ) (ms : List Mark) (cut : ℕ) (qs : List (ℤ × ℤ)) → CutFits cut (blocks_at bytes ms) → IsRising (coded_points bytes ms) → IsRising (drop cut (coded_points bytes ms) ++ qs) → IsRising (coded_points bytes ms ++ qs)
+pub all_rising : (bytes : List ℕ) (ms : List BlockHandle) (cut : ℕ) (qs : List (ℤ × ℤ)) → CutFits cut (blocks_at bytes ms) → IsRising (coded_points bytes ms) → IsRising (drop cut (coded_points bytes ms) ++ qs) → IsRising (coded_points bytes ms ++ qs)
 unfolding coded_points
 all_rising bytes [] cut qs f s r = subst (λ k. IsRising (drop k [] ++ qs)) f r
 all_rising bytes (m ∷ ms) cut qs f s r = rising_whole cut (points_at bytes m ++ coded_points bytes ms) qs (let a = length-append (points_at bytes m) (coded_points bytes ms) in omega arith) s r
 
 -- a block more: its points follow the others
-pub joined_push : (old new : List ℕ) (ms ns : List Mark) (ps : List (ℤ × ℤ)) → blocks_at new ns ≡ blocks_at old ms ++ (ps ∷ []) → coded_points new ns ≡ coded_points old ms ++ ps
-joined_push old new ms ns ps e = coded_concat new ns ∙ ap joined e ∙ joined_more (blocks_at old ms) ∙ ap (λ (x : List (ℤ × ℤ)). x ++ ps) (sym (coded_concat old ms))
+pub joined_push : (old new : List ℕ) (ms ns : List BlockHandle) (ps : List (ℤ × ℤ)) → blocks_at new ns ≡ blocks_at old ms ++ (ps ∷ []) → coded_points new ns ≡ coded_points old ms ++ ps
+joined_push old new ms ns ps e = coded_concat new ns ∙ ap all_joined e ∙ joined_more (blocks_at old ms) ∙ ap (λ (x : List (ℤ × ℤ)). x ++ ps) (sym (coded_concat old ms))
   where
-    joined_more : (parts : List (List (ℤ × ℤ))) → joined (parts ++ (ps ∷ [])) ≡ joined parts ++ ps
+    joined_more : (parts : List (List (ℤ × ℤ))) → all_joined (parts ++ (ps ∷ [])) ≡ all_joined parts ++ ps
     joined_more [] = append-nil ps
-    joined_more (p ∷ parts) = ap (λ (x : List (ℤ × ℤ)). p ++ x) (joined_more parts) ∙ sym (append_assoc p (joined parts) ps)
+    joined_more (p ∷ parts) = ap (λ (x : List (ℤ × ℤ)). p ++ x) (joined_more parts) ∙ sym (append_assoc p (all_joined parts) ps)

@@ -14,7 +14,7 @@ use Rattle.ts_core.proofs.lists.NumberedLemmas.{at_among, at_within, same_place}
 use Rattle.ts_raw.specs.FieldKeys.{FieldKey, field_key}
 use Rattle.ts_raw.specs.ColumnTables.{ColumnNumbers}
 use Rattle.ts_raw.specs.Indexed.{no_series}
-use Rattle.ts_raw.specs.IndexParts.{no_field, column_named, IsNamed, IsIndex}
+use Rattle.ts_raw.specs.IndexParts.{no_field, column_named, HasSeriesAndField, IsIndexOfParts}
 use Rattle.ts_raw.specs.TagChains.{AreAmongTagged}
 use Rattle.ts_raw.specs.Tagged.{has_tag, is_tagged, IsRisingList, IsTaggedAt, AreTaggedAt}
 use Rattle.ts_raw.proofs.IndexLemmas.{asked_key}
@@ -34,13 +34,13 @@ at_map_back f [] n y h = absurd (cc)
 at_map_back f (x ∷ xs) zero y h = (x, refl, same_Some (f x) y h)
 at_map_back f (x ∷ xs) (suc n) y h = at_map_back f xs n y h
 
-module _ (series : List Series) (fields : List FieldKey) (t : ColumnNumbers) (is : IsIndex series fields t) (m field tag value : Text) where
+module _ (series : List Series) (fields : List FieldKey) (t : ColumnNumbers) (is : IsIndexOfParts series fields t) (m field tag value : Text) where
   pub tagged_of_none : (Among (field_key m field) fields → ⊥) → [] ≡ numbers_where (is_tagged m field tag value) (map (column_named series fields) t.columns)
   tagged_of_none absent =
       is_numbers_where (is_tagged m field tag value) (map (column_named series fields) t.columns) [] tt
       (λ n c at pass.
       let y = at_map_back (column_named series fields) t.columns n c at in
-      let named : IsNamed series fields y.0 = is.named n y.0 y.1 in
+      let named : HasSeriesAndField series fields y.0 = is.named n y.0 y.1 in
       let pass' : is_tagged m field tag value (column_named series fields y.0) ≡ true = ap (is_tagged m field tag value) y.2 ∙ pass in
       let parts = and_parts (is_of m field (column_named series fields y.0)) (has_tag tag value (column_named series fields y.0).series) pass' in
       absurd (absent (subst (λ (k : FieldKey). Among k fields) (asked_key series fields t is m field y.0 named parts.0) (at_among fields y.0.1 (get_or fields y.0.1 no_field) (slice_get-get_or fields y.0.1 no_field named.field_there)))))
@@ -56,7 +56,7 @@ module _ (series : List Series) (fields : List FieldKey) (t : ColumnNumbers) (is
         let s = walked.sound n ((same n).1 a) in
         let k : ℕ = s.0 in
         let tagged : IsTaggedAt series t.columns f tag value k n = s.2 in
-        let named : IsNamed series fields (k, f) = is.named n (k, f) tagged.at in
+        let named : HasSeriesAndField series fields (k, f) = is.named n (k, f) tagged.at in
         let of : is_of m field (column_named series fields (k, f)) ≡ true =
         both_true (same_text-from_eq (get_or series k no_series).measurement m (named.together ∙ ap (λ (x : FieldKey). x.measurement) its_key))
         (same_text-from_eq (get_or fields f no_field).field field (ap (λ (x : FieldKey). x.field) its_key)) in
@@ -66,7 +66,7 @@ module _ (series : List Series) (fields : List FieldKey) (t : ColumnNumbers) (is
     complete n c at pass =
         let y = at_map_back (column_named series fields) t.columns n c at in
         let k : ℕ = y.0.0 in
-        let named : IsNamed series fields y.0 = is.named n y.0 y.1 in
+        let named : HasSeriesAndField series fields y.0 = is.named n y.0 y.1 in
         let pass' : is_tagged m field tag value (column_named series fields y.0) ≡ true = ap (is_tagged m field tag value) y.2 ∙ pass in
         let parts = and_parts (is_of m field (column_named series fields y.0)) (has_tag tag value (get_or series k no_series)) pass' in
         let names = and_parts (same_text (get_or series k no_series).measurement m) (same_text (get_or fields y.0.1 no_field).field field) parts.0 in

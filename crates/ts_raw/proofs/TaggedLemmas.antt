@@ -10,8 +10,8 @@ use Rattle.ts_raw.specs.Tagged.{IsTaggedAt, AreTaggedAt}
 use Rattle.ts_raw.proofs.TagLemmas.{among_end, among_before}
 
 -- one place is of the numbers
-pub one_place : {X : Type 0} (xs : List X) (x : X) (i j : ℕ) → AllDistinct xs → IsAt xs i x → IsAt xs j x → i ≡ j
-one_place xs x i j once h k =
+pub one_index : {X : Type 0} (xs : List X) (x : X) (i j : ℕ) → AllDistinct xs → IsAt xs i x → IsAt xs j x → i ≡ j
+one_index xs x i j once h k =
     same_place xs x i j once (at_within xs i x h) (at_within xs j x k) (get_or_from_slice_get xs i x x h ∙ sym (get_or_from_slice_get xs j x x k))
 
 module _ (series : List Series) (columns : List (ℕ × ℕ)) (field : ℕ) (tag value : Text) (numbers : List ℕ) where
@@ -44,7 +44,7 @@ module _ (series : List Series) (columns : List (ℕ × ℕ)) (field : ℕ) (tag
         ⊎_elim {C = Among n (found ++ m ∷ []) ⊎ Among j left} (λ h. inl (among_before found (m ∷ []) n h))
         (λ b. ⊎_elim {C = Among n (found ++ m ∷ []) ⊎ Among j left}
         (λ (e : j ≡ k).
-        let same : m ≡ n = one_place columns (k, field) m n once is.at (subst (λ i. IsAt columns n (i, field)) e t.at) in
+        let same : m ≡ n = one_index columns (k, field) m n once is.at (subst (λ i. IsAt columns n (i, field)) e t.at) in
         inl (subst (λ i. Among i (found ++ m ∷ [])) same (among_end found m)))
         (λ h. inr h) b)
         (s.complete j n a t);

@@ -10,9 +10,9 @@ abbrev pub both_points : PointMap → PointMap → PointMap
 both_points blocks buffer = map.from_sorted (map.entries blocks ++ map.entries buffer)
 
 -- the staged point of either
-abbrev pub one_aside : Option (ℤ × ℤ) → Option (ℤ × ℤ) → Option (ℤ × ℤ)
-one_aside None buffer = buffer
-one_aside (Some p) buffer = Some p
+abbrev pub one_staged : Option (ℤ × ℤ) → Option (ℤ × ℤ) → Option (ℤ × ℤ)
+one_staged None buffer = buffer
+one_staged (Some p) buffer = Some p
 
 -- all points are after t
 abbrev pub AreAfter : ℤ → List (ℤ × ℤ) → Type 0
@@ -24,7 +24,7 @@ AreBefore t points = AllByRecursion (λ (p : ℤ × ℤ). p.0 <ℤ t) points
 
 -- a point that is staged among the blocks is before the buffer, in which none is staged
 pub record IsLate (p : ℤ × ℤ) (buffer : ColumnState) : Type 0 where
-  pub alone : buffer.aside ≡ None
+  pub alone : buffer.staged ≡ None
   pub some : 0 < length (map.entries buffer.points)
   pub after : AreAfter p.0 (map.entries buffer.points)
 
@@ -33,6 +33,6 @@ pub record IsBufferedColumn (blocks buffer : ColumnState) : Type 0 where
   pub rising : IsRising (map.entries blocks.points ++ map.entries buffer.points)
   pub some : length (map.entries buffer.points) ≡ 0 → length (map.entries blocks.points) ≡ 0
   pub few : length (map.entries blocks.points) + length (map.entries buffer.points) ≤ 18446744073709551615
-  pub one_more : IsSome (one_aside blocks.aside buffer.aside) → length (map.entries blocks.points) + length (map.entries buffer.points) < 18446744073709551615
-  pub late : IfSome blocks.aside (λ p. IsLate p buffer)
-  pub latest : IfSome buffer.aside (λ p. AreBefore p.0 (map.entries blocks.points))
+  pub one_more : IsSome (one_staged blocks.staged buffer.staged) → length (map.entries blocks.points) + length (map.entries buffer.points) < 18446744073709551615
+  pub late : IfSome blocks.staged (λ p. IsLate p buffer)
+  pub latest : IfSome buffer.staged (λ p. AreBefore p.0 (map.entries blocks.points))

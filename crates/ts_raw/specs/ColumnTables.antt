@@ -14,12 +14,12 @@ abbrev pub same_numbers : ℕ × ℕ → ℕ × ℕ → Bool
 same_numbers x y = (x.0 == y.0) && (x.1 == y.1)
 
 -- the column is of the field
-abbrev pub has_field : ℕ → ℕ × ℕ → Bool
-has_field field x = x.1 == field
+abbrev pub is_of_field : ℕ → ℕ × ℕ → Bool
+is_of_field field x = x.1 == field
 
 -- each column occurs once, is found by its indices, and is in the list of its field
-pub record IsColumnTable (place : ℕ × ℕ → Option ℕ) (columns : List (ℕ × ℕ)) (members : List (List ℕ)) : Type 0 where
+pub record IsColumnTable (index : ℕ × ℕ → Option ℕ) (columns : List (ℕ × ℕ)) (members : List (List ℕ)) : Type 0 where
   pub once : AllDistinct columns
-  pub placed : (x : ℕ × ℕ) → place x ≡ last_with (0, 0) (λ y. same_numbers y x) columns (length columns)
-  pub grouped : (field : ℕ) → field < length members → slice_index_or members field [] ≡ numbers_where (has_field field) columns
+  pub found : (x : ℕ × ℕ) → index x ≡ last_with (0, 0) (λ y. same_numbers y x) columns (length columns)
+  pub grouped : (field : ℕ) → field < length members → slice_index_or members field [] ≡ numbers_where (is_of_field field) columns
   pub made : (n : ℕ) (x : ℕ × ℕ) → IsAt columns n x → x.1 < length members

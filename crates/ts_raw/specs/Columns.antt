@@ -32,7 +32,7 @@ points_from points mark = map.retain_keys points (int_le mark)
 -- a column: its points, and the staged point, if there is one
 pub record ColumnState : Type 0 where
   pub points : PointMap
-  pub aside : Option (ℤ × ℤ)
+  pub staged : Option (ℤ × ℤ)
 
 abbrev pub coded_column_state : Coded ColumnState
-coded_column_state = code_by (PointMap × Option (ℤ × ℤ)) (coded× (map.code coded_ℤ coded_ℤ) (coded_option (coded× coded_ℤ coded_ℤ))) (λ c. (c.points, c.aside)) (λ p. record { points = p.0; aside = p.1 }) (λ _. refl)
+coded_column_state = code_by (PointMap × Option (ℤ × ℤ)) (coded× (map.code coded_ℤ coded_ℤ) (coded_option (coded× coded_ℤ coded_ℤ))) (λ c. (c.points, c.staged)) (λ p. record { points = p.0; staged = p.1 }) (λ _. refl)

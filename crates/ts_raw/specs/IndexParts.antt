@@ -15,7 +15,7 @@ abbrev pub column_named : List Series → List FieldKey → ℕ × ℕ → Colum
 column_named series fields x = record { series = slice_index_or series x.0 no_series; field = (slice_index_or fields x.1 no_field).field }
 
 -- a series and a field with these indices exist, and are of one measurement
-pub record IsNamed (series : List Series) (fields : List FieldKey) (x : ℕ × ℕ) : Type 0 where
+pub record HasSeriesAndField (series : List Series) (fields : List FieldKey) (x : ℕ × ℕ) : Type 0 where
   pub series_there : x.0 < length series
   pub field_there : x.1 < length fields
   pub together : (slice_index_or series x.0 no_series).measurement ≡ (slice_index_or fields x.1 no_field).measurement
@@ -24,9 +24,9 @@ abbrev pub index_by_numbers : List Series → List FieldKey → ColumnNumbers �
 index_by_numbers series fields t = record { series = series; columns = map (column_named series fields) t.columns }
 
 -- the entries of each part are distinct, and each column has its names
-pub record IsIndex (series : List Series) (fields : List FieldKey) (t : ColumnNumbers) : Type 0 where
+pub record IsIndexOfParts (series : List Series) (fields : List FieldKey) (t : ColumnNumbers) : Type 0 where
   pub series_once : AllDistinct series
   pub fields_once : AllDistinct fields
   pub columns_once : AllDistinct t.columns
-  pub room : length fields ≤ t.fields
-  pub named : (n : ℕ) (x : ℕ × ℕ) → IsAt t.columns n x → IsNamed series fields x
+  pub spare : length fields ≤ t.fields
+  pub named : (n : ℕ) (x : ℕ × ℕ) → IsAt t.columns n x → HasSeriesAndField series fields x

@@ -12,15 +12,15 @@ abbrev pub IsRising : List (ℤ × ℤ) → Type 0
 IsRising points = T (is_sorted int_cmp points)
 
 -- the times are strictly increasing and valid, and there is capacity for the staged point
-pub record IsReady (points : List (ℤ × ℤ)) (len capacity : ℕ) (aside : Option (ℤ × ℤ)) : Type 0 where
+pub record IsReady (points : List (ℤ × ℤ)) (len capacity : ℕ) (staged : Option (ℤ × ℤ)) : Type 0 where
   pub rising : IsRising points
   pub timed : AreTimed points
-  pub room : IsSome aside → len < capacity
+  pub spare : IsSome staged → len < capacity
 
 -- the index of the point at t, or the index to insert it at
-abbrev pub IsPlaceOf : ℤ → List (ℤ × ℤ) → Result ℕ ℕ → Type 0
-IsPlaceOf t points place =
-    MatchResult place (HoldsAt (λ (p : ℤ × ℤ). int_cmp p.0 t ≡ Equal) points)
+abbrev pub IsIndexOf : ℤ → List (ℤ × ℤ) → Result ℕ ℕ → Type 0
+IsIndexOf t points index =
+    MatchResult index (HoldsAt (λ (p : ℤ × ℤ). int_cmp p.0 t ≡ Equal) points)
     (IsPartitionPoint (λ (p : ℤ × ℤ). int_cmp p.0 t ≡ Less) (λ (p : ℤ × ℤ). int_cmp p.0 t ≡ Greater) points)
 
 -- exactly the first i points are before t

@@ -1,9 +1,9 @@
 //! The bytes of a column's coded blocks.
 ghost use Rattle.std.specs.Prelude.{◌≡◌, ◌≤◌, length, slice_get, Some, None, IfSome};
 ghost use Rattle.ts_raw.specs.BlockColumns.{texts_at};
-ghost use Rattle.ts_raw.specs.CodedPoints.{AreMarks};
+ghost use Rattle.ts_raw.specs.CodedPoints.{AreBlockHandles};
 
-use crate::mark::Mark;
+use crate::block_handle::BlockHandle;
 use crate::walk::text_of;
 use std::marker::Model;
 
@@ -11,35 +11,35 @@ use std::marker::Model;
 #[derive(Drop)]
 pub struct Blocks<'a> {
     bytes: &'a [u8],
-    marks: &'a [Mark],
+    handles: &'a [BlockHandle],
 }
 
 impl<'a> Model for Blocks<'a> {
     ghost use Rattle.std.specs.Prelude.{ℕ, List};
     ghost use Rattle.ts_raw.specs.BlockColumns.{texts_at};
-    ghost use Rattle.ts_raw.specs.CodedPoints.{AreMarks};
+    ghost use Rattle.ts_raw.specs.CodedPoints.{AreBlockHandles};
 
     ghost Value = { List (List ℕ) };
 
-    ghost view = { λ b. texts_at b.bytes.now b.marks.now };
+    ghost view = { λ b. texts_at b.bytes.now b.handles.now };
 
-    ghost invariant = { λ b. AreMarks b.bytes.now 0 b.marks.now };
+    ghost invariant = { λ b. AreBlockHandles b.bytes.now 0 b.handles.now };
 }
 
 impl<'a> Blocks<'a> {
     /// Returns the blocks that the marks name.
-    pub(crate) fn new(bytes: &'a [u8], marks: &'a [Mark]) -> Blocks<'a>
-        requires { AreMarks bytes.now 0 marks.now }
-        ensures { result ≡ texts_at bytes.now marks.now }
+    pub(crate) fn new(bytes: &'a [u8], handles: &'a [BlockHandle]) -> Blocks<'a>
+        requires { AreBlockHandles bytes.now 0 handles.now }
+        ensures { result ≡ texts_at bytes.now handles.now }
     {
-        Blocks { bytes, marks }
+        Blocks { bytes, handles }
     }
 
     /// Returns the number of blocks.
     pub fn len(&self) -> usize
         ensures { result ≡ length self.now }
     {
-        self.marks.len()
+        self.handles.len()
     }
 
     /// Returns the bytes of the block at an index.
@@ -47,7 +47,7 @@ impl<'a> Blocks<'a> {
         ensures some { IfSome result (λ block. slice_get self.now index ≡ Some block.now) }
         ensures none { result ≡ None → length self.now ≤ index }
     {
-        let mark = self.marks.get(index)?;
-        Some(text_of(self.bytes, mark))
+        let handle = self.handles.get(index)?;
+        Some(text_of(self.bytes, handle))
     }
 }

@@ -1,7 +1,7 @@
 //! A column whose latest points are plain, and whose older ones are coded blocks.
 ghost use Rattle.std.specs.Prelude.{◌≡◌, ◌+◌, ◌*◌, ◌<◌, ◌≤◌, length, take, drop, Some, None, true, false, is_ok, IfOk, OnOk, OnErr, if◌then◌else◌};
 ghost use Rattle.std.specs.FinMap as map;
-ghost use Rattle.ts_raw.specs.BufferedColumns.{both_points, one_aside, AreAfter, AreBefore, IsBufferedColumn};
+ghost use Rattle.ts_raw.specs.BufferedColumns.{both_points, one_staged, AreAfter, AreBefore, IsBufferedColumn};
 ghost use Rattle.ts_raw.specs.Columns.{AreTimed, points_within};
 ghost use Rattle.ts_raw.specs.PlainColumns.{IsRising};
 
@@ -28,13 +28,13 @@ pub struct BufferedColumn<A: Allocator> {
 
 impl<A: Allocator> Model for BufferedColumn<A> {
     ghost use Rattle.ts_raw.specs.Columns.{ColumnState, coded_column_state};
-    ghost use Rattle.ts_raw.specs.BufferedColumns.{both_points, one_aside, IsBufferedColumn};
+    ghost use Rattle.ts_raw.specs.BufferedColumns.{both_points, one_staged, IsBufferedColumn};
 
     ghost Value = { ColumnState };
 
     ghost coded = { coded_column_state };
 
-    ghost view = { λ c. record { points = both_points c.blocks.points c.buffer.points; aside = one_aside c.blocks.aside c.buffer.aside } };
+    ghost view = { λ c. record { points = both_points c.blocks.points c.buffer.points; staged = one_staged c.blocks.staged c.buffer.staged } };
 
     ghost invariant = { λ c. IsBufferedColumn c.blocks c.buffer };
 }
@@ -63,13 +63,13 @@ fn move_block<A: Allocator + Copy>(
     buffer: &mut PlainColumn<A>,
 ) -> Result<(), AllocError>
     requires buffered { IsBufferedColumn blocks.old buffer.old }
-    requires no_late { blocks.old.aside ≡ None }
-    requires none_aside { buffer.old.aside ≡ None }
+    requires no_late { blocks.old.staged ≡ None }
+    requires none_staged { buffer.old.staged ≡ None }
     ensures buffered { IsBufferedColumn blocks.new buffer.new }
     ensures points { both_points blocks.new.points buffer.new.points ≡ both_points blocks.old.points buffer.old.points }
     ensures moved { OnOk result (512 ≤ length (map.entries buffer.old.points) → length (map.entries buffer.new.points) + 256 ≡ length (map.entries buffer.old.points)) }
-    ensures no_late { blocks.new.aside ≡ None }
-    ensures none_aside { buffer.new.aside ≡ None }
+    ensures no_late { blocks.new.staged ≡ None }
+    ensures none_staged { buffer.new.staged ≡ None }
 {
     if buffer.live() < BUFFER_POINTS {
         return Ok(());
@@ -87,12 +87,12 @@ fn stage<A: Allocator + Copy>(
     value: i64,
 ) -> Result<(), AllocError>
     requires buffered { IsBufferedColumn blocks.old buffer.old }
-    requires no_late { blocks.old.aside ≡ None }
-    requires none_aside { buffer.old.aside ≡ None }
+    requires no_late { blocks.old.staged ≡ None }
+    requires none_staged { buffer.old.staged ≡ None }
     requires one_more { length (map.entries blocks.old.points) + length (map.entries buffer.old.points) < 18446744073709551615 }
     ensures buffered { IsBufferedColumn blocks.new buffer.new }
     ensures points { both_points blocks.new.points buffer.new.points ≡ both_points blocks.old.points buffer.old.points }
-    ensures aside { one_aside blocks.new.aside buffer.new.aside ≡ (if is_ok result then Some (time, value) else None) }
+    ensures staged { one_staged blocks.new.staged buffer.new.staged ≡ (if is_ok result then Some (time, value) else None) }
 {
     if is_late(blocks, buffer, time) {
         blocks.prepare(time, value)
@@ -125,7 +125,7 @@ fn blocks_of<A: Allocator + Copy>(
     requires timed { AreTimed points.now }
     requires bound { count * 256 ≤ length points.now }
     ensures points { IfOk result (λ blocks. map.entries blocks.points ≡ take (count * 256) points.now) }
-    ensures none_aside { IfOk result (λ blocks. blocks.aside ≡ None) }
+    ensures none_staged { IfOk result (λ blocks. blocks.staged ≡ None) }
 {
     let mut blocks = BlockColumn::new(alloc);
     for i in 0..count {
@@ -158,7 +158,7 @@ impl<A: Allocator> BufferedColumn<A> {
     where
         A: Copy,
         ensures points { result.points ≡ map.empty }
-        ensures none_aside { result.aside ≡ None }
+        ensures none_staged { result.staged ≡ None }
     {
         BufferedColumn {
             blocks: BlockColumn::new(alloc),
@@ -203,7 +203,7 @@ impl<A: Allocator + Copy> BufferedColumn<A> {
         requires timed { AreTimed points.items }
         ensures points { IfOk result (λ column. column.points ≡ map.from_sorted points.items) }
         ensures entries { IfOk result (λ column. map.entries column.points ≡ points.items) }
-        ensures none_aside { IfOk result (λ column. column.aside ≡ None) }
+        ensures none_staged { IfOk result (λ column. column.staged ≡ None) }
     {
         let count = blocks_for(points.len());
         let blocks = blocks_of(*points.allocator(), points.as_slice(), count)?;
@@ -215,7 +215,7 @@ impl<A: Allocator + Copy> BufferedColumn<A> {
 impl<A: Allocator + Copy> Column for BufferedColumn<A> {
     ghost points = { λ c. c.points };
 
-    ghost aside = { λ c. c.aside };
+    ghost staged = { λ c. c.staged };
 
     fn prepare(&mut self, time: Time, value: i64) -> Result<(), AllocError> {
         self.blocks.unstage();

@@ -15,19 +15,19 @@ pub trait Column {
     ghost points: { Self → PointMap };
 
     // The staged point, if there is one.
-    ghost aside: { Self → Option (ℤ × ℤ) };
+    ghost staged: { Self → Option (ℤ × ℤ) };
 
     /// Allocates the capacity for a point and stages it, replacing an older staged one. On allocation failure, no point
     /// is staged.
     fn prepare(&mut self, time: Time, value: i64) -> Result<(), AllocError>
         ensures unchanged { points self.new ≡ points self.old }
-        ensures aside { aside self.new ≡ (if is_ok result then Some (time, value) else None) };
+        ensures staged { staged self.new ≡ (if is_ok result then Some (time, value) else None) };
 
     /// Inserts the staged point, replacing the point with its time.
     fn commit(&mut self)
-        requires { IsSome (aside self.old) }
-        ensures put { IfSome (aside self.old) (λ p. points self.new ≡ map.insert (points self.old) p.0 p.1) }
-        ensures none_aside { aside self.new ≡ None };
+        requires { IsSome (staged self.old) }
+        ensures put { IfSome (staged self.old) (λ p. points self.new ≡ map.insert (points self.old) p.0 p.1) }
+        ensures none_staged { staged self.new ≡ None };
 
     /// Returns the points from `from`, inclusive, to `to`, exclusive (nanoseconds), ordered by time. Empty unless
     /// `from` is below `to`.
@@ -49,7 +49,7 @@ pub trait Column {
     /// Removes the points before the mark. No point is staged afterwards.
     fn drop_below(&mut self, mark: Time)
         ensures kept { points self.new ≡ points_from (points self.old) mark }
-        ensures none_aside { aside self.new ≡ None };
+        ensures none_staged { staged self.new ≡ None };
 
     /// Returns the number of points.
     fn live(&self) -> usize

@@ -26,7 +26,7 @@ use series::SeriesTable;
 pub use series_id::SeriesId;
 use std::alloc::{AllocError, Allocator};
 use std::marker::Model;
-use tagged::{put_in_order, tagged_columns};
+use tagged::{insert_in_order, tagged_columns};
 use ts_core::{FieldName, Key, KeyRef};
 
 /// Limit of the number of registered series.
@@ -49,13 +49,13 @@ pub struct Index<A: Allocator> {
 
 impl<A: Allocator> Model for Index<A> {
     ghost use Rattle.ts_raw.specs.Indexed.{Indexed};
-    ghost use Rattle.ts_raw.specs.IndexParts.{index_by_numbers, IsIndex};
+    ghost use Rattle.ts_raw.specs.IndexParts.{index_by_numbers, IsIndexOfParts};
 
     ghost Value = { Indexed };
 
     ghost view = { λ i. index_by_numbers i.series i.fields i.columns };
 
-    ghost invariant = { λ i. IsIndex i.series i.fields i.columns };
+    ghost invariant = { λ i. IsIndexOfParts i.series i.fields i.columns };
 }
 
 impl<A: Allocator + Copy> Index<A> {
@@ -228,7 +228,7 @@ impl<A: Allocator + Copy> Index<A> {
                     tag,
                     value,
                 )?;
-                put_in_order(&mut found);
+                insert_in_order(&mut found);
                 Ok(found)
             }
             None => Ok(Vec::new(alloc)),
@@ -263,7 +263,7 @@ impl<A: Allocator + Copy> Index<A> {
         ensures series { self.new.series ≡ self.old.series }
         ensures sound { IsSoundIndex self.new }
     {
-        self.columns.make_room(self.fields.len())?;
+        self.columns.reserve_bytes(self.fields.len())?;
         let measurement = self.series.key(series).measurement();
         let field = self.fields.register(measurement, field)?;
         self.columns.push(series.number, field)

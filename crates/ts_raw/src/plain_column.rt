@@ -6,7 +6,7 @@ ghost use Rattle.std.specs.FinMap.{put, find};
 ghost use Rattle.std.specs.List.Sorted.{IsSearchInRange};
 ghost use Rattle.ts_core.specs.facts.Facts.{is_within};
 ghost use Rattle.ts_raw.specs.Columns.{AreTimed, points_within};
-ghost use Rattle.ts_raw.specs.PlainColumns.{IsRising, IsPlaceOf, IsStartOf};
+ghost use Rattle.ts_raw.specs.PlainColumns.{IsRising, IsIndexOf, IsStartOf};
 
 use crate::column::Column;
 use crate::points::Points;
@@ -18,7 +18,7 @@ use ts_core::Time;
 #[derive(Drop)]
 pub struct PlainColumn<A: Allocator> {
     points: Vec<(Time, i64), A>,
-    aside: Option<(Time, i64)>,
+    staged: Option<(Time, i64)>,
 }
 
 impl<A: Allocator> Model for PlainColumn<A> {
@@ -31,42 +31,42 @@ impl<A: Allocator> Model for PlainColumn<A> {
 
     ghost coded = { coded_column_state };
 
-    ghost view = { λ c. record { points = map.from_sorted c.points.items; aside = c.aside } };
+    ghost view = { λ c. record { points = map.from_sorted c.points.items; staged = c.staged } };
 
-    ghost invariant = { λ c. IsReady c.points.items (vec_len c.points) (vec_capacity c.points) c.aside };
+    ghost invariant = { λ c. IsReady c.points.items (vec_len c.points) (vec_capacity c.points) c.staged };
 }
 
 /// Searches for a time by binary search. Returns `Ok` with its index, or `Err` with the index to insert it at.
-fn place_of(points: &[(Time, i64)], time: Time) -> Result<usize, usize>
+fn index_in(points: &[(Time, i64)], time: Time) -> Result<usize, usize>
     requires { IsRising points.now }
     ensures bound { IsSearchInRange result (length points.now) }
-    ensures place { IsPlaceOf time points.now result }
+    ensures index { IsIndexOf time points.now result }
 {
     points.binary_search_by(|point| point.0.cmp(&time))
 }
 
 /// Inserts a point by binary search, replacing the point with its time.
 #[cold]
-fn put_among<A: Allocator>(points: &mut Vec<(Time, i64), A>, point: (Time, i64))
+fn insert_among<A: Allocator>(points: &mut Vec<(Time, i64), A>, point: (Time, i64))
     requires rising { IsRising points.old.items }
-    requires room { vec_len points.old < vec_capacity points.old }
+    requires spare { vec_len points.old < vec_capacity points.old }
     ensures { points.new.items ≡ put int_cmp point.0 point.1 points.old.items }
 {
-    match place_of(points.as_slice(), point.0) {
+    match index_in(points.as_slice(), point.0) {
         Ok(at) => points[at] = point,
         Err(at) => points.insert(at, point).unwrap(),
     }
 }
 
 /// Inserts a point, replacing the point with its time. Appends it if it comes after all others.
-pub(crate) fn put_point<A: Allocator>(points: &mut Vec<(Time, i64), A>, point: (Time, i64))
+pub(crate) fn insert_point<A: Allocator>(points: &mut Vec<(Time, i64), A>, point: (Time, i64))
     requires rising { IsRising points.old.items }
-    requires room { vec_len points.old < vec_capacity points.old }
+    requires spare { vec_len points.old < vec_capacity points.old }
     ensures { points.new.items ≡ put int_cmp point.0 point.1 points.old.items }
 {
     match points.last() {
         Some(last) if last.0 < point.0 => points.push(point).unwrap(),
-        _ => put_among(points, point),
+        _ => insert_among(points, point),
     }
 }
 
@@ -99,7 +99,7 @@ fn value_among(points: &[(Time, i64)], time: Time) -> Option<i64>
     requires { IsRising points.now }
     ensures { result ≡ find int_cmp time points.now }
 {
-    match place_of(points, time) {
+    match index_in(points, time) {
         Ok(at) => Some(points[at].1),
         Err(_) => None,
     }
@@ -129,11 +129,11 @@ impl<A: Allocator> PlainColumn<A> {
     /// Creates an empty column. Does not allocate.
     pub fn new(alloc: A) -> PlainColumn<A>
         ensures points { result.points ≡ map.empty }
-        ensures none_aside { result.aside ≡ None }
+        ensures none_staged { result.staged ≡ None }
     {
         PlainColumn {
             points: Vec::new(alloc),
-            aside: None,
+            staged: None,
         }
     }
 
@@ -143,11 +143,11 @@ impl<A: Allocator> PlainColumn<A> {
         requires timed { AreTimed points.items }
         ensures points { result.points ≡ map.from_sorted points.items }
         ensures entries { map.entries result.points ≡ points.items }
-        ensures none_aside { result.aside ≡ None }
+        ensures none_staged { result.staged ≡ None }
     {
         PlainColumn {
             points,
-            aside: None,
+            staged: None,
         }
     }
 
@@ -180,18 +180,18 @@ impl<A: Allocator> PlainColumn<A> {
     pub(crate) fn remove_front(&mut self, count: usize)
         requires { count ≤ length (map.entries self.old.points) }
         ensures points { map.entries self.new.points ≡ drop count (map.entries self.old.points) }
-        ensures none_aside { self.new.aside ≡ None }
+        ensures none_staged { self.new.staged ≡ None }
     {
-        self.aside = None;
+        self.staged = None;
         drop_front(&mut self.points, count);
     }
 
     /// Forgets the staged point.
     pub(crate) fn unstage(&mut self)
         ensures points { self.new.points ≡ self.old.points }
-        ensures none_aside { self.new.aside ≡ None }
+        ensures none_staged { self.new.staged ≡ None }
     {
-        self.aside = None;
+        self.staged = None;
     }
 
     /// Returns the value at a time, if there is a point. Doesn't search if the time is after all others.
@@ -205,17 +205,17 @@ impl<A: Allocator> PlainColumn<A> {
 impl<A: Allocator> Column for PlainColumn<A> {
     ghost points = { λ c. c.points };
 
-    ghost aside = { λ c. c.aside };
+    ghost staged = { λ c. c.staged };
 
     fn prepare(&mut self, time: Time, value: i64) -> Result<(), AllocError> {
-        let room = self.points.reserve(1);
-        self.aside = room.is_ok().then_some((time, value));
-        room
+        let spare = self.points.reserve(1);
+        self.staged = spare.is_ok().then_some((time, value));
+        spare
     }
 
     fn commit(&mut self) {
-        let point = self.aside.take().unwrap();
-        put_point(&mut self.points, point);
+        let point = self.staged.take().unwrap();
+        insert_point(&mut self.points, point);
     }
 
     fn range(&self, from: i64, to: i64) -> Points<'_> {
@@ -223,7 +223,7 @@ impl<A: Allocator> Column for PlainColumn<A> {
     }
 
     fn drop_below(&mut self, mark: Time) {
-        self.aside = None;
+        self.staged = None;
         let count = count_before(self.points.as_slice(), mark.nanos());
         drop_front(&mut self.points, count);
     }

@@ -1,8 +1,8 @@
 //! Copies coded blocks: the last one to the end of the bytes, where it can grow, or all into new bytes without gaps.
 ghost use Rattle.std.specs.Prelude.{◌≡◌, ◌+◌, ◌≤◌, vec_len, vec_capacity, IfOk, OnErr};
-ghost use Rattle.ts_raw.specs.CodedPoints.{AreMarks, OthersEndBy, blocks_at};
+ghost use Rattle.ts_raw.specs.CodedPoints.{AreBlockHandles, OthersEndBy, blocks_at};
 
-use crate::mark::Mark;
+use crate::block_handle::BlockHandle;
 use crate::walk::text_of;
 use std::alloc::{AllocError, Allocator};
 use ts_core::reserve_eighth;
@@ -11,56 +11,56 @@ use ts_core::reserve_eighth;
 /// bytes if there is no block. All other blocks end by this offset.
 pub(crate) fn move_last<A: Allocator>(
     bytes: &mut Vec<u8, A>,
-    marks: &mut Vec<Mark, A>,
+    handles: &mut Vec<BlockHandle, A>,
 ) -> Result<usize, AllocError>
-    requires marked { AreMarks bytes.old.items 0 marks.old.items }
-    ensures marked { AreMarks bytes.new.items 0 marks.new.items }
-    ensures blocks { blocks_at bytes.new.items marks.new.items ≡ blocks_at bytes.old.items marks.old.items }
-    ensures others { IfOk result (λ offset. OthersEndBy offset marks.new.items) }
-    ensures kept { OnErr result (marks.new.items ≡ marks.old.items) }
-    ensures marks_room { vec_capacity marks.old ≤ vec_capacity marks.new }
+    requires marked { AreBlockHandles bytes.old.items 0 handles.old.items }
+    ensures marked { AreBlockHandles bytes.new.items 0 handles.new.items }
+    ensures blocks { blocks_at bytes.new.items handles.new.items ≡ blocks_at bytes.old.items handles.old.items }
+    ensures others { IfOk result (λ offset. OthersEndBy offset handles.new.items) }
+    ensures kept { OnErr result (handles.new.items ≡ handles.old.items) }
+    ensures handles_spare { vec_capacity handles.old ≤ vec_capacity handles.new }
 {
     let start = bytes.len();
-    let Some(mark) = marks.last() else {
+    let Some(handle) = handles.last() else {
         return Ok(start);
     };
-    reserve_eighth(bytes, mark.end - mark.start)?;
-    let mark = marks.pop().unwrap();
-    bytes.extend_from_within(mark.start..mark.end).unwrap();
-    let moved = Mark {
+    reserve_eighth(bytes, handle.end - handle.start)?;
+    let handle = handles.pop().unwrap();
+    bytes.extend_from_within(handle.start..handle.end).unwrap();
+    let moved = BlockHandle {
         start,
-        values: mark.values,
+        values: handle.values,
         end: bytes.len(),
-        count: mark.count,
-        before: mark.before,
-        last: mark.last,
+        count: handle.count,
+        before: handle.before,
+        last: handle.last,
     };
-    marks.push(moved).unwrap();
+    handles.push(moved).unwrap();
     Ok(start)
 }
 
 /// Copies the blocks into new bytes, in the order of time.
-fn copied<A: Allocator + Copy>(
+fn copy_blocks<A: Allocator + Copy>(
     alloc: A,
     bytes: &[u8],
-    marks: &[Mark],
+    handles: &[BlockHandle],
     size: usize,
-) -> Result<(Vec<u8, A>, Vec<Mark, A>), AllocError>
-    requires { AreMarks bytes.now 0 marks.now }
-    ensures { IfOk result (λ new. AreMarks new.0.items 0 new.1.items × (blocks_at new.0.items new.1.items ≡ blocks_at bytes.now marks.now)) }
+) -> Result<(Vec<u8, A>, Vec<BlockHandle, A>), AllocError>
+    requires { AreBlockHandles bytes.now 0 handles.now }
+    ensures { IfOk result (λ new. AreBlockHandles new.0.items 0 new.1.items × (blocks_at new.0.items new.1.items ≡ blocks_at bytes.now handles.now)) }
 {
     let mut new_bytes = Vec::with_capacity(alloc, size)?;
-    let mut new_marks = Vec::with_capacity(alloc, marks.len())?;
-    for mark in marks {
+    let mut new_marks = Vec::with_capacity(alloc, handles.len())?;
+    for handle in handles {
         let start = new_bytes.len();
-        new_bytes.extend_from_slice(text_of(bytes, mark))?;
-        let copy = Mark {
+        new_bytes.extend_from_slice(text_of(bytes, handle))?;
+        let copy = BlockHandle {
             start,
-            values: mark.values,
+            values: handle.values,
             end: new_bytes.len(),
-            count: mark.count,
-            before: mark.before,
-            last: mark.last,
+            count: handle.count,
+            before: handle.before,
+            last: handle.last,
         };
         new_marks.push(copy)?;
     }
@@ -68,10 +68,10 @@ fn copied<A: Allocator + Copy>(
 }
 
 /// Returns the number of bytes of all blocks.
-fn blocks_size(marks: &[Mark]) -> usize {
+fn blocks_size(handles: &[BlockHandle]) -> usize {
     let mut size: usize = 0;
-    for mark in marks {
-        size = size.saturating_add(mark.end.saturating_sub(mark.start));
+    for handle in handles {
+        size = size.saturating_add(handle.end.saturating_sub(handle.start));
     }
     size
 }
@@ -80,42 +80,42 @@ fn blocks_size(marks: &[Mark]) -> usize {
 /// the last end.
 fn compact<A: Allocator + Copy>(
     bytes: &mut Vec<u8, A>,
-    marks: &mut Vec<Mark, A>,
+    handles: &mut Vec<BlockHandle, A>,
     size: usize,
 ) -> Result<usize, AllocError>
-    requires marked { AreMarks bytes.old.items 0 marks.old.items }
-    ensures marked { AreMarks bytes.new.items 0 marks.new.items }
-    ensures blocks { blocks_at bytes.new.items marks.new.items ≡ blocks_at bytes.old.items marks.old.items }
-    ensures others { IfOk result (λ offset. OthersEndBy offset marks.new.items) }
-    ensures kept { OnErr result (marks.new.items ≡ marks.old.items) }
+    requires marked { AreBlockHandles bytes.old.items 0 handles.old.items }
+    ensures marked { AreBlockHandles bytes.new.items 0 handles.new.items }
+    ensures blocks { blocks_at bytes.new.items handles.new.items ≡ blocks_at bytes.old.items handles.old.items }
+    ensures others { IfOk result (λ offset. OthersEndBy offset handles.new.items) }
+    ensures kept { OnErr result (handles.new.items ≡ handles.old.items) }
 {
     let alloc = *bytes.allocator();
-    let (new_bytes, new_marks) = copied(alloc, bytes.as_slice(), marks.as_slice(), size)?;
+    let (new_bytes, new_marks) = copy_blocks(alloc, bytes.as_slice(), handles.as_slice(), size)?;
     *bytes = new_bytes;
-    *marks = new_marks;
+    *handles = new_marks;
     Ok(bytes.len())
 }
 
 /// Reserves capacity for `size` bytes. If more than a quarter of the bytes is of no block, the blocks are first copied
 /// into new bytes without gaps. All blocks but the last end by the offset `tail`.
-pub(crate) fn make_room<A: Allocator + Copy>(
+pub(crate) fn reserve_bytes<A: Allocator + Copy>(
     bytes: &mut Vec<u8, A>,
-    marks: &mut Vec<Mark, A>,
+    handles: &mut Vec<BlockHandle, A>,
     tail: &mut usize,
     size: usize,
 ) -> Result<(), AllocError>
-    requires marked { AreMarks bytes.old.items 0 marks.old.items }
-    requires others { OthersEndBy tail.old marks.old.items }
-    ensures marked { AreMarks bytes.new.items 0 marks.new.items }
-    ensures blocks { blocks_at bytes.new.items marks.new.items ≡ blocks_at bytes.old.items marks.old.items }
-    ensures others { OthersEndBy tail.new marks.new.items }
+    requires marked { AreBlockHandles bytes.old.items 0 handles.old.items }
+    requires others { OthersEndBy tail.old handles.old.items }
+    ensures marked { AreBlockHandles bytes.new.items 0 handles.new.items }
+    ensures blocks { blocks_at bytes.new.items handles.new.items ≡ blocks_at bytes.old.items handles.old.items }
+    ensures others { OthersEndBy tail.new handles.new.items }
 {
     if bytes.capacity() - bytes.len() >= size {
         return Ok(());
     }
-    let used = blocks_size(marks.as_slice());
+    let used = blocks_size(handles.as_slice());
     if bytes.len() - used.min(bytes.len()) > bytes.len() / 4 {
-        *tail = compact(bytes, marks, used)?;
+        *tail = compact(bytes, handles, used)?;
     }
     reserve_eighth(bytes, size)
 }

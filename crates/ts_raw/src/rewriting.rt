@@ -3,13 +3,13 @@ ghost use Rattle.std.specs.Prelude.{◌≡◌, ◌+◌, ◌<◌, ◌≤◌, ℤ,
 ghost use Rattle.std.specs.Ordering.{int_cmp};
 ghost use Rattle.std.specs.FinMap.{put};
 ghost use Rattle.ts_block.specs.Blocks.{ArePoints};
-ghost use Rattle.ts_raw.specs.CodedPoints.{IsMark, AreBlocks, points_at, coded_points, numbered, count_of};
-ghost use Rattle.ts_raw.specs.Rewriting.{IsEncoded, AreEncodable, blocks_of, marks_replaced, cut_at, cut_after};
+ghost use Rattle.ts_raw.specs.CodedPoints.{IsBlockHandle, AreBlocks, points_at, coded_points, with_starts, count_in_blocks};
+ghost use Rattle.ts_raw.specs.Rewriting.{IsEncoded, AreEncodable, blocks_of, handles_replaced, cut_in_block, cut_after};
 
 use crate::appending::BLOCK_POINTS;
+use crate::block_handle::BlockHandle;
 use crate::coded::skipped;
-use crate::mark::Mark;
-use crate::plain_column::put_point;
+use crate::plain_column::insert_point;
 use crate::walk::decoder_of;
 use std::alloc::{AllocError, Allocator};
 use ts_block::encode_with_offset;
@@ -23,13 +23,13 @@ const HALVED_POINTS: usize = 64;
 #[derive(Clone, Copy, Drop)]
 pub(crate) struct Rewritten {
     pub(crate) at: usize,
-    pub(crate) first: Mark,
-    pub(crate) second: Option<Mark>,
+    pub(crate) first: BlockHandle,
+    pub(crate) second: Option<BlockHandle>,
 }
 
 /// Returns the number of points to leave out of the block at an index: only the first block has removed ones.
 pub(crate) fn cut_of(at: usize, cut: usize) -> usize
-    ensures { result ≡ cut_at at cut }
+    ensures { result ≡ cut_in_block at cut }
 {
     if at == 0 { cut } else { 0 }
 }
@@ -46,15 +46,15 @@ pub(crate) fn cut_left(at: usize, cut: usize) -> usize
 fn decoded<A: Allocator>(
     alloc: A,
     bytes: &[u8],
-    mark: &Mark,
+    handle: &BlockHandle,
     skip: usize,
 ) -> Result<Vec<(Time, i64), A>, AllocError>
-    requires { IsMark bytes.now mark.now }
-    ensures points { IfOk result (λ points. points.items ≡ drop skip (points_at bytes.now mark.now)) }
-    ensures room { IfOk result (λ points. vec_len points < vec_capacity points) }
+    requires { IsBlockHandle bytes.now handle.now }
+    ensures points { IfOk result (λ points. points.items ≡ drop skip (points_at bytes.now handle.now)) }
+    ensures spare { IfOk result (λ points. vec_len points < vec_capacity points) }
 {
     let mut points = Vec::with_capacity(alloc, BLOCK_POINTS + 1)?;
-    for point in skipped(decoder_of(bytes, mark), skip) {
+    for point in skipped(decoder_of(bytes, handle), skip) {
         points.push(point)?;
     }
     points.reserve(1)?;
@@ -65,16 +65,16 @@ fn decoded<A: Allocator>(
 pub(crate) fn push_points<A: Allocator + Copy>(
     bytes: &mut Vec<u8, A>,
     points: &[(Time, i64)],
-) -> Result<Mark, AllocError>
+) -> Result<BlockHandle, AllocError>
     requires { ArePoints points.now }
     ensures kept { take (vec_len bytes.old) bytes.new.items ≡ bytes.old.items }
-    ensures block { IfOk result (λ mark. IsEncoded bytes.new.items mark points.now) }
+    ensures block { IfOk result (λ handle. IsEncoded bytes.new.items handle points.now) }
 {
     let (block, values) = encode_with_offset(*bytes.allocator(), points)?;
     reserve_eighth(bytes, block.len())?;
     let start = bytes.len();
     bytes.extend_from_slice(block.as_slice()).unwrap();
-    Ok(Mark {
+    Ok(BlockHandle {
         start,
         values,
         end: bytes.len(),
@@ -95,17 +95,17 @@ fn value_of(point: &(Time, i64)) -> i64
 fn changed<A: Allocator>(
     alloc: A,
     bytes: &[u8],
-    mark: &Mark,
+    handle: &BlockHandle,
     skip: usize,
     point: &(Time, i64),
 ) -> Result<Vec<(Time, i64), A>, AllocError>
-    requires marked { IsMark bytes.now mark.now }
-    ensures points { IfOk result (λ points. points.items ≡ put int_cmp point.now.0 point.now.1 (drop skip (points_at bytes.now mark.now))) }
+    requires marked { IsBlockHandle bytes.now handle.now }
+    ensures points { IfOk result (λ points. points.items ≡ put int_cmp point.now.0 point.now.1 (drop skip (points_at bytes.now handle.now))) }
     ensures encodable { IfOk result (λ points. AreEncodable points.items) }
 {
     let _valid = (point.0.nanos(), value_of(point));
-    let mut points = decoded(alloc, bytes, mark, skip)?;
-    put_point(&mut points, *point);
+    let mut points = decoded(alloc, bytes, handle, skip)?;
+    insert_point(&mut points, *point);
     Ok(points)
 }
 
@@ -113,18 +113,18 @@ fn changed<A: Allocator>(
 /// Makes one block, or two halves if there are more than 64 points. `at` is the index of the block.
 pub(crate) fn rewrite<A: Allocator + Copy>(
     bytes: &mut Vec<u8, A>,
-    mark: &Mark,
+    handle: &BlockHandle,
     at: usize,
     skip: usize,
     point: &(Time, i64),
 ) -> Result<Rewritten, AllocError>
-    requires marked { IsMark bytes.old.items mark.now }
+    requires marked { IsBlockHandle bytes.old.items handle.now }
     ensures kept { take (vec_len bytes.old) bytes.new.items ≡ bytes.old.items }
     ensures at { IfOk result (λ new. new.at ≡ at) }
     ensures blocks { IfOk result (λ new. AreBlocks bytes.new.items (blocks_of new)) }
-    ensures points { IfOk result (λ new. coded_points bytes.new.items (blocks_of new) ≡ put int_cmp point.now.0 point.now.1 (drop skip (points_at bytes.old.items mark.now))) }
+    ensures points { IfOk result (λ new. coded_points bytes.new.items (blocks_of new) ≡ put int_cmp point.now.0 point.now.1 (drop skip (points_at bytes.old.items handle.now))) }
 {
-    let points = changed(*bytes.allocator(), bytes.as_slice(), mark, skip, point)?;
+    let points = changed(*bytes.allocator(), bytes.as_slice(), handle, skip, point)?;
     if points.len() <= HALVED_POINTS {
         let first = push_points(bytes, points.as_slice())?;
         return Ok(Rewritten {
@@ -144,69 +144,69 @@ pub(crate) fn rewrite<A: Allocator + Copy>(
 }
 
 /// Returns the number of points in the first `at` blocks, whose counts are right.
-fn counted_to(marks: &[Mark], at: usize) -> usize
-    requires bound { at ≤ length marks.now }
-    requires front { numbered 0 (take at marks.now) ≡ take at marks.now }
-    requires few { count_of marks.now ≤ 18446744073709551615 }
-    ensures { result ≡ count_of (take at marks.now) }
+fn counted_to(handles: &[BlockHandle], at: usize) -> usize
+    requires bound { at ≤ length handles.now }
+    requires front { with_starts 0 (take at handles.now) ≡ take at handles.now }
+    requires few { count_in_blocks handles.now ≤ 18446744073709551615 }
+    ensures { result ≡ count_in_blocks (take at handles.now) }
 {
     if at == 0 {
         return 0;
     }
-    let last = &marks[at - 1];
+    let last = &handles[at - 1];
     last.before + last.count
 }
 
 /// Counts the points before each block from the index `from` on. Returns the number of all points.
-fn renumber(marks: &mut [Mark], from: usize) -> usize
-    requires bound { from ≤ length marks.old }
-    requires front { numbered 0 (take from marks.old) ≡ take from marks.old }
-    requires few { count_of marks.old ≤ 18446744073709551615 }
-    ensures marks { marks.new ≡ numbered 0 marks.old }
-    ensures total { result ≡ count_of marks.old }
+fn renumber(handles: &mut [BlockHandle], from: usize) -> usize
+    requires bound { from ≤ length handles.old }
+    requires front { with_starts 0 (take from handles.old) ≡ take from handles.old }
+    requires few { count_in_blocks handles.old ≤ 18446744073709551615 }
+    ensures handles { handles.new ≡ with_starts 0 handles.old }
+    ensures total { result ≡ count_in_blocks handles.old }
 {
-    let mut total = counted_to(marks, from);
-    for i in from..marks.len() {
-        let count = marks[i].count;
-        marks[i].before = total;
+    let mut total = counted_to(handles, from);
+    for i in from..handles.len() {
+        let count = handles[i].count;
+        handles[i].before = total;
         total += count;
     }
     total
 }
 
 /// Replaces the block at an index with new blocks. There must be capacity for a mark.
-fn put_blocks<A: Allocator>(marks: &mut Vec<Mark, A>, new: &Rewritten)
-    requires within { new.now.at < length marks.old.items }
-    requires room { vec_len marks.old < vec_capacity marks.old }
-    ensures { marks.new.items ≡ marks_replaced new.now marks.old.items }
+fn put_blocks<A: Allocator>(handles: &mut Vec<BlockHandle, A>, new: &Rewritten)
+    requires within { new.now.at < length handles.old.items }
+    requires spare { vec_len handles.old < vec_capacity handles.old }
+    ensures { handles.new.items ≡ handles_replaced new.now handles.old.items }
 {
-    marks[new.at] = new.first;
+    handles[new.at] = new.first;
     match new.second {
-        Some(second) => marks.insert(new.at + 1, second).unwrap(),
+        Some(second) => handles.insert(new.at + 1, second).unwrap(),
         None => (),
     }
 }
 
 /// Replaces a block with new ones. There must be capacity for a mark. Returns the number of all points.
-pub(crate) fn replace<A: Allocator>(marks: &mut Vec<Mark, A>, new: &Rewritten) -> usize
-    requires within { new.now.at < length marks.old.items }
-    requires room { vec_len marks.old < vec_capacity marks.old }
-    requires front { numbered 0 (take new.now.at marks.old.items) ≡ take new.now.at marks.old.items }
-    requires few { count_of (marks_replaced new.now marks.old.items) ≤ 18446744073709551615 }
-    ensures marks { marks.new.items ≡ numbered 0 (marks_replaced new.now marks.old.items) }
-    ensures total { result ≡ count_of (marks_replaced new.now marks.old.items) }
+pub(crate) fn replace<A: Allocator>(handles: &mut Vec<BlockHandle, A>, new: &Rewritten) -> usize
+    requires within { new.now.at < length handles.old.items }
+    requires spare { vec_len handles.old < vec_capacity handles.old }
+    requires front { with_starts 0 (take new.now.at handles.old.items) ≡ take new.now.at handles.old.items }
+    requires few { count_in_blocks (handles_replaced new.now handles.old.items) ≤ 18446744073709551615 }
+    ensures handles { handles.new.items ≡ with_starts 0 (handles_replaced new.now handles.old.items) }
+    ensures total { result ≡ count_in_blocks (handles_replaced new.now handles.old.items) }
 {
-    put_blocks(marks, new);
-    renumber(marks.as_mut_slice(), new.at)
+    put_blocks(handles, new);
+    renumber(handles.as_mut_slice(), new.at)
 }
 
 /// Removes the first `count` blocks. Returns the number of points of the others.
-pub(crate) fn remove_front<A: Allocator>(marks: &mut Vec<Mark, A>, count: usize) -> usize
-    requires bound { count ≤ length marks.old.items }
-    requires few { count_of (drop count marks.old.items) ≤ 18446744073709551615 }
-    ensures marks { marks.new.items ≡ numbered 0 (drop count marks.old.items) }
-    ensures total { result ≡ count_of (drop count marks.old.items) }
+pub(crate) fn remove_front<A: Allocator>(handles: &mut Vec<BlockHandle, A>, count: usize) -> usize
+    requires bound { count ≤ length handles.old.items }
+    requires few { count_in_blocks (drop count handles.old.items) ≤ 18446744073709551615 }
+    ensures handles { handles.new.items ≡ with_starts 0 (drop count handles.old.items) }
+    ensures total { result ≡ count_in_blocks (drop count handles.old.items) }
 {
-    drop(marks.drain(..count));
-    renumber(marks.as_mut_slice(), 0)
+    drop(handles.drain(..count));
+    renumber(handles.as_mut_slice(), 0)
 }

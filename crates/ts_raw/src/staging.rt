@@ -1,12 +1,12 @@
 //! Stages a point: allocates all that its insertion needs.
 ghost use Rattle.std.specs.Prelude.{◌≡◌, ◌+◌, ◌<◌, ◌≤◌, length, take, vec_len, vec_capacity, IfOk, OnOk};
-ghost use Rattle.ts_raw.specs.CodedPoints.{AreMarks, OthersEndBy, IsCounted, blocks_at, AllEndBefore, IsLastBefore, CutFits};
+ghost use Rattle.ts_raw.specs.CodedPoints.{AreBlockHandles, OthersEndBy, AreCountedBlocks, blocks_at, AllEndBefore, IsLastBefore, CutFits};
 ghost use Rattle.ts_raw.specs.BlockColumns.{IsStaged};
 ghost use Rattle.ts_raw.specs.Rewriting.{IsRewritten};
 
 use crate::appending::{POINT_BYTES, blocks_before, is_at_end, is_full};
-use crate::mark::Mark;
-use crate::relocating::{make_room, move_last};
+use crate::block_handle::BlockHandle;
+use crate::relocating::{move_last, reserve_bytes};
 use crate::rewriting::{Rewritten, cut_of, rewrite};
 use std::alloc::{AllocError, Allocator};
 use ts_core::{Time, reserve_eighth};
@@ -22,80 +22,80 @@ pub(crate) struct Staged {
 /// end by the offset `tail`.
 fn open_last<A: Allocator>(
     bytes: &mut Vec<u8, A>,
-    marks: &mut Vec<Mark, A>,
+    handles: &mut Vec<BlockHandle, A>,
     tail: &mut usize,
     total: usize,
 ) -> Result<(), AllocError>
-    requires marked { AreMarks bytes.old.items 0 marks.old.items }
-    requires others { OthersEndBy tail.old marks.old.items }
-    ensures marked { AreMarks bytes.new.items 0 marks.new.items }
-    ensures blocks { blocks_at bytes.new.items marks.new.items ≡ blocks_at bytes.old.items marks.old.items }
-    ensures others { OthersEndBy tail.new marks.new.items }
-    ensures marks_room { vec_capacity marks.old ≤ vec_capacity marks.new }
+    requires marked { AreBlockHandles bytes.old.items 0 handles.old.items }
+    requires others { OthersEndBy tail.old handles.old.items }
+    ensures marked { AreBlockHandles bytes.new.items 0 handles.new.items }
+    ensures blocks { blocks_at bytes.new.items handles.new.items ≡ blocks_at bytes.old.items handles.old.items }
+    ensures others { OthersEndBy tail.new handles.new.items }
+    ensures handles_spare { vec_capacity handles.old ≤ vec_capacity handles.new }
 {
-    let Some(mark) = marks.last() else {
+    let Some(handle) = handles.last() else {
         return Ok(());
     };
-    if is_full(mark) || is_at_end(mark, bytes.len(), *tail) {
+    if is_full(handle) || is_at_end(handle, bytes.len(), *tail) {
         return Ok(());
     }
-    *tail = move_last(bytes, marks)?;
+    *tail = move_last(bytes, handles)?;
     Ok(())
 }
 
 /// Reserves capacity for a point after all others.
 fn stage_last<A: Allocator>(
     bytes: &mut Vec<u8, A>,
-    marks: &mut Vec<Mark, A>,
+    handles: &mut Vec<BlockHandle, A>,
     tail: &mut usize,
     total: usize,
     time: Time,
 ) -> Result<(), AllocError>
-    requires marked { AreMarks bytes.old.items 0 marks.old.items }
-    requires others { OthersEndBy tail.old marks.old.items }
-    requires later { AllEndBefore marks.old.items time }
-    ensures marked { AreMarks bytes.new.items 0 marks.new.items }
-    ensures blocks { blocks_at bytes.new.items marks.new.items ≡ blocks_at bytes.old.items marks.old.items }
-    ensures others { OthersEndBy tail.new marks.new.items }
-    ensures later { AllEndBefore marks.new.items time }
-    ensures room { OnOk result (vec_len bytes.new + 20 ≤ vec_capacity bytes.new) }
-    ensures marks_room { OnOk result (vec_len marks.new < vec_capacity marks.new) }
+    requires marked { AreBlockHandles bytes.old.items 0 handles.old.items }
+    requires others { OthersEndBy tail.old handles.old.items }
+    requires later { AllEndBefore handles.old.items time }
+    ensures marked { AreBlockHandles bytes.new.items 0 handles.new.items }
+    ensures blocks { blocks_at bytes.new.items handles.new.items ≡ blocks_at bytes.old.items handles.old.items }
+    ensures others { OthersEndBy tail.new handles.new.items }
+    ensures later { AllEndBefore handles.new.items time }
+    ensures spare { OnOk result (vec_len bytes.new + 20 ≤ vec_capacity bytes.new) }
+    ensures handles_spare { OnOk result (vec_len handles.new < vec_capacity handles.new) }
 {
-    open_last(bytes, marks, tail, total)?;
+    open_last(bytes, handles, tail, total)?;
     reserve_eighth(bytes, POINT_BYTES)?;
-    reserve_eighth(marks, 1)
+    reserve_eighth(handles, 1)
 }
 
 /// Encodes the block of a point anew. `at` is the index of the first block that doesn't end before the point, `cut` the
 /// number of removed points.
 fn stage_among<A: Allocator + Copy>(
     bytes: &mut Vec<u8, A>,
-    marks: &mut Vec<Mark, A>,
+    handles: &mut Vec<BlockHandle, A>,
     at: usize,
     cut: usize,
     point: &(Time, i64),
 ) -> Result<Rewritten, AllocError>
-    requires marked { AreMarks bytes.old.items 0 marks.old.items }
-    requires cut { CutFits cut (blocks_at bytes.old.items marks.old.items) }
-    requires at { IsLastBefore point.now.0 marks.old.items at }
-    requires within { at < length marks.old.items }
-    ensures items { marks.new.items ≡ marks.old.items }
+    requires marked { AreBlockHandles bytes.old.items 0 handles.old.items }
+    requires cut { CutFits cut (blocks_at bytes.old.items handles.old.items) }
+    requires at { IsLastBefore point.now.0 handles.old.items at }
+    requires within { at < length handles.old.items }
+    ensures items { handles.new.items ≡ handles.old.items }
     ensures kept { take (vec_len bytes.old) bytes.new.items ≡ bytes.old.items }
-    ensures marks_room { OnOk result (vec_len marks.new < vec_capacity marks.new) }
-    ensures rewritten { IfOk result (λ new. IsRewritten bytes.new.items marks.new.items cut point.now new) }
+    ensures handles_spare { OnOk result (vec_len handles.new < vec_capacity handles.new) }
+    ensures rewritten { IfOk result (λ new. IsRewritten bytes.new.items handles.new.items cut point.now new) }
 {
-    reserve_eighth(marks, 1)?;
-    let mark = marks[at];
-    rewrite(bytes, &mark, at, cut_of(at, cut), point)
+    reserve_eighth(handles, 1)?;
+    let handle = handles[at];
+    rewrite(bytes, &handle, at, cut_of(at, cut), point)
 }
 
 /// Returns about as many bytes as a point takes: if its block is to be encoded anew, those of the block.
-fn needed_bytes(marks: &[Mark], time: Time) -> usize {
-    match marks.last() {
+fn needed_bytes(handles: &[BlockHandle], time: Time) -> usize {
+    match handles.last() {
         Some(last) if last.last >= time => {
-            let at = marks.partition_point(|mark| mark.last < time);
-            let size = match marks.get(at) {
-                Some(mark) => mark.end.saturating_sub(mark.start),
+            let at = handles.partition_point(|handle| handle.last < time);
+            let size = match handles.get(at) {
+                Some(handle) => handle.end.saturating_sub(handle.start),
                 None => 0,
             };
             size.saturating_add(2 * POINT_BYTES)
@@ -108,34 +108,39 @@ fn needed_bytes(marks: &[Mark], time: Time) -> usize {
 /// offset `tail`; the first `cut` points of `total` were removed.
 pub(crate) fn stage<A: Allocator + Copy>(
     bytes: &mut Vec<u8, A>,
-    marks: &mut Vec<Mark, A>,
+    handles: &mut Vec<BlockHandle, A>,
     tail: &mut usize,
     total: usize,
     cut: usize,
     point: (Time, i64),
 ) -> Result<Staged, AllocError>
-    requires counted { IsCounted bytes.old.items marks.old.items total }
-    requires others { OthersEndBy tail.old marks.old.items }
-    requires cut { CutFits cut (blocks_at bytes.old.items marks.old.items) }
-    ensures counted { IsCounted bytes.new.items marks.new.items total }
-    ensures blocks { blocks_at bytes.new.items marks.new.items ≡ blocks_at bytes.old.items marks.old.items }
-    ensures others { OthersEndBy tail.new marks.new.items }
+    requires counted { AreCountedBlocks bytes.old.items handles.old.items total }
+    requires others { OthersEndBy tail.old handles.old.items }
+    requires cut { CutFits cut (blocks_at bytes.old.items handles.old.items) }
+    ensures counted { AreCountedBlocks bytes.new.items handles.new.items total }
+    ensures blocks { blocks_at bytes.new.items handles.new.items ≡ blocks_at bytes.old.items handles.old.items }
+    ensures others { OthersEndBy tail.new handles.new.items }
     ensures point { IfOk result (λ staged. staged.point ≡ point) }
-    ensures staged { IfOk result (λ staged. IsStaged bytes.new.items marks.new.items total cut (vec_capacity bytes.new) (vec_capacity marks.new) staged) }
+    ensures staged { IfOk result (λ staged. IsStaged bytes.new.items handles.new.items total cut (vec_capacity bytes.new) (vec_capacity handles.new) staged) }
 {
     if total == usize::MAX {
         return Err(AllocError);
     }
-    make_room(bytes, marks, tail, needed_bytes(marks.as_slice(), point.0))?;
-    let at = blocks_before(marks.as_slice(), point.0);
-    if at == marks.len() {
-        stage_last(bytes, marks, tail, total, point.0)?;
+    reserve_bytes(
+        bytes,
+        handles,
+        tail,
+        needed_bytes(handles.as_slice(), point.0),
+    )?;
+    let at = blocks_before(handles.as_slice(), point.0);
+    if at == handles.len() {
+        stage_last(bytes, handles, tail, total, point.0)?;
         return Ok(Staged {
             point,
             rewritten: None,
         });
     }
-    let new = stage_among(bytes, marks, at, cut, &point)?;
+    let new = stage_among(bytes, handles, at, cut, &point)?;
     Ok(Staged {
         point,
         rewritten: Some(new),

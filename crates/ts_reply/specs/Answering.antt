@@ -26,7 +26,7 @@ use Rattle.ts_ql.specs.QueryFaultText.{query_fault_text}
 use Rattle.ts_ql.specs.Selects.{Select}
 use Rattle.ts_reply.specs.declared.epoch.Epoch.{Epoch}
 use Rattle.ts_reply.specs.Outcomes.{Outcome, Fault, rows_over}
-use Rattle.ts_reply.specs.Replies.{TellsOutcomes, refusal_text}
+use Rattle.ts_reply.specs.Replies.{TellsOutcomes, refusal_reply_text}
 
 -- Outcome of a query: its rows over all facts ever accepted if it has a plan, else the error of planning.
 pub data IsPlannedOutcome (opening : Settings) (h : History) (s : Select) : Outcome → Type 0 where
@@ -69,9 +69,9 @@ pub data IsReplyTo (opening : Settings) (h : History) (queries : List Select) (c
   -- the outcomes of the queries
   good : (body : Text) (outcomes : List Outcome) → is_of_several certificate queries ≡ false → AreOutcomes (IsOutcome opening h certificate) queries outcomes → TellsOutcomes epoch outcomes body → IsReplyTo opening h queries certificate epoch true body
   -- a certificate is given with several queries
-  several : is_of_several certificate queries ≡ true → IsReplyTo opening h queries certificate epoch false (refusal_text several_text)
+  several : is_of_several certificate queries ≡ true → IsReplyTo opening h queries certificate epoch false (refusal_reply_text several_text)
 
 -- The reply to a text at time `now`: the reply to its queries, or its first error.
 pub data IsReply (opening : Settings) (h : History) (now : ℤ) (text : Text) (certificate : Option Text) (epoch : Epoch) : Bool → Text → Type 0 where
   read : (queries : List Select) (good : Bool) (body : Text) → TextSays now text queries → IsReplyTo opening h queries certificate epoch good body → IsReply opening h now text certificate epoch good body
-  bad : (fault : queries.Fault) → TextFault now text fault → IsReply opening h now text certificate epoch false (refusal_text (query_fault_text fault))
+  bad : (fault : queries.Fault) → TextFault now text fault → IsReply opening h now text certificate epoch false (refusal_reply_text (query_fault_text fault))

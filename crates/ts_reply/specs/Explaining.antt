@@ -18,7 +18,7 @@ use Rattle.ts_ql.specs.Selects.{Select}
 use Rattle.ts_reply.specs.declared.epoch.Epoch.TheVariants.{Text as AsText}
 use Rattle.ts_reply.specs.Answering.{AreOutcomes}
 use Rattle.ts_reply.specs.Outcomes.{Outcome, Certificate, Fault}
-use Rattle.ts_reply.specs.Replies.{TellsOutcomes, refusal_text}
+use Rattle.ts_reply.specs.Replies.{TellsOutcomes, refusal_reply_text}
 
 -- Explanation of a query: the certificate of its plan, or the error of planning.
 pub data IsExplained (opening : Settings) (h : History) (s : Select) : Outcome → Type 0 where
@@ -30,4 +30,4 @@ pub data IsExplanation (opening : Settings) (h : History) (now : ℤ) (text : Te
   -- the explanations of the text's queries; no time is written, so any format would do
   good : (body : Text) (queries : List Select) (outcomes : List Outcome) → TextSays now text queries → AreOutcomes (IsExplained opening h) queries outcomes → TellsOutcomes AsText outcomes body → IsExplanation opening h now text true body
   -- the first error of the text
-  bad : (fault : queries.Fault) → TextFault now text fault → IsExplanation opening h now text false (refusal_text (query_fault_text fault))
+  bad : (fault : queries.Fault) → TextFault now text fault → IsExplanation opening h now text false (refusal_reply_text (query_fault_text fault))

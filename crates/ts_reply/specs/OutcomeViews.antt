@@ -11,5 +11,5 @@ outcome_view (variants.Rows rows) = rows_outcome rows
 outcome_view (variants.Certificate text) = Certificate (string_bytes text)
 outcome_view (variants.Fault fault) = Fault (string_bytes fault)
 
-abbrev pub handed_in : Option (Bor Text) → Option Text
-handed_in certificate = option_map (λ (text : Bor Text). text.now) certificate
+abbrev pub given_text : Option (Bor Text) → Option Text
+given_text certificate = option_map (λ (text : Bor Text). text.now) certificate

@@ -133,5 +133,5 @@ TellsOutcomes epoch outcomes text = (results : Items) × AreResults epoch 0 outc
 abbrev pub refusal_data : Text → Data
 refusal_data fault = object (member (codes "error") (string fault) no_members)
 
-abbrev pub refusal_text : Text → Text
-refusal_text fault = compact_text (refusal_data fault)
+abbrev pub refusal_reply_text : Text → Text
+refusal_reply_text fault = compact_text (refusal_data fault)

@@ -5,7 +5,7 @@ ghost use Rattle.ts_core.specs.plans.Pieces.{IsValid};
 ghost use Rattle.ts_core.specs.store.StoreData.{OfEachHistory, ShowsEach};
 ghost use Rattle.ts_reply.specs.Answering.{IsPlannedOutcome, IsChecked, IsCertified, IsOutcome, AreOutcomes, is_of_several, IsReplyTo, IsReply};
 ghost use Rattle.ts_reply.specs.Outcomes.{rows_outcome, rows_over};
-ghost use Rattle.ts_reply.specs.OutcomeViews.{outcome_view, handed_in};
+ghost use Rattle.ts_reply.specs.OutcomeViews.{outcome_view, given_text};
 
 use crate::epoch::Epoch;
 use crate::faults::{
@@ -125,7 +125,7 @@ fn outcome_of<'a, A: Allocator + Copy + 'a>(
     query: &Query<A>,
     certificate: Option<&str>,
 ) -> Result<Outcome<'a, A>, AllocError>
-    ensures { IfOk result (λ o. OfEachHistory store.now (λ opening h. IsOutcome opening h (handed_in certificate.entry) query.now (outcome_view o))) }
+    ensures { IfOk result (λ o. OfEachHistory store.now (λ opening h. IsOutcome opening h (given_text certificate.entry) query.now (outcome_view o))) }
 {
     match certificate {
         None => planned(alloc, json, store, query),
@@ -141,7 +141,7 @@ fn outcomes_of<'a, A: Allocator + Copy + 'a>(
     queries: &[Query<A>],
     certificate: Option<&str>,
 ) -> Result<Vec<Outcome<'a, A>, A>, AllocError>
-    ensures { IfOk result (λ v. OfEachHistory store.now (λ opening h. AreOutcomes (IsOutcome opening h (handed_in certificate.entry)) queries.now (map outcome_view v.items))) }
+    ensures { IfOk result (λ v. OfEachHistory store.now (λ opening h. AreOutcomes (IsOutcome opening h (given_text certificate.entry)) queries.now (map outcome_view v.items))) }
 {
     let mut outcomes = Vec::new(alloc);
     for query in queries {
@@ -152,7 +152,7 @@ fn outcomes_of<'a, A: Allocator + Copy + 'a>(
 
 /// Returns true if a certificate is given and there are several queries.
 fn is_of_several<A: Allocator>(certificate: Option<&str>, queries: &[Query<A>]) -> bool
-    ensures { result ≡ is_of_several (handed_in certificate.entry) queries.now }
+    ensures { result ≡ is_of_several (given_text certificate.entry) queries.now }
 {
     match certificate {
         None => false,
@@ -169,7 +169,7 @@ fn reply_to<A: Allocator + Copy>(
     certificate: Option<&str>,
     epoch: Epoch,
 ) -> Result<Reply, AllocError>
-    ensures { IfOk result (λ r. OfEachHistory store.now (λ opening h. IsReplyTo opening h queries.now (handed_in certificate.entry) epoch r.good (string_bytes r.body))) }
+    ensures { IfOk result (λ r. OfEachHistory store.now (λ opening h. IsReplyTo opening h queries.now (given_text certificate.entry) epoch r.good (string_bytes r.body))) }
 {
     if is_of_several(certificate, queries) {
         let body = refusal_of_several(json)?;
@@ -192,7 +192,7 @@ pub fn answer<A: Allocator + Copy>(
     certificate: Option<&str>,
     epoch: Epoch,
 ) -> Result<Reply, AllocError>
-    ensures { IfOk result (λ r. OfEachHistory store.now (λ opening h. IsReply opening h now text.now (handed_in certificate.entry) epoch r.good (string_bytes r.body))) }
+    ensures { IfOk result (λ r. OfEachHistory store.now (λ opening h. IsReply opening h now text.now (given_text certificate.entry) epoch r.good (string_bytes r.body))) }
 {
     match parse(alloc, text, now) {
         Ok(queries) => reply_to(alloc, json, store, queries.as_slice(), certificate, epoch),

@@ -5,7 +5,7 @@ ghost use Rattle.ts_plan.specs.PlanTexts.{plan_fault_text};
 ghost use Rattle.ts_ql.specs.QueryFaults.{as_fault};
 ghost use Rattle.ts_ql.specs.QueryFaultText.{query_fault_text};
 ghost use Rattle.ts_reply.specs.Answering.{several_text};
-ghost use Rattle.ts_reply.specs.Replies.{refusal_text};
+ghost use Rattle.ts_reply.specs.Replies.{refusal_reply_text};
 
 use crate::results::refusal_json;
 use std::alloc::{AllocError, Global};
@@ -46,7 +46,7 @@ pub(crate) fn check_fault_text(json: Global, fault: CheckFault) -> Result<String
 
 /// Returns the body of a reply that refuses a text with its first error.
 pub(crate) fn refusal_of(json: Global, fault: &QlFault<'_>) -> Result<String, AllocError>
-    ensures { IfOk result (λ s. string_bytes s ≡ refusal_text (query_fault_text (as_fault fault.now))) }
+    ensures { IfOk result (λ s. string_bytes s ≡ refusal_reply_text (query_fault_text (as_fault fault.now))) }
 {
     let mut text = String::new(json);
     fault.text_to(&mut text)?;
@@ -55,7 +55,7 @@ pub(crate) fn refusal_of(json: Global, fault: &QlFault<'_>) -> Result<String, Al
 
 /// Returns the body of a reply that refuses a certificate given with several queries.
 pub(crate) fn refusal_of_several(json: Global) -> Result<String, AllocError>
-    ensures { IfOk result (λ s. string_bytes s ≡ refusal_text several_text) }
+    ensures { IfOk result (λ s. string_bytes s ≡ refusal_reply_text several_text) }
 {
     let mut text = String::new(json);
     FaultCode::SeveralStatements.text_to(FaultDetail::Alone, &mut text)?;

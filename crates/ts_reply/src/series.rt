@@ -3,7 +3,7 @@ ghost use Rattle.std.specs.Prelude.{◌≡◌, ◌∷◌, ◌++◌, map, codes, 
 ghost use Rattle.serde_json.specs.Data.{object, member, no_members, string};
 ghost use Rattle.serde_json.specs.View.{view, members_view};
 ghost use Rattle.serde_json.specs.Written.{compact_text};
-ghost use Rattle.ts_exec.specs.Lent.{lent};
+ghost use Rattle.ts_exec.specs.Borrowed.{borrowed};
 ghost use Rattle.ts_ql.specs.Selects.{texts};
 ghost use Rattle.ts_reply.specs.AppendedData.{AppendsData};
 ghost use Rattle.ts_reply.specs.Replies.{column_data, tags_among, IsSeriesData};
@@ -54,7 +54,7 @@ fn put_tags<A: Allocator>(
     tags: &[String<A>],
     values: &[&str],
 ) -> Result<(), AllocError>
-    ensures { OnOk result (members_view members.new.entries ≡ tags_among (members_view members.old.entries) (texts tags.now) (lent values.now)) }
+    ensures { OnOk result (members_view members.new.entries ≡ tags_among (members_view members.old.entries) (texts tags.now) (borrowed values.now)) }
 {
     match (tags.split_first(), values.split_first()) {
         (Some((tag, tags)), Some((value, values))) => {
@@ -77,7 +77,7 @@ fn push_tag_map<A: Allocator>(
     tags: &[String<A>],
     values: &[&str],
 ) -> Result<(), AllocError>
-    ensures { OnOk result (string_bytes text.new ≡ string_bytes text.old ++ compact_text (object (tags_among no_members (texts tags.now) (lent values.now)))) }
+    ensures { OnOk result (string_bytes text.new ≡ string_bytes text.old ++ compact_text (object (tags_among no_members (texts tags.now) (borrowed values.now)))) }
 {
     let mut members = Map::new(alloc);
     put_tags(&mut members, alloc, tags, values)?;
@@ -102,7 +102,7 @@ fn push_tags<A: Allocator>(
     tags: &[String<A>],
     values: &[&str],
 ) -> Result<(), AllocError>
-    ensures { OnOk result (string_bytes text.new ≡ string_bytes text.old ++ grouped_tags_text (texts tags.now) (lent values.now)) }
+    ensures { OnOk result (string_bytes text.new ≡ string_bytes text.old ++ grouped_tags_text (texts tags.now) (borrowed values.now)) }
 {
     if tags.is_empty() {
         return Ok(());

@@ -8,7 +8,7 @@ use Rattle.ts_core.specs.declared.io.read_ahead.ReadFault.{ReadFault}
 use Rattle.ts_script.specs.ScriptLines.{onto_first, lines_of, ended_lines}
 use Rattle.ts_script.specs.ReaderState.{ReaderState}
 use Rattle.memchr.specs.Find.{Nowhere, Passes, is_byte}
-use Rattle.ts_script.specs.LineReading.{first_line, after_line, has_lf, IsLineEnd, LineIs, AreEnded, AreLines, IsTextOf, EndIsOver, IsNext, to_come, next_of, result_at_end}
+use Rattle.ts_script.specs.LineReading.{first_line, after_line, has_lf, IsLineEnd, LineIs, AreEnded, AreLines, IsTextOf, EndIsOver, IsNext, lines_to_come, next_after_line, result_at_end}
 use Rattle.ts_script.specs.declared.line_reader.Next.{Next}
 use Rattle.ts_script.specs.declared.line_reader.Next.TheVariants.{Line, End}
 
@@ -138,7 +138,7 @@ lines_join true s t ks ls a b = (a t).0 ∙ ap (λ l. ks ++ l) b
 -- ---- the next line
 
 -- the text of a line that was found
-told : (text line : List ℕ) (long : Bool) → LineIs text line long → IsTextOf text (next_of long) line
+told : (text line : List ℕ) (long : Bool) → LineIs text line long → IsTextOf text (next_after_line long) line
 told text line true kept = kept
 told text line false kept = kept.0
 
@@ -185,7 +185,7 @@ so_far_more all buffered remaining now bytes line line' long long' so lf kept ke
     }
 
 -- an LF ends a line, and never the script
-pub next_is_some : (long : Bool) → next_of long ≡ End → ⊥
+pub next_is_some : (long : Bool) → next_after_line long ≡ End → ⊥
 next_is_some true e = cc
 next_is_some false e = cc
 
@@ -209,15 +209,15 @@ abbrev pub Kept : ReaderState → ReaderState → Type 0
 Kept now new = (before : List ℕ) → LineIs before now.line now.long → LineIs (before ++ first_line now.ahead.buffered) new.line new.long
 
 pub found_told : (begun start now new : ReaderState) (input input' : Input) (next : Next) (bytes : List ℕ) → begun.ahead.ended ≡ false → new.ahead.ended ≡ false → start.ahead.buffered ≡ begun.ahead.buffered
-    → SoFar (to_come start input) (to_come now input') bytes now.line now.long → has_lf now.ahead.buffered ≡ true → Kept now new → new.ahead.buffered ≡ after_line now.ahead.buffered → next ≡ next_of new.long
+    → SoFar (lines_to_come start input) (lines_to_come now input') bytes now.line now.long → has_lf now.ahead.buffered ≡ true → Kept now new → new.ahead.buffered ≡ after_line now.ahead.buffered → next ≡ next_after_line new.long
     → IsNext begun input next new input'
 found_told begun start now new input input' next bytes going goes same so lf kept left is =
     let text = bytes ++ first_line now.ahead.buffered in
-    let came = found_came (to_come start input) now.ahead.buffered input'.remaining bytes so.before lf in
+    let came = found_came (lines_to_come start input) now.ahead.buffered input'.remaining bytes so.before lf in
     record {
       bytes = text ++ 10 ∷ [];
-      came = subst (λ (l : List ℕ). Consumes (prepend_known l input.remaining) (to_come new input') (text ++ 10 ∷ [])) same
-          (subst (λ (l : List ℕ). Consumes (to_come start input) (prepend_known l input'.remaining) (text ++ 10 ∷ [])) (sym left) came);
+      came = subst (λ (l : List ℕ). Consumes (prepend_known l input.remaining) (lines_to_come new input') (text ++ 10 ∷ [])) same
+          (subst (λ (l : List ℕ). Consumes (lines_to_come start input) (prepend_known l input'.remaining) (text ++ 10 ∷ [])) (sym left) came);
       line = λ some.
           let text_is = subst (λ (n : Next). IsTextOf text n new.line) (sym is) (told text new.line new.long (kept bytes so.kept)) in
           let lines = subst (λ (e : Bool). AreLines e (text ++ 10 ∷ []) (text ∷ [])) (sym goes) (one_ended text (no_lf_before bytes now.ahead.buffered so.no_lf)) in
@@ -226,11 +226,11 @@ found_told begun start now new input input' next bytes going goes same so lf kep
     }
 
 pub last_told : (begun start new : ReaderState) (input input' : Input) (next : Next) (bytes : List ℕ) → begun.ahead.ended ≡ false → new.ahead.ended ≡ true → start.ahead.buffered ≡ begun.ahead.buffered
-    → SoFar (to_come start input) (to_come new input') bytes new.line new.long → next ≡ result_at_end new.line new.long → IsNext begun input next new input'
+    → SoFar (lines_to_come start input) (lines_to_come new input') bytes new.line new.long → next ≡ result_at_end new.line new.long → IsNext begun input next new input'
 last_told begun start new input input' next bytes going over same so is =
     record {
       bytes = bytes;
-      came = subst (λ (l : List ℕ). Consumes (prepend_known l input.remaining) (to_come new input') bytes) same so.before;
+      came = subst (λ (l : List ℕ). Consumes (prepend_known l input.remaining) (lines_to_come new input') bytes) same so.before;
       line = λ some.
           let l = last_line bytes new.line new.long so.no_lf so.kept (λ e. some (is ∙ e)) in
           let text_is = subst (λ (n : Next). IsTextOf bytes n new.line) (sym is) l.0 in
@@ -239,15 +239,15 @@ last_told begun start new input input' next bytes going over same so is =
       over = λ e. (last_over bytes new.line new.long so.kept (sym is ∙ e), over);
     }
 
-pub more_told : (all : Option (List ℕ)) (now mid new : ReaderState) (input input' : Input) (bytes : List ℕ) → SoFar all (to_come now input) bytes now.line now.long
-    → has_lf now.ahead.buffered ≡ false → Kept now mid → mid.ahead.buffered ≡ after_line now.ahead.buffered → Keeps (to_come mid input) (to_come new input') → new.line ≡ mid.line → new.long ≡ mid.long
-    → (bytes' : List ℕ) × SoFar all (to_come new input') bytes' new.line new.long
+pub more_told : (all : Option (List ℕ)) (now mid new : ReaderState) (input input' : Input) (bytes : List ℕ) → SoFar all (lines_to_come now input) bytes now.line now.long
+    → has_lf now.ahead.buffered ≡ false → Kept now mid → mid.ahead.buffered ≡ after_line now.ahead.buffered → Keeps (lines_to_come mid input) (lines_to_come new input') → new.line ≡ mid.line → new.long ≡ mid.long
+    → (bytes' : List ℕ) × SoFar all (lines_to_come new input') bytes' new.line new.long
 more_told all now mid new input input' bytes so lf kept left keeps line long =
-    let k = subst (λ (l : List ℕ). Keeps (prepend_known l input.remaining) (to_come new input')) left keeps in
-    let r = so_far_more all now.ahead.buffered input.remaining (to_come new input') bytes now.line mid.line now.long mid.long so lf (kept bytes so.kept) k in (
+    let k = subst (λ (l : List ℕ). Keeps (prepend_known l input.remaining) (lines_to_come new input')) left keeps in
+    let r = so_far_more all now.ahead.buffered input.remaining (lines_to_come new input') bytes now.line mid.line now.long mid.long so lf (kept bytes so.kept) k in (
       bytes ++ first_line now.ahead.buffered,
-      subst (λ (b : Bool). SoFar all (to_come new input') (bytes ++ first_line now.ahead.buffered) new.line b) (sym long)
-          (subst (λ (l : List ℕ). SoFar all (to_come new input') (bytes ++ first_line now.ahead.buffered) l mid.long) (sym line) r),
+      subst (λ (b : Bool). SoFar all (lines_to_come new input') (bytes ++ first_line now.ahead.buffered) new.line b) (sym long)
+          (subst (λ (l : List ℕ). SoFar all (lines_to_come new input') (bytes ++ first_line now.ahead.buffered) l mid.long) (sym line) r),
     )
 
 pub flipped : (more ended : Bool) → more ≡ not ended → more ≡ false → ended ≡ true

@@ -12,7 +12,7 @@ use Rattle.ts_core.specs.moves.StoreMoves.{run_begun}
 use Rattle.ts_core.specs.store.Marks.{Marks, marks_of}
 use Rattle.ts_core.specs.store.StoreStates.{StandsFor}
 use Rattle.ts_core.specs.store.History.{History, Begin, Step as StepEvent, IsRunOpen}
-use Rattle.ts_store.specs.write.LineTexts.{State as StoreState, IsIn as IsStoreIn, opened as opened_store, parts_in, WritesFrom}
+use Rattle.ts_store.specs.write.LineTexts.{LineState as StoreState, IsIn as IsStoreIn, opened as opened_store, parts_in, WritesFrom}
 use Rattle.ts_store.specs.store.Inventories.{Inventory, inventory_of, new_inventory, all_waiting, facts_of_text, GrowsAfter, steps_in, StepsTo, LeavesRecent}
 use Rattle.ts_store.specs.read.PointsRead.{all_raw}
 use Rattle.ts_store.specs.write.StoreFaultTexts.{run_in_progress_text}
@@ -32,7 +32,7 @@ use Rattle.ts_script.specs.MarksTexts.{marks_text}
 use Rattle.ts_script.specs.ScriptReplies.{line, text_of, step_text, written_text, unknown_text, bad_range_text}
 use Rattle.ts_script.specs.declared.reply.Reply.{Reply}
 use Rattle.ts_script.specs.declared.reply.Reply.TheVariants.{OutOfMemory}
-use Rattle.ts_script.specs.Machine.{State, no_longer_fresh, with_certificate, with_store, opened_with, with_begin, with_step, is_last, with_run, rules_in, lows_in, facts_of_line, RunsWhole, current_marks_text, at_moment, in_precision, in_epoch, Counts, Does, Step, opens, refuses_settings, opens_no_memory, opens_late, moves, sets, shows, writes, writes_no_memory, retains, refuses_retain, retains_no_memory, begins, refuses_begin, begins_no_memory, steps, steps_idle, hands_in, hands_in_no_memory, replies, replies_no_memory, explains, explains_no_memory, tells_live, counts, counts_nothing, refuses_count, refuses_unknown, too_long, no_text, skips, does}
+use Rattle.ts_script.specs.Machine.{State, no_longer_fresh, with_certificate, with_store, opened_with, with_begin, with_one_step, is_last, with_run, rules_in, lows_in, facts_of_line, RunsWhole, current_marks_text, at_moment, in_precision, in_epoch, Counts, Does, Step, opens, refuses_settings, opens_no_memory, opens_late, moves, sets, shows, writes, writes_no_memory, retains, refuses_retain, retains_no_memory, begins, refuses_begin, begins_no_memory, steps, steps_idle, hands_in, hands_in_no_memory, replies, replies_no_memory, explains, explains_no_memory, tells_live, counts, counts_nothing, refuses_count, refuses_unknown, too_long, no_text, skips, does}
 use Rattle.ts_script.specs.MachineState.{MachineState, keeping, IsMachineIn, HasReply, HasExplanation, Did, Refused, Stepped}
 
 -- ---- writing
@@ -202,9 +202,9 @@ stepped_by true answer s m k e i t =
     let to : StepsTo (lows_in s) s.inventory answer (inventory_of k) =
     subst (λ (z : Inventory). StepsTo (lows_in s) z answer (inventory_of k)) i.inventory
     (subst (λ (z : Marks). StepsTo z.lows (inventory_of m.kept) answer (inventory_of k)) i.store.stands.marks (t.inventory e)) in (
-      with_step answer (inventory_of k) s,
+      with_one_step answer (inventory_of k) s,
       steps answer (inventory_of k) (i.store.stands.running.0 e) to,
-      storing s m (with_step answer (inventory_of k) s).store k i (record { stands = went_on answer m k t s.store.opening s.store.history i.store.stands; series = t.series ∙ i.store.series }),
+      storing s m (with_one_step answer (inventory_of k) s).store k i (record { stands = went_on answer m k t s.store.opening s.store.history i.store.stands; series = t.series ∙ i.store.series }),
     )
 stepped_by false answer s m k e i t =
     let none : IsRunOpen s.store.history → ⊥ = λ runs. true≢false (sym (i.store.stands.running.1 runs) ∙ e) in
@@ -226,15 +226,15 @@ holding certificate m = record m { certificate = certificate }
 pub held : (certificate : Option Text) (s : State) (m : MachineState) → IsMachineIn s m → IsMachineIn (with_certificate certificate s) (holding certificate m)
 held certificate s m i = record { moment = i.moment; precision = i.precision; epoch = i.epoch; fresh = i.fresh; certificate = refl; store = i.store; inventory = i.inventory }
 
-pub was_handed_in : (text certificate : Text) (s : State) (m : MachineState) → IsMachineIn s m → certificate ≡ with_line_feeds text → Did (SetCertificate text) s [] (holding (Some certificate) m)
-was_handed_in text certificate s m i e = (
+pub was_given : (text certificate : Text) (s : State) (m : MachineState) → IsMachineIn s m → certificate ≡ with_line_feeds text → Did (SetCertificate text) s [] (holding (Some certificate) m)
+was_given text certificate s m i e = (
   with_certificate (Some certificate) s,
   subst (λ (c : Text). Does s (SetCertificate text) [] (with_certificate (Some c) s)) (sym e) (hands_in text),
   held (Some certificate) s m i,
 )
 
-pub handed_in_no_memory : (text : Text) (s : State) (m : MachineState) → IsMachineIn s m → Did (SetCertificate text) s (line memory_text) m
-handed_in_no_memory text s m i = (s, hands_in_no_memory text, i)
+pub given_no_memory : (text : Text) (s : State) (m : MachineState) → IsMachineIn s m → Did (SetCertificate text) s (line memory_text) m
+given_no_memory text s m i = (s, hands_in_no_memory text, i)
 
 -- the body of a reply, or of an explanation, with an LF
 pub reply_ended : {X E : Type 0} (r : Result X E) (bytes : X → Text) (text body : Text) (certificate : Option Text) (good : Bool) (m : MachineState) → IfOk r (λ x. bytes x ≡ line body)

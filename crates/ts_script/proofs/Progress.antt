@@ -9,7 +9,7 @@ use Rattle.ts_core.specs.io.Devices.{Input, AppendsFront}
 use Rattle.ts_core.specs.io.OutputBuffering.{AreWrittenBut}
 use Rattle.ts_core.proofs.io.OutputBufferLemmas.{two_puts, second_refused, all_written}
 use Rattle.ts_script.specs.ScriptLines.{lines_of, ended_lines, lines_read}
-use Rattle.ts_script.specs.LineReading.{has_lf, AreLines, EndIsOver, IsTextOf, IsNext, IsCut, to_come}
+use Rattle.ts_script.specs.LineReading.{has_lf, AreLines, EndIsOver, IsTextOf, IsNext, IsCut, lines_to_come}
 use Rattle.ts_script.specs.ReaderState.{ReaderState}
 use Rattle.ts_script.specs.Machine.{State, start, Step, Prints}
 use Rattle.ts_script.specs.MachineState.{MachineState, IsMachineIn, Stepped}
@@ -81,13 +81,13 @@ pub record Answered (input left : Option Text) (ended : Bool) (m : MachineState)
   pub is_in : IsMachineIn state m
 
 next_answered : (input : Option Text) (reading reading' : ReaderState) (source source' : Input) (old mid : Option Text) (kept line : Text) (next : Next) (m m' : MachineState) (answer : Text) → line ≡ reading'.line → next ≢ End
-    → (p : Progress input (to_come reading source) reading.ahead.ended old mid kept m) → IsNext reading source next reading' source' → Answers next line m m' answer → Answered input (to_come reading' source') reading'.ahead.ended m' p.answers answer
+    → (p : Progress input (lines_to_come reading source) reading.ahead.ended old mid kept m) → IsNext reading source next reading' source' → Answers next line m m' answer → Answered input (lines_to_come reading' source') reading'.ahead.ended m' p.answers answer
 next_answered input reading reading' source source' old mid kept line next m m' answer e some p n a =
     let l = (n.line some).1 in
     let s = a l.0 p.state (subst (λ (k : Text). IsTextOf l.0 next k) (sym e) l.1) p.is_in in
     record {
       taken = p.taken ++ n.bytes;
-      came = Consumes-trans input (to_come reading source) (to_come reading' source') p.taken n.bytes p.before n.came;
+      came = Consumes-trans input (lines_to_come reading source) (lines_to_come reading' source') p.taken n.bytes p.before n.came;
       done = p.done ++ l.0 ∷ [];
       lines = lines_after reading.ahead.ended reading'.ahead.ended p.taken n.bytes p.done l.0 (n.line some).0 p.lines l.2;
       state = s.0;
@@ -96,8 +96,8 @@ next_answered input reading reading' source source' old mid kept line next m m' 
     }
 
 pub goes_on : (input : Option Text) (reading reading' : ReaderState) (source source' : Input) (old mid new : Option Text) (kept kept' line : Text) (next : Next) (m m' : MachineState) (answer : Text) → line ≡ reading'.line → next ≢ End
-    → Progress input (to_come reading source) reading.ahead.ended old mid kept m → IsNext reading source next reading' source' → Answers next line m m' answer → AreWrittenBut mid new (kept ++ answer) kept'
-    → Progress input (to_come reading' source') reading'.ahead.ended old new kept' m'
+    → Progress input (lines_to_come reading source) reading.ahead.ended old mid kept m → IsNext reading source next reading' source' → Answers next line m m' answer → AreWrittenBut mid new (kept ++ answer) kept'
+    → Progress input (lines_to_come reading' source') reading'.ahead.ended old new kept' m'
 goes_on input reading reading' source source' old mid new kept kept' line next m m' answer e some p n a w =
     let t = next_answered input reading reading' source source' old mid kept line next m m' answer e some p n a in
     record {
@@ -154,7 +154,7 @@ scripted done answers state run = record { answers = answers; state = state; run
 
 -- the writer refused the buffered answers
 pub cut_off : (input : Option Text) (reading : ReaderState) (source : Input) (old mid new : Option Text) (kept : Text) (m : MachineState) → EndIsOver reading.ahead source
-    → Progress input (to_come reading source) reading.ahead.ended old mid kept m → AppendsFront mid new (kept ++ []) → Ends input source.remaining reading.ahead.ended (λ lines. AnswersSome lines old new)
+    → Progress input (lines_to_come reading source) reading.ahead.ended old mid kept m → AppendsFront mid new (kept ++ []) → Ends input source.remaining reading.ahead.ended (λ lines. AnswersSome lines old new)
 cut_off input reading source old mid new kept m over p w =
     let rest = rest_read reading.ahead.ended p.taken reading.ahead.buffered p.done (λ e. (over e).0) p.lines in
     record {
@@ -169,7 +169,7 @@ cut_off input reading source old mid new kept m over p w =
 
 -- the writer refused in an answer, or in the buffered answers before it
 pub cut_short : (input : Option Text) (reading reading' : ReaderState) (source source' : Input) (old mid new : Option Text) (kept line : Text) (next : Next) (m m' : MachineState) (answer : Text) → line ≡ reading'.line → next ≢ End → EndIsOver reading'.ahead source'
-    → Progress input (to_come reading source) reading.ahead.ended old mid kept m → IsNext reading source next reading' source' → Answers next line m m' answer → AppendsFront mid new (kept ++ answer)
+    → Progress input (lines_to_come reading source) reading.ahead.ended old mid kept m → IsNext reading source next reading' source' → Answers next line m m' answer → AppendsFront mid new (kept ++ answer)
     → Ends input source'.remaining reading'.ahead.ended (λ lines. AnswersSome lines old new)
 cut_short input reading reading' source source' old mid new kept line next m m' answer e some over p n a w =
     let t = next_answered input reading reading' source source' old mid kept line next m m' answer e some p n a in
@@ -186,16 +186,16 @@ cut_short input reading reading' source source' old mid new kept line next m m' 
 
 -- the end of input was read
 end_read : (input : Option Text) (reading reading' : ReaderState) (source source' : Input) (old mid : Option Text) (kept : Text) (next : Next) (m : MachineState) → next ≡ End → EndIsOver reading'.ahead source'
-    → (p : Progress input (to_come reading source) reading.ahead.ended old mid kept m) → IsNext reading source next reading' source' → Consumes input source'.remaining p.taken
+    → (p : Progress input (lines_to_come reading source) reading.ahead.ended old mid kept m) → IsNext reading source next reading' source' → Consumes input source'.remaining p.taken
 end_read input reading reading' source source' old mid kept next m e over p n =
     let end = n.over e in
-    let whole = Consumes-trans input (to_come reading source) (to_come reading' source') p.taken n.bytes p.before n.came in
+    let whole = Consumes-trans input (lines_to_come reading source) (lines_to_come reading' source') p.taken n.bytes p.before n.came in
     let taken : (p.taken ++ n.bytes) ++ reading'.ahead.buffered ≡ p.taken =
     ap (λ (l : Text). (p.taken ++ n.bytes) ++ l) (over end.1).0 ∙ append-nil (p.taken ++ n.bytes) ∙ ap (λ (l : Text). p.taken ++ l) end.0 ∙ append-nil p.taken in
     subst (λ (l : Text). Consumes input source'.remaining l) taken (came_whole input reading'.ahead.buffered source'.remaining (p.taken ++ n.bytes) whole)
 
 pub all_answered : (input : Option Text) (reading reading' : ReaderState) (source source' : Input) (old new : Option Text) (kept : Text) (next : Next) (m : MachineState) → next ≡ End → EndIsOver reading'.ahead source'
-    → Progress input (to_come reading source) reading.ahead.ended old new kept m → IsNext reading source next reading' source' → kept ≡ [] → Ends input source'.remaining true (λ lines. AnswersAll lines old new)
+    → Progress input (lines_to_come reading source) reading.ahead.ended old new kept m → IsNext reading source next reading' source' → kept ≡ [] → Ends input source'.remaining true (λ lines. AnswersAll lines old new)
 all_answered input reading reading' source source' old new kept next m e over p n sent = record {
   came = p.taken;
   bytes = end_read input reading reading' source source' old new kept next m e over p n;
@@ -205,7 +205,7 @@ all_answered input reading reading' source source' old new kept next m e over p 
 
 -- the writer refused the last buffered answers
 pub cut_at_end : (input : Option Text) (reading reading' : ReaderState) (source source' : Input) (old mid new : Option Text) (kept : Text) (next : Next) (m : MachineState) → next ≡ End → EndIsOver reading'.ahead source'
-    → Progress input (to_come reading source) reading.ahead.ended old mid kept m → IsNext reading source next reading' source' → AppendsFront mid new (kept ++ []) → Ends input source'.remaining true (λ lines. AnswersSome lines old new)
+    → Progress input (lines_to_come reading source) reading.ahead.ended old mid kept m → IsNext reading source next reading' source' → AppendsFront mid new (kept ++ []) → Ends input source'.remaining true (λ lines. AnswersSome lines old new)
 cut_at_end input reading reading' source source' old mid new kept next m e over p n w = record {
   came = p.taken;
   bytes = end_read input reading reading' source source' old mid kept next m e over p n;
@@ -217,10 +217,10 @@ cut_at_end input reading reading' source source' old mid new kept next m e over 
 }
 
 -- no more was read, after some bytes of a line that isn't ended
-pub all_before_cut : (input : Option Text) (reading reading' : ReaderState) (source source' : Input) (old new : Option Text) (kept : Text) (m : MachineState) → Progress input (to_come reading source) reading.ahead.ended old new kept m
+pub all_before_cut : (input : Option Text) (reading reading' : ReaderState) (source source' : Input) (old new : Option Text) (kept : Text) (m : MachineState) → Progress input (lines_to_come reading source) reading.ahead.ended old new kept m
     → (cut : IsCut reading source reading' source') → (has_lf reading.ahead.buffered ≡ false → kept ≡ []) → Ends input source'.remaining false (λ lines. AnswersAll lines old new)
 all_before_cut input reading reading' source source' old new kept m p cut sent =
-    let whole = Consumes-trans input (to_come reading source) (to_come reading' source') p.taken cut.bytes p.before cut.came in
+    let whole = Consumes-trans input (lines_to_come reading source) (lines_to_come reading' source') p.taken cut.bytes p.before cut.came in
     let taken : (p.taken ++ cut.bytes) ++ reading'.ahead.buffered ≡ p.taken ++ cut.bytes = ap (λ (l : Text). (p.taken ++ cut.bytes) ++ l) cut.none ∙ append-nil (p.taken ++ cut.bytes) in
     let l = subst (λ (e : Bool). AreLines e p.taken p.done) cut.going p.lines in
     let lines : ended_lines (p.taken ++ cut.bytes) ≡ p.done = (l cut.bytes).1 ∙ ap (λ (l : List Text). p.done ++ l) (none_ended cut.bytes cut.part) ∙ append-nil p.done in

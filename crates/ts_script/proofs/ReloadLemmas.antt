@@ -18,23 +18,23 @@ use Rattle.ts_core.specs.store.StoreData.{CellMap, StoreData, rule_cells, rules_
 use Rattle.ts_store.specs.image.SavedContent.{SavedColumn, SavedSeries, saved_key, SavesColumns, SavesSeries}
 use Rattle.ts_store.specs.read.ViewResults.{no_points}
 use Rattle.ts_image.specs.Images.{ImageColumn, ImageSeries}
-use Rattle.ts_image.specs.Pictures.{points_in, column_in, columns_in, waiting_in}
+use Rattle.ts_image.specs.Pictures.{image_points_in, column_of_image, columns_of_image, waiting_of_image}
 use Rattle.ts_image.specs.Saving.{column_at, image_column_of, image_series_of}
-use Rattle.ts_script.specs.Reloads.{column_named, columns_of}
+use Rattle.ts_script.specs.Reloads.{saved_column_named, saved_columns}
 
 -- ---- columns
 
-named : (s : Series) (k : StoreData) (cs : List SavedColumn) (rest : List ColumnPoints) → map column_of (map (points_in s) (map (image_column_of k) cs) ++ rest) ≡ map (column_named s) cs ++ map column_of rest
+named : (s : Series) (k : StoreData) (cs : List SavedColumn) (rest : List ColumnPoints) → map column_of (map (image_points_in s) (map (image_column_of k) cs) ++ rest) ≡ map (saved_column_named s) cs ++ map column_of rest
 named s k [] rest = refl
-named s k (c ∷ cs) rest = ap (λ xs. column_named s c ∷ xs) (named s k cs rest)
+named s k (c ∷ cs) rest = ap (λ xs. saved_column_named s c ∷ xs) (named s k cs rest)
 
-pub all_named : (k : StoreData) (order : List SavedSeries) → map column_of (columns_in (map (image_series_of k) order)) ≡ columns_of order
+pub all_named : (k : StoreData) (order : List SavedSeries) → map column_of (columns_of_image (map (image_series_of k) order)) ≡ saved_columns order
 all_named k [] = refl
-all_named k (s ∷ ss) = named s.series k s.columns (columns_in (map (image_series_of k) ss)) ∙ ap (λ xs. map (column_named s.series) s.columns ++ xs) (all_named k ss)
+all_named k (s ∷ ss) = named s.series k s.columns (columns_of_image (map (image_series_of k) ss)) ∙ ap (λ xs. map (saved_column_named s.series) s.columns ++ xs) (all_named k ss)
 
 -- the saved columns of a series are where it says
 abbrev AreThere : StoreData → SavedSeries → Type 0
-AreThere k s = (x : SavedColumn) → Among x s.columns → (column_at k x).column ≡ column_named s.series x
+AreThere k s = (x : SavedColumn) → Among x s.columns → (column_at k x).column ≡ saved_column_named s.series x
 
 pub at_back : {X Y : Type 0} (f : X → Y) (xs : List X) (n : ℕ) (y : Y) → IsAt (map f xs) n y → (x : X) × IsAt xs n x × (f x ≡ y)
 at_back f [] n y e = absurd (let none : None ≡ Some y = e in cc)
@@ -43,28 +43,28 @@ at_back f (x ∷ xs) (suc n) y e = at_back f xs n y e
 
 are_there : (k : StoreData) (s : SavedSeries) → SavesColumns (map column_of k.columns) s → AreThere k s
 are_there k s w x a =
-    let p = at_back column_of k.columns x.number (column_named s.series x) ((w.each x).0 a) in
+    let p = at_back column_of k.columns x.number (saved_column_named s.series x) ((w.each x).0 a) in
     ap column_of (get_or_from_slice_get k.columns x.number p.0 no_points p.1) ∙ p.2
 
 waits_one : (b : Bool) → (bit b == 1) ≡ b
 waits_one true = refl
 waits_one false = refl
 
-waiting_here : (k : StoreData) (s : Series) (cs : List SavedColumn) (rest : List Column) (others : List Column) → ((x : SavedColumn) → Among x cs → (column_at k x).column ≡ column_named s x) → rest ≡ filter (is_waiting k.waiting) others
-    → map (column_in s) (filter (λ (c : ImageColumn). c.waits == 1) (map (image_column_of k) cs)) ++ rest ≡ filter (is_waiting k.waiting) (map (column_named s) cs ++ others)
+waiting_here : (k : StoreData) (s : Series) (cs : List SavedColumn) (rest : List Column) (others : List Column) → ((x : SavedColumn) → Among x cs → (column_at k x).column ≡ saved_column_named s x) → rest ≡ filter (is_waiting k.waiting) others
+    → map (column_of_image s) (filter (λ (c : ImageColumn). c.waits == 1) (map (image_column_of k) cs)) ++ rest ≡ filter (is_waiting k.waiting) (map (saved_column_named s) cs ++ others)
 waiting_here k s [] rest others there e = e
 waiting_here k s (x ∷ xs) rest others there e =
     let more = waiting_here k s xs rest others (λ y a. there y (inr a)) e in
-    let tail : List Column = filter (is_waiting k.waiting) (map (column_named s) xs ++ others) in
-    let flag : (bit (is_waiting k.waiting (column_at k x).column) == 1) ≡ is_waiting k.waiting (column_named s x) = waits_one (is_waiting k.waiting (column_at k x).column) ∙ ap (is_waiting k.waiting) (there x (inl refl)) in
+    let tail : List Column = filter (is_waiting k.waiting) (map (saved_column_named s) xs ++ others) in
+    let flag : (bit (is_waiting k.waiting (column_at k x).column) == 1) ≡ is_waiting k.waiting (saved_column_named s x) = waits_one (is_waiting k.waiting (column_at k x).column) ∙ ap (is_waiting k.waiting) (there x (inl refl)) in
     let ms : List ImageColumn = filter (λ (c : ImageColumn). c.waits == 1) (map (image_column_of k) xs) in
-    let step : (b : Bool) → map (column_in s) (cond b (image_column_of k x ∷ ms) ms) ++ rest ≡ cond b (column_named s x ∷ tail) tail =
-    λ b. elim b as (λ b. map (column_in s) (cond b (image_column_of k x ∷ ms) ms) ++ rest ≡ cond b (column_named s x ∷ tail) tail) [
-      | true ↦ ap (λ zs. column_named s x ∷ zs) more
+    let step : (b : Bool) → map (column_of_image s) (cond b (image_column_of k x ∷ ms) ms) ++ rest ≡ cond b (saved_column_named s x ∷ tail) tail =
+    λ b. elim b as (λ b. map (column_of_image s) (cond b (image_column_of k x ∷ ms) ms) ++ rest ≡ cond b (saved_column_named s x ∷ tail) tail) [
+      | true ↦ ap (λ zs. saved_column_named s x ∷ zs) more
       | false ↦ more
     ] in
-    step (bit (is_waiting k.waiting (column_at k x).column) == 1) ∙ ap (λ b. cond b (column_named s x ∷ tail) tail) flag
+    step (bit (is_waiting k.waiting (column_at k x).column) == 1) ∙ ap (λ b. cond b (saved_column_named s x ∷ tail) tail) flag
 
-pub all_waiting : (k : StoreData) (order : List SavedSeries) → AllByRecursion (SavesColumns (map column_of k.columns)) order → waiting_in (map (image_series_of k) order) ≡ filter (is_waiting k.waiting) (columns_of order)
+pub all_waiting : (k : StoreData) (order : List SavedSeries) → AllByRecursion (SavesColumns (map column_of k.columns)) order → waiting_of_image (map (image_series_of k) order) ≡ filter (is_waiting k.waiting) (saved_columns order)
 all_waiting k [] w = refl
-all_waiting k (s ∷ ss) w = waiting_here k s.series s.columns (waiting_in (map (image_series_of k) ss)) (columns_of ss) (are_there k s w.0) (all_waiting k ss w.1)
+all_waiting k (s ∷ ss) w = waiting_here k s.series s.columns (waiting_of_image (map (image_series_of k) ss)) (saved_columns ss) (are_there k s w.0) (all_waiting k ss w.1)

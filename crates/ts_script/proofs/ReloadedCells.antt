@@ -24,8 +24,8 @@ use Rattle.ts_store.specs.write.LinesPut.{IsOfFacts, PutsCells}
 use Rattle.ts_store.specs.store.Inventories.{AreFilled, OfRules}
 use Rattle.ts_store.specs.image.SavedContent.{SavedSeries}
 use Rattle.ts_image.specs.Images.{ImageCell}
-use Rattle.ts_image.specs.ImageTests.{settings_in}
-use Rattle.ts_image.specs.Pictures.{columns_in}
+use Rattle.ts_image.specs.ImageTests.{settings_of_image}
+use Rattle.ts_image.specs.Pictures.{columns_of_image}
 use Rattle.ts_image.specs.SavedParts.{image_settings_of}
 use Rattle.ts_image.specs.Saving.{frozen_cells_at, image_cell_of, image_cells_from, image_of}
 use Rattle.ts_image.specs.StoresMade.{cells_in, IsStoreOf}
@@ -60,7 +60,7 @@ module _ (opening : Settings) (h : History) (k n : StoreData) (order : List Save
   same_marks : n.marks ≡ k.marks
   same_marks = new.marks ∙ sym old.marks
 
-  said : settings_in (image_settings_of k.settings) ≡ k.settings
+  said : settings_of_image (image_settings_of k.settings) ≡ k.settings
   said = made.made.picture.settings ∙ same_settings
 
   module _ (i : ℕ) (r : Rule) (low : ℤ) (m m' : CellMap) (a : IsAt k.settings.rules i r) (b : IsAt k.marks.lows i low) (c : IsAt k.cells i m) (d : IsAt n.cells i m') where
@@ -76,7 +76,7 @@ module _ (opening : Settings) (h : History) (k n : StoreData) (order : List Save
         (subst (λ (x : CellMap). IsAt (map cells_in (image_of k order).cells) i (cells_in (written (slice_index_or k.marks.lows i (pos 0)) x))) (get_or_from_slice_get k.cells i m finmap.empty c)
         (subst (λ (j : ℕ). IsAt (map cells_in (image_of k order).cells) i (cells_in (map image_cell_of (frozen_cells_at k j)))) (let e : 0 + i ≡ i = omega arith in e) (cells_from k 0 k.settings.rules i r a)))
 
-    puts : PutsCells (facts_of (columns_in (image_of k order).series)) r low (cells_in (written low m)) m'
+    puts : PutsCells (facts_of (columns_of_image (image_of k order).series)) r low (cells_in (written low m)) m'
     puts = made.cells.1 i r low (cells_in (written low m)) m' (subst (λ (s : Settings). IsAt s.rules i r) (sym said) a) b imaged d
 
     -- a cell of the image has a frozen fact
@@ -91,7 +91,7 @@ module _ (opening : Settings) (h : History) (k n : StoreData) (order : List Save
         subst (λ (y : Cell). (low ≤ℤ y.index) × IsOfFacts (latest_of h) r y) x.2 (kept, (f.0, f.1.there, inside))
 
     -- a raw fact is one of the latest
-    of_raw : (q : Cell) → (low ≤ℤ q.index) × IsOfFacts (facts_of (columns_in (image_of k order).series)) r q → (low ≤ℤ q.index) × IsOfFacts (latest_of h) r q
+    of_raw : (q : Cell) → (low ≤ℤ q.index) × IsOfFacts (facts_of (columns_of_image (image_of k order).series)) r q → (low ≤ℤ q.index) × IsOfFacts (latest_of h) r q
     of_raw q o =
         let f = o.1 in
         let raw = (new.raw f.0).0 (subst (λ (cs : List ColumnPoints). Among f.0 (facts_of cs)) (sym made.columns) f.1) in

@@ -28,7 +28,7 @@ use Rattle.ts_image.proofs.WrittenPictures.{written_picture}
 use Rattle.ts_script.specs.Commands.{Reload}
 use Rattle.ts_script.specs.Machine.{with_store, rules_in, lows_in, IsReload, reloads, reloads_no_memory}
 use Rattle.ts_script.specs.ReloadResults.{IsImageIn, IsReloadOf}
-use Rattle.ts_script.specs.Reloads.{Reloaded, columns_of}
+use Rattle.ts_script.specs.Reloads.{Reloaded, saved_columns}
 use Rattle.ts_script.specs.ScriptReplies.{line, reloaded_text}
 use Rattle.ts_script.specs.MachineState.{MachineState, keeping, IsMachineIn, Did}
 use Rattle.ts_script.specs.Machine.{State}
@@ -43,7 +43,7 @@ module _ (opening : Settings) (h : History) (k n : StoreData) (old : StandsFor o
   pub stands : StandsFor opening h (state_of n)
   stands = pictured_stands k n (image_of k r.order) (written_picture opening h k r.order old r.sized r.ordered) r.made.made opening h old
 
-  columns : map column_of n.columns ≡ columns_of r.order
+  columns : map column_of n.columns ≡ saved_columns r.order
   columns = ap (λ (cs : List ColumnPoints). map column_of cs) r.made.columns ∙ all_named k r.order
 
   pub reloaded_as : Reloaded h k.settings.rules k.marks.lows k.series (inventory_of k) n.series (inventory_of n)

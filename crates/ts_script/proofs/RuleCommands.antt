@@ -14,7 +14,7 @@ use Rattle.ts_store.specs.rules.RuleTexts.{rule_for, settings_in, low_in, with_r
 use Rattle.ts_store.specs.declared.rules.rule_text.AddedRule.{AddedRule}
 use Rattle.ts_store.proofs.rules.RuleStates.{rule_came, rule_went, rule_gained}
 use Rattle.ts_script.specs.Commands.{AddRule, DropRule}
-use Rattle.ts_script.specs.Machine.{State, with_store, GainsRuleCells, without_rule, Does, adds, refuses_rule, adds_no_memory, drops, refuses_drop}
+use Rattle.ts_script.specs.Machine.{State, with_store, GainsRuleCells, state_without_rule, Does, adds, refuses_rule, adds_no_memory, drops, refuses_drop}
 use Rattle.ts_script.specs.MarksTexts.{rule_text}
 use Rattle.ts_script.specs.ScriptReplies.{line, text_of, dropped_text}
 use Rattle.ts_script.specs.MachineState.{MachineState, keeping, IsMachineIn, Did}
@@ -61,9 +61,9 @@ rule_forgotten r name s m k i drops_rule none =
     let goes : RuleGoes m.kept k name = when_ok r (RuleGoes m.kept k name) drops_rule.ok none in
     let left : inventory_of k ≡ record { columns = (inventory_of m.kept).columns; waiting = (inventory_of m.kept).waiting; cells = kept_beside (is_unnamed name) m.kept.settings.rules (inventory_of m.kept).cells } =
     λ j. record { columns = goes.columns j; waiting = goes.waiting j; cells = goes.cells j } in
-    let inventory : inventory_of k ≡ (without_rule name s).inventory =
+    let inventory : inventory_of k ≡ (state_without_rule name s).inventory =
     left ∙ (λ j. record { columns = (i.inventory j).columns; waiting = (i.inventory j).waiting; cells = kept_beside (is_unnamed name) (i.store.stands.settings j).rules (i.inventory j).cells }) in (
-      without_rule name s,
+      state_without_rule name s,
       drops name (subst (λ (z : Settings). is_named z.rules name ≡ true) i.store.stands.settings named),
       record { moment = i.moment; precision = i.precision; epoch = i.epoch; fresh = i.fresh; certificate = i.certificate; store = rule_went s.store m.kept k name i.store goes; inventory = inventory },
     )

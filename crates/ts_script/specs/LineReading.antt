@@ -30,8 +30,8 @@ LineIs bytes line false = (line ≡ bytes) × (length bytes ≤ script_line_limi
 LineIs bytes line true = script_line_limit < length bytes
 
 -- the bytes still to come, if known
-abbrev pub to_come : ReaderState → Input → Option (List ℕ)
-to_come reading input = pending reading.ahead input
+abbrev pub lines_to_come : ReaderState → Input → Option (List ℕ)
+lines_to_come reading input = pending reading.ahead input
 
 -- the bytes are these lines, each with its LF, whatever follows
 abbrev pub AreEnded : List ℕ → List (List ℕ) → Type 0
@@ -53,8 +53,8 @@ abbrev pub EndIsOver : Ahead → Input → Type 0
 EndIsOver ahead input = ahead.ended ≡ true → (ahead.buffered ≡ []) × IsAtEnd input.remaining
 
 -- the result at an LF
-abbrev pub next_of : Bool → Next
-next_of long = if long then TooLong else Line
+abbrev pub next_after_line : Bool → Next
+next_after_line long = if long then TooLong else Line
 
 -- the result at the end of input
 abbrev pub result_at_end : List ℕ → Bool → Next
@@ -96,7 +96,7 @@ pub record CallsReader {T : Type 0} (old : Ahead) (source : Input) (result : Res
 
 -- one read; it returns false at the end of input
 pub record IsReadOn (old : ReaderState) (source : Input) (result : Result Bool ReadFault) (new : ReaderState) (source' : Input) : Type 0 where
-  pub bytes : Keeps (to_come old source) (to_come new source')
+  pub bytes : Keeps (lines_to_come old source) (lines_to_come new source')
   pub none : OnErr result (new.ahead.buffered ≡ [])
   pub more : IfOk result (λ more. more ≡ not new.ahead.ended)
   pub line : new.line ≡ old.line
@@ -107,7 +107,7 @@ pub record IsReadOn (old : ReaderState) (source : Input) (result : Result Bool R
 -- the next line: its bytes are consumed with its LF, or to the end of input
 pub record IsNext (old : ReaderState) (source : Input) (next : Next) (new : ReaderState) (source' : Input) : Type 0 where
   pub bytes : List ℕ
-  pub came : Consumes (to_come old source) (to_come new source') bytes
+  pub came : Consumes (lines_to_come old source) (lines_to_come new source') bytes
   pub line : next ≢ End → (old.ahead.ended ≡ false) × ((text : List ℕ) × IsTextOf text next new.line × AreLines new.ahead.ended bytes (text ∷ []))
   pub over : next ≡ End → (bytes ≡ []) × (new.ahead.ended ≡ true)
 
@@ -116,7 +116,7 @@ pub record IsCut (old : ReaderState) (source : Input) (new : ReaderState) (sourc
   pub going : old.ahead.ended ≡ false
   pub no_lf : has_lf old.ahead.buffered ≡ false
   pub bytes : List ℕ
-  pub came : Consumes (to_come old source) (to_come new source') bytes
+  pub came : Consumes (lines_to_come old source) (lines_to_come new source') bytes
   pub part : has_lf bytes ≡ false
   pub none : new.ahead.buffered ≡ []
 

@@ -25,7 +25,7 @@ use Rattle.ts_reply.specs.Answering.{IsReply}
 use Rattle.ts_reply.specs.Explaining.{IsExplanation}
 use Rattle.ts_reply.specs.declared.epoch.Epoch.{Epoch}
 use Rattle.ts_reply.specs.declared.epoch.Epoch.TheVariants as epochs
-use Rattle.ts_store.specs.write.LineTexts.{State as StoreState, opened as opened_store, parts_in, with_series, WritesText, RunsOutOfMemory}
+use Rattle.ts_store.specs.write.LineTexts.{LineState as StoreState, opened as opened_store, parts_in, with_series, WritesText, RunsOutOfMemory}
 use Rattle.ts_store.specs.store.Inventories.{Inventory, new_inventory, all_waiting, facts_of_text, GrowsBy, GrowsInPart, steps_in, StepsTo, LeavesRecent}
 use Rattle.ts_store.specs.read.PointsRead.{all_raw}
 use Rattle.ts_store.specs.rules.RulesChanged.{GainsRule}
@@ -105,8 +105,8 @@ is_last Moved = false
 is_last Done = true
 
 -- a step of the open run
-abbrev pub with_step : StepAnswer → Inventory → State → State
-with_step answer inventory s = with_history (StepEvent (is_last answer) ∷ s.store.history) inventory s
+abbrev pub with_one_step : StepAnswer → Inventory → State → State
+with_one_step answer inventory s = with_history (StepEvent (is_last answer) ∷ s.store.history) inventory s
 
 -- a whole retention run, of `steps` steps and a last one
 abbrev pub with_run : ℕ → Inventory → State → State
@@ -138,8 +138,8 @@ abbrev pub GainsRuleCells : State → Rule → Inventory → Type 0
 GainsRuleCells old r new = GainsRule (all_raw old.inventory.waiting old.store.opening old.store.history) r (low_in old.store r) old.inventory new
 
 -- a rule is dropped with its cells
-abbrev pub without_rule : Text → State → State
-without_rule name s = with_store (with_rule_dropped name s.store) (record s.inventory { cells = kept_beside (is_unnamed name) (rules_in s) s.inventory.cells }) s
+abbrev pub state_without_rule : Text → State → State
+state_without_rule name s = with_store (with_rule_dropped name s.store) (record s.inventory { cells = kept_beside (is_unnamed name) (rules_in s) s.inventory.cells }) s
 
 -- the marks of the state, as text
 abbrev pub current_marks_text : State → Text
@@ -183,7 +183,7 @@ pub data Does (old : State) : Command → Text → State → Type 0 where
   refuses_begin : IsRunOpen old.store.history → Does old BeginRun (line run_in_progress_text) old
   begins_no_memory : Does old BeginRun (line memory_text) old
   -- a step of the open run; without one, nothing changes
-  steps : (answer : StepAnswer) (inventory : Inventory) → IsRunOpen old.store.history → StepsTo (lows_in old) old.inventory answer inventory → Does old StepRun (step_text answer) (with_step answer inventory old)
+  steps : (answer : StepAnswer) (inventory : Inventory) → IsRunOpen old.store.history → StepsTo (lows_in old) old.inventory answer inventory → Does old StepRun (step_text answer) (with_one_step answer inventory old)
   steps_idle : (IsRunOpen old.store.history → ⊥) → Does old StepRun (step_text Done) old
   -- the store is saved to memory and loaded back: its history stays, and so does an open run
   reloads : (series : List Series) (inventory : Inventory) → IsReload old series inventory → Does old Reload reloaded_text (with_store (with_series series old.store) inventory old)
@@ -193,7 +193,7 @@ pub data Does (old : State) : Command → Text → State → Type 0 where
   refuses_rule : (text : Text) (fault : SettingsFault) → rule_for (settings_in old.store) text ≡ Err fault → Does old (AddRule text) (line (settings_fault_text fault)) old
   adds_no_memory : (text : Text) → Does old (AddRule text) (line memory_text) old
   -- the rule with the name is dropped, if there is one
-  drops : (name : Text) → is_named (rules_in old) name ≡ true → Does old (DropRule name) dropped_text (without_rule name old)
+  drops : (name : Text) → is_named (rules_in old) name ≡ true → Does old (DropRule name) dropped_text (state_without_rule name old)
   refuses_drop : (name : Text) → is_named (rules_in old) name ≡ false → Does old (DropRule name) (line unknown_rule_text) old
   -- the certificate is set for the next query, replacing an earlier one
   hands_in : (text : Text) → Does old (SetCertificate text) [] (with_certificate (Some (with_line_feeds text)) old)

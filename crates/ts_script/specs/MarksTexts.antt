@@ -29,5 +29,5 @@ marks_text s m = raw_text m.raw ++ lows_text s.rules m.lows
 pub record IsAppendedWithin {A T E : Type 0} (most : ℕ) (text : Text) (old new : String A) (result : Result T E) : Type 0 where
   pub ok : OnOk result (string_bytes new ≡ string_bytes old ++ text)
   pub long : OnOk result (string_len new ≤ string_len old + most)
-  pub room : string_len old + most ≤ string_capacity old → IsOk result
+  pub spare : string_len old + most ≤ string_capacity old → IsOk result
   pub capacity : string_capacity old ≤ string_capacity new

@@ -10,5 +10,5 @@ pub record ReaderState : Type 0 where
 
 -- the line so far: a slice of the consumed bytes, or the copied bytes
 abbrev pub line_so_far : List ℕ → Option (ℕ × ℕ) → List ℕ → List ℕ
-line_so_far used (Some lent) kept = slice_range used lent.0 lent.1
+line_so_far used (Some borrowed) kept = slice_range used borrowed.0 borrowed.1
 line_so_far used None kept = kept

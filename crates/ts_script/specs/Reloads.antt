@@ -8,13 +8,13 @@ use Rattle.ts_core.specs.store.RawFacts.{is_waiting}
 use Rattle.ts_store.specs.store.Inventories.{Inventory, AreFilled, OfRules}
 use Rattle.ts_store.specs.image.SavedContent.{SavedColumn, SavedSeries, saved_key, SavesSeries}
 
-abbrev pub column_named : Series → SavedColumn → Column
-column_named s x = record { series = s; field = x.field }
+abbrev pub saved_column_named : Series → SavedColumn → Column
+saved_column_named s x = record { series = s; field = x.field }
 
 -- the columns of series, in this order
-abbrev pub columns_of : List SavedSeries → List Column
-columns_of [] = []
-columns_of (s ∷ ss) = map (column_named s.series) s.columns ++ columns_of ss
+abbrev pub saved_columns : List SavedSeries → List Column
+saved_columns [] = []
+saved_columns (s ∷ ss) = map (saved_column_named s.series) s.columns ++ saved_columns ss
 
 -- The same series are registered, now in the order of their keys. The columns are the same, in the order of series and
 -- field, and the same of them wait, in that order. Empty cells and cells below a low index are gone.
@@ -22,6 +22,6 @@ pub record Reloaded (h : History) (rules : List Rule) (lows : List ℤ) (registe
   pub order : List SavedSeries
   pub saved : SavesSeries registered old.columns order
   pub series : kept ≡ map saved_key order
-  pub columns : new.columns ≡ columns_of order
+  pub columns : new.columns ≡ saved_columns order
   pub waiting : new.waiting ≡ filter (is_waiting old.waiting) new.columns
   pub cells : OfRules (λ r low before after. AreFilled (latest_of h) r low after) rules lows old.cells new.cells

@@ -18,12 +18,12 @@ run_fault_code Turns = Some code.EndlessScript
 run_fault_code OutOfMemory = None
 
 -- the message of a fault with this number, or of none
-abbrev pub coded_text : Option FaultCode → Text
-coded_text (Some c) = fault_text c Alone
-coded_text None = memory_text
+abbrev pub message_of : Option FaultCode → Text
+message_of (Some c) = fault_text c Alone
+message_of None = memory_text
 
 abbrev pub run_fault_text : RunFault → Text
-run_fault_text fault = coded_text (run_fault_code fault)
+run_fault_text fault = message_of (run_fault_code fault)
 
 abbrev pub fault_of_read : ReadFault → RunFault
 fault_of_read read.Device = Reader

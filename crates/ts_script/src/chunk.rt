@@ -21,9 +21,9 @@ pub(crate) fn line_end(bytes: &[u8]) -> usize
 
 /// Appends bytes to a line, unless it gets longer than the limit. Returns true if the line is too long.
 pub(crate) fn extend_line(line: &mut Vec<u8>, long: bool, bytes: &[u8]) -> bool
-    requires room { script_line_limit ≤ vec_capacity line.old }
+    requires spare { script_line_limit ≤ vec_capacity line.old }
     requires short { vec_len line.old ≤ script_line_limit }
-    ensures room { script_line_limit ≤ vec_capacity line.new }
+    ensures spare { script_line_limit ≤ vec_capacity line.new }
     ensures short { vec_len line.new ≤ script_line_limit }
     ensures line { (before : List ℕ) → LineIs before line.old.items long → LineIs (before ++ bytes.now) line.new.items result }
 {
@@ -42,14 +42,14 @@ pub(crate) fn extend_line(line: &mut Vec<u8>, long: bool, bytes: &[u8]) -> bool
 
 /// Copies a line that is borrowed from the read buffer to `line`, so that it survives the next read. Does nothing if
 /// none is borrowed.
-pub(crate) fn keep_lent(line: &mut Vec<u8>, lent: Option<(usize, usize)>, used: &[u8])
-    requires room { script_line_limit ≤ vec_capacity line.old }
-    requires within { IfSome lent (λ lent. (lent.0 ≤ lent.1) × (lent.1 ≤ length used.now)) }
-    requires short { length (line_so_far used.now lent line.old.items) ≤ script_line_limit }
-    ensures room { script_line_limit ≤ vec_capacity line.new }
-    ensures line { line.new.items ≡ line_so_far used.now lent line.old.items }
+pub(crate) fn copy_borrowed(line: &mut Vec<u8>, borrowed: Option<(usize, usize)>, used: &[u8])
+    requires spare { script_line_limit ≤ vec_capacity line.old }
+    requires within { IfSome borrowed (λ borrowed. (borrowed.0 ≤ borrowed.1) × (borrowed.1 ≤ length used.now)) }
+    requires short { length (line_so_far used.now borrowed line.old.items) ≤ script_line_limit }
+    ensures spare { script_line_limit ≤ vec_capacity line.new }
+    ensures line { line.new.items ≡ line_so_far used.now borrowed line.old.items }
 {
-    if let Some((start, end)) = lent {
+    if let Some((start, end)) = borrowed {
         line.clear();
         match line.extend_from_slice(&used[start..end]) {
             Ok(()) => {}

@@ -9,11 +9,11 @@ ghost use Rattle.ts_script.specs.ScriptReplies.{text_of};
 ghost use Rattle.ts_script.specs.Machine.{State, start};
 ghost use Rattle.ts_script.specs.MachineState.{IsMachineIn, Stepped};
 ghost use Rattle.ts_script.specs.Script.{IsReplay};
-ghost use Rattle.ts_script.specs.declared.reply.TheConstants.{TEXT_ROOM};
+ghost use Rattle.ts_script.specs.declared.reply.TheConstants.{TEXT_CAPACITY};
 
 use crate::line_reader::{LineReader, Next};
 use crate::machine::Machine;
-use crate::reply::{Reply, TEXT_ROOM};
+use crate::reply::{Reply, TEXT_CAPACITY};
 use crate::run_fault::RunFault;
 use std::alloc::Global;
 use std::io::{Read, Write};
@@ -64,7 +64,7 @@ fn answer_all<R: Read, W: Write>(
 ) -> Result<(), RunFault>
     requires machine { IsMachineIn start machine.old }
     requires lines { lines.old.ahead ≡ nothing_ahead lines.old.ahead.limit }
-    requires text { TEXT_ROOM ≤ string_capacity text.old }
+    requires text { TEXT_CAPACITY ≤ string_capacity text.old }
     requires answers { answers.old ≡ [] }
     ensures { IsReplay lines.old.ahead.limit source.old sink.old result source.new sink.new }
 {
@@ -91,7 +91,7 @@ pub fn run_within<R: Read, W: Write>(
     ensures { IsReplay turns source.old sink.old result source.new sink.new }
 {
     let mut lines = LineReader::new(alloc, turns)?;
-    let mut text = String::with_capacity(alloc, TEXT_ROOM)?;
+    let mut text = String::with_capacity(alloc, TEXT_CAPACITY)?;
     let mut answers = OutputBuffer::new(alloc, BUFFER_SIZE)?;
     let mut machine = Machine::new(alloc)?;
     answer_all(

@@ -3,9 +3,9 @@ ghost use Rattle.std.specs.Prelude.{◌≡◌, ◌≤◌, [], length, IfOk, OnEr
 ghost use Rattle.std.specs.Bool.{OnFalse, OnTrue};
 ghost use Rattle.ts_core.specs.io.ReadingAhead.{nothing_ahead};
 ghost use Rattle.ts_script.specs.ScriptLines.{script_line_limit};
-ghost use Rattle.ts_script.specs.LineReading.{LineIs, TakesBuffered, IsLonger, CallsReader, EndIsOver, IsReadOn, IsNext, IsCut, UsesUp, has_lf, next_of, result_at_end};
+ghost use Rattle.ts_script.specs.LineReading.{LineIs, TakesBuffered, IsLonger, CallsReader, EndIsOver, IsReadOn, IsNext, IsCut, UsesUp, has_lf, next_after_line, result_at_end};
 
-use crate::chunk::{LINE_LIMIT, extend_line, keep_lent, line_end};
+use crate::chunk::{LINE_LIMIT, copy_borrowed, extend_line, line_end};
 use std::alloc::{AllocError, Global};
 use std::io::Read;
 use std::marker::Model;
@@ -22,14 +22,14 @@ pub enum Next {
     End,
 }
 
-/// Reads lines from a source. A line that lies whole in the read buffer is returned as a slice of it: `lent` has its
-/// two offsets. Only a line that crosses a read is copied to `line`. `end` caches the offset of the first LF among the
-/// buffered bytes, so that it is searched only once.
+/// Reads lines from a source. A line that lies whole in the read buffer is returned as a slice of it: `borrowed` has
+/// its two offsets. Only a line that crosses a read is copied to `line`. `end` caches the offset of the first LF among
+/// the buffered bytes, so that it is searched only once.
 #[derive(Drop)]
 pub struct LineReader {
     ahead: ReadAhead<Global>,
     end: usize,
-    lent: Option<(usize, usize)>,
+    borrowed: Option<(usize, usize)>,
     line: Vec<u8>,
     long: bool,
 }
@@ -42,9 +42,9 @@ impl Model for LineReader {
 
     ghost Value = { ReaderState };
 
-    ghost view = { λ r. record { ahead = r.ahead; line = line_so_far r.ahead.used r.lent r.line.items; long = r.long } };
+    ghost view = { λ r. record { ahead = r.ahead; line = line_so_far r.ahead.used r.borrowed r.line.items; long = r.long } };
 
-    ghost invariant = { λ r. (r.ahead.turns ≤ r.ahead.limit) × (script_line_limit ≤ vec_capacity r.line) × (vec_len r.line ≤ script_line_limit) × IsLineEnd r.ahead.buffered r.end × IfSome r.lent (λ lent. (lent.0 ≤ lent.1) × (lent.1 ≤ length r.ahead.used)) × (length (line_so_far r.ahead.used r.lent r.line.items) ≤ script_line_limit) };
+    ghost invariant = { λ r. (r.ahead.turns ≤ r.ahead.limit) × (script_line_limit ≤ vec_capacity r.line) × (vec_len r.line ≤ script_line_limit) × IsLineEnd r.ahead.buffered r.end × IfSome r.borrowed (λ borrowed. (borrowed.0 ≤ borrowed.1) × (borrowed.1 ≤ length r.ahead.used)) × (length (line_so_far r.ahead.used r.borrowed r.line.items) ≤ script_line_limit) };
 }
 
 impl LineReader {
@@ -55,7 +55,7 @@ impl LineReader {
         Ok(LineReader {
             ahead: ReadAhead::new(alloc, turns)?,
             end: 0,
-            lent: None,
+            borrowed: None,
             line: Vec::with_capacity(alloc, LINE_LIMIT)?,
             long: false,
         })
@@ -66,7 +66,7 @@ impl LineReader {
         ensures line { result.now ≡ self.now.line }
         ensures short { length result.now ≤ script_line_limit }
     {
-        match self.lent {
+        match self.borrowed {
             Some((start, end)) => &self.ahead.used()[start..end],
             None => self.line.as_slice(),
         }
@@ -84,13 +84,13 @@ impl LineReader {
         ensures line { LineIs [] self.new.line self.new.long }
         ensures ahead { self.new.ahead ≡ self.old.ahead }
     {
-        self.lent = None;
+        self.borrowed = None;
         self.line.clear();
         self.long = false;
     }
 
     /// Takes the next line as a slice of the read buffer, if it is there whole; returns false if it isn't.
-    fn lend_line(&mut self) -> bool
+    fn borrow_line(&mut self) -> bool
         requires { LineIs [] self.old.line self.old.long }
         ensures whole { result ≡ has_lf self.old.ahead.buffered }
         ensures taken { OnTrue result (TakesBuffered self.old true self.new) }
@@ -102,7 +102,7 @@ impl LineReader {
             return false;
         }
         let start = self.ahead.used().len();
-        self.lent = Some((start, start + size));
+        self.borrowed = Some((start, start + size));
         self.ahead.consume(size + 1);
         self.end = line_end(self.ahead.buffered());
         true
@@ -113,7 +113,7 @@ impl LineReader {
         ensures taken { TakesBuffered self.old result self.new }
         ensures line { IsLonger self.old self.new }
     {
-        keep_lent(&mut self.line, self.lent.take(), self.ahead.used());
+        copy_borrowed(&mut self.line, self.borrowed.take(), self.ahead.used());
         let rest = self.ahead.buffered();
         let size = self.end;
         let found = size < rest.len();
@@ -131,7 +131,7 @@ impl LineReader {
         ensures read { IsReadOn self.old source.old result self.new source.new }
         ensures source_calls { CallsReader self.old.ahead source.old result self.new.ahead source.new }
     {
-        keep_lent(&mut self.line, self.lent.take(), self.ahead.used());
+        copy_borrowed(&mut self.line, self.borrowed.take(), self.ahead.used());
         let more = self.ahead.fill(source);
         self.end = line_end(self.ahead.buffered());
         more
@@ -171,7 +171,7 @@ impl LineReader {
             return Ok(Next::End);
         }
         self.start_line();
-        if self.lend_line() {
+        if self.borrow_line() {
             return Ok(self.found());
         }
         self.gather(source)
@@ -179,7 +179,7 @@ impl LineReader {
 
     /// Returns the result for a line that an LF ended.
     fn found(&self) -> Next
-        ensures { result ≡ next_of self.now.long }
+        ensures { result ≡ next_after_line self.now.long }
     {
         if self.long { Next::TooLong } else { Next::Line }
     }

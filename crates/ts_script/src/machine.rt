@@ -1,6 +1,6 @@
 //! The state machine of a script: each command takes one step and has one reply.
 ghost use Rattle.std.specs.Prelude.{◌≡◌, ◌≤◌, length, IfOk, option_map, string_bytes, string_len, string_capacity};
-ghost use Rattle.ts_reply.specs.OutcomeViews.{handed_in};
+ghost use Rattle.ts_reply.specs.OutcomeViews.{given_text};
 ghost use Rattle.ts_script.specs.CommandParts.{command_view};
 ghost use Rattle.ts_script.specs.ScriptLines.{script_line_limit};
 ghost use Rattle.ts_script.specs.Machine.{State, start};
@@ -12,7 +12,7 @@ ghost use Rattle.ts_script.specs.MachineState.{IsMachineIn, HasReply, HasExplana
 use crate::certificate_text::with_line_feeds;
 use crate::command::{Command, is_skipped};
 use crate::count::count;
-use crate::marks_text::{MARKS_ROOM, RULE_ROOM, marks_line, rule_line};
+use crate::marks_text::{MARKS_CAPACITY, RULE_CAPACITY, marks_line, rule_line};
 use crate::opening::{bad_settings, store_with};
 use crate::reloading::{ReloadFault, reloaded};
 use crate::reply::Reply;
@@ -25,7 +25,7 @@ use ts_reply::{Epoch, answer, explain};
 use ts_store::{LineOutcome, Store, View};
 
 /// State of a script: the settings of its commands, and its store. A command `settings` may still come until the first
-/// line that isn't skipped. `line_room` is an arena for the tags and fields of a line.
+/// line that isn't skipped. `line_capacity` is an arena for the tags and fields of a line.
 #[derive(Drop)]
 pub struct Machine {
     alloc: Global,
@@ -35,7 +35,7 @@ pub struct Machine {
     fresh: bool,
     certificate: Option<String>,
     store: Store<Global>,
-    line_room: Bump<Global>,
+    line_capacity: Bump<Global>,
 }
 
 impl Model for Machine {
@@ -62,7 +62,7 @@ impl Machine {
             fresh: true,
             certificate: None,
             store: Store::new(alloc, Settings::open(alloc))?,
-            line_room: Bump::new(alloc),
+            line_capacity: Bump::new(alloc),
         })
     }
 
@@ -154,7 +154,7 @@ impl Machine {
     fn retain(&mut self) -> Reply
         ensures { (s : State) → IsMachineIn s self.old → Did RetainCommand s (text_of result) self.new }
     {
-        match String::with_capacity(self.alloc, MARKS_ROOM) {
+        match String::with_capacity(self.alloc, MARKS_CAPACITY) {
             Ok(text) => self.retain_and_tell(text),
             Err(_) => Reply::OutOfMemory,
         }
@@ -163,7 +163,7 @@ impl Machine {
     /// Runs retention at the script's time, and replies with the marks in an empty text that has the capacity.
     fn retain_and_tell(&mut self, text: String) -> Reply
         requires empty { string_len text ≡ 0 }
-        requires room { MARKS_ROOM ≤ string_capacity text }
+        requires spare { MARKS_CAPACITY ≤ string_capacity text }
         ensures { (s : State) → IsMachineIn s self.old → Did RetainCommand s (text_of result) self.new }
     {
         if self.store.retain(self.moment).is_err() {
@@ -176,7 +176,7 @@ impl Machine {
     fn begin(&mut self) -> Reply
         ensures { (s : State) → IsMachineIn s self.old → Did BeginCommand s (text_of result) self.new }
     {
-        match String::with_capacity(self.alloc, MARKS_ROOM) {
+        match String::with_capacity(self.alloc, MARKS_CAPACITY) {
             Ok(text) => self.begin_and_tell(text),
             Err(_) => Reply::OutOfMemory,
         }
@@ -186,7 +186,7 @@ impl Machine {
     /// capacity.
     fn begin_and_tell(&mut self, text: String) -> Reply
         requires empty { string_len text ≡ 0 }
-        requires room { MARKS_ROOM ≤ string_capacity text }
+        requires spare { MARKS_CAPACITY ≤ string_capacity text }
         ensures { (s : State) → IsMachineIn s self.old → Did BeginCommand s (text_of result) self.new }
     {
         if self.store.begin(self.moment).is_err() {
@@ -221,7 +221,7 @@ impl Machine {
     fn add_rule(&mut self, text: &str) -> Reply
         ensures { (s : State) → IsMachineIn s self.old → Did (AddRuleCommand text.now) s (text_of result) self.new }
     {
-        match String::with_capacity(self.alloc, RULE_ROOM) {
+        match String::with_capacity(self.alloc, RULE_CAPACITY) {
             Ok(reply) => self.add_and_tell(text, reply),
             Err(_) => Reply::OutOfMemory,
         }
@@ -230,7 +230,7 @@ impl Machine {
     /// Adds the rule of a text, and replies with its name and low index in an empty text that has the capacity.
     fn add_and_tell(&mut self, text: &str, reply: String) -> Reply
         requires empty { string_len reply ≡ 0 }
-        requires room { RULE_ROOM ≤ string_capacity reply }
+        requires spare { RULE_CAPACITY ≤ string_capacity reply }
         ensures { (s : State) → IsMachineIn s self.old → Did (AddRuleCommand text.now) s (text_of result) self.new }
     {
         match self.store.add_rule_text(self.alloc, self.alloc, text) {
@@ -253,7 +253,7 @@ impl Machine {
     /// Replies with the marks in an empty text that has the capacity.
     fn marks(&self, text: String) -> Reply
         requires empty { string_len text ≡ 0 }
-        requires room { MARKS_ROOM ≤ string_capacity text }
+        requires spare { MARKS_CAPACITY ≤ string_capacity text }
         ensures { text_of result ≡ line (marks_text self.now.kept.settings self.now.kept.marks) }
     {
         Reply::Body(marks_line(text, self.store.settings(), self.store.marks()))
@@ -277,7 +277,7 @@ impl Machine {
         ensures { (s : State) → IsMachineIn s self.old → Did (QueryCommand text.now) s (text_of result) self.new }
     {
         let certificate = self.certificate.take();
-        match self.reply(text, lent(&certificate)) {
+        match self.reply(text, borrowed(&certificate)) {
             Ok(body) => Reply::Body(body),
             Err(_) => Reply::OutOfMemory,
         }
@@ -285,7 +285,7 @@ impl Machine {
 
     /// Returns the body of the reply to queries, with an LF.
     fn reply(&self, text: &str, certificate: Option<&str>) -> Result<String, AllocError>
-        ensures { IfOk result (λ body. (s : State) → IsMachineIn s self.now → HasReply s text.now (handed_in certificate.entry) (string_bytes body)) }
+        ensures { IfOk result (λ body. (s : State) → IsMachineIn s self.now → HasReply s text.now (given_text certificate.entry) (string_bytes body)) }
     {
         let reply = answer(
             self.alloc,
@@ -335,9 +335,9 @@ impl Machine {
     {
         let written = self
             .store
-            .write_text(&self.line_room, text, self.precision, self.moment);
+            .write_text(&self.line_capacity, text, self.precision, self.moment);
         // no borrow of the arena is left
-        let _ = self.line_room.reset();
+        let _ = self.line_capacity.reset();
         written_reply(written)
     }
 }
@@ -353,8 +353,8 @@ fn written_reply(written: Result<LineOutcome, AllocError>) -> Reply
 }
 
 /// Returns the certificate's text, if there is one.
-fn lent(certificate: &Option<String>) -> Option<&str>
-    ensures { handed_in result ≡ option_map string_bytes certificate.now }
+fn borrowed(certificate: &Option<String>) -> Option<&str>
+    ensures { given_text result ≡ option_map string_bytes certificate.now }
 {
     match certificate {
         Some(text) => Some(text.as_str()),

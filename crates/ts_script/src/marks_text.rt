@@ -7,19 +7,19 @@ ghost use Rattle.ts_script.specs.ScriptReplies.{line};
 
 use itoa::Buffer;
 use std::alloc::{AllocError, Global};
-use ts_core::{Marks, Rule, Settings, append_words};
+use ts_core::{Marks, Rule, Settings, push_all};
 
 /// Upper bound on the text of marks with its LF, in bytes: 32 rules with names of 32 bytes, and 40 bytes per number.
-pub(crate) const MARKS_ROOM: usize = 2_415;
+pub(crate) const MARKS_CAPACITY: usize = 2_415;
 
 /// Upper bound on the text of an added rule with its LF, in bytes: a name of 32 bytes, and 40 bytes for the number.
-pub(crate) const RULE_ROOM: usize = 74;
+pub(crate) const RULE_CAPACITY: usize = 74;
 
 /// Appends a space, a rule's name and its low index. Does not allocate if `text` has the capacity.
 fn low_to(text: &mut String, name: &str, low: i128) -> Result<(), AllocError>
     ensures { IsAppendedWithin (length name.now + 42) (low_text name.now low) text.old text.new result }
 {
-    append_words(text, &[" ", name, "=", Buffer::new().format(low)])
+    push_all(text, &[" ", name, "=", Buffer::new().format(low)])
 }
 
 /// Appends the name and the low index of each rule. Does not allocate if `text` has the capacity.
@@ -40,7 +40,7 @@ fn lows_to(text: &mut String, rules: &[Rule<Global>], lows: &[i128]) -> Result<(
 fn rule_to(text: &mut String, name: &str, low: i64) -> Result<(), AllocError>
     ensures { IsAppendedWithin (length name.now + 41) (rule_text name.now low) text.old text.new result }
 {
-    append_words(text, &[name, "=", Buffer::new().format(low)])
+    push_all(text, &[name, "=", Buffer::new().format(low)])
 }
 
 /// Appends a rule's name, its low index and an LF to an empty text that has the capacity; returns it. Does not
@@ -48,7 +48,7 @@ fn rule_to(text: &mut String, name: &str, low: i64) -> Result<(), AllocError>
 pub(crate) fn rule_line(mut text: String, name: &str, low: i64) -> String
     requires short { length name.now ≤ 32 }
     requires empty { string_len text ≡ 0 }
-    requires room { RULE_ROOM ≤ string_capacity text }
+    requires spare { RULE_CAPACITY ≤ string_capacity text }
     ensures { string_bytes result ≡ line (rule_text name.now low) }
 {
     match rule_to(&mut text, name, low) {
@@ -65,7 +65,7 @@ pub(crate) fn rule_line(mut text: String, name: &str, low: i64) -> String
 fn raw_to(text: &mut String, mark: i64) -> Result<(), AllocError>
     ensures { IsAppendedWithin 46 (raw_text mark) text.old text.new result }
 {
-    append_words(text, &["marks ", Buffer::new().format(mark)])
+    push_all(text, &["marks ", Buffer::new().format(mark)])
 }
 
 /// Appends the raw mark and the low index of each rule. Does not allocate if `text` has the capacity.
@@ -87,7 +87,7 @@ pub(crate) fn marks_line(
     marks: &Marks<Global>,
 ) -> String
     requires empty { string_len text ≡ 0 }
-    requires room { MARKS_ROOM ≤ string_capacity text }
+    requires spare { MARKS_CAPACITY ≤ string_capacity text }
     ensures { string_bytes result ≡ line (marks_text settings.now marks.now) }
 {
     match marks_to(&mut text, settings, marks) {

@@ -46,7 +46,7 @@ pub enum Reply {
 }
 
 /// Capacity that a reply needs for the message of a fault, in bytes.
-pub const TEXT_ROOM: usize = 35;
+pub const TEXT_CAPACITY: usize = 35;
 
 impl Reply {
     /// Appends the reply with its LF to the buffered answers. The message of a refusal is built in `text`, which has
@@ -57,8 +57,8 @@ impl Reply {
         answers: &mut OutputBuffer<Global>,
         sink: &mut Sink<W>,
     ) -> Result<(), Refused>
-        requires { TEXT_ROOM ≤ string_capacity text.old }
-        ensures room { TEXT_ROOM ≤ string_capacity text.new }
+        requires { TEXT_CAPACITY ≤ string_capacity text.old }
+        ensures spare { TEXT_CAPACITY ≤ string_capacity text.new }
         ensures sent { IsBuffered sink.old answers.old result (text_of self) sink.new answers.new }
     {
         match self {
@@ -87,8 +87,8 @@ fn send_outcome<W: Write>(
     answers: &mut OutputBuffer<Global>,
     sink: &mut Sink<W>,
 ) -> Result<(), Refused>
-    requires { TEXT_ROOM ≤ string_capacity text.old }
-    ensures room { TEXT_ROOM ≤ string_capacity text.new }
+    requires { TEXT_CAPACITY ≤ string_capacity text.old }
+    ensures spare { TEXT_CAPACITY ≤ string_capacity text.new }
     ensures sent { IsBuffered sink.old answers.old result (outcome_text outcome) sink.new answers.new }
 {
     text.clear();
@@ -107,8 +107,8 @@ fn send_made<W: Write>(
     sink: &mut Sink<W>,
 ) -> Result<(), Refused>
     requires made { IsOk made }
-    requires room { string_len text.old + 1 ≤ string_capacity text.old }
-    ensures room { string_capacity text.old ≤ string_capacity text.new }
+    requires spare { string_len text.old + 1 ≤ string_capacity text.old }
+    ensures spare { string_capacity text.old ≤ string_capacity text.new }
     ensures sent { IsBuffered sink.old answers.old result (line (string_bytes text.old)) sink.new answers.new }
 {
     match (made, text.push_str("\n")) {

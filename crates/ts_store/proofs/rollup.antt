@@ -2,7 +2,7 @@
 pub mod RollupsGrow
 pub mod RollupLemmas
 -- LivePoints
-pub mod LanePoints
+pub mod RollupSeriesPoints
 pub mod LiveParts
 -- Rollups: the cells of points
 pub mod CellsCreated

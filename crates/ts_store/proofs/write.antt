@@ -6,10 +6,10 @@ pub mod NamesKept
 pub mod SeriesLimit
 pub mod LivesGrown
 -- ColumnStates, Registered, PointsRead: columns and their points
-pub mod ColumnsAside
--- Rollups, Rooms: rollups when a lane, a column or a cell is created, and when a line is inserted
+pub mod StagedColumns
+-- Rollups, Rooms: rollups when a rollup series, a column or a cell is created, and when a line is inserted
 pub mod RollupsPut
-pub mod RoomLemmas
+pub mod CellsCreatedLemmas
 pub mod CellsMade
 -- LivePuts, LiveCells: the effect of a fact on cells
 pub mod PointsPut

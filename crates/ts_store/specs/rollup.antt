@@ -1,4 +1,4 @@
--- The rollup of a rule: lanes with their columns.
+-- The rollup of a rule: rollup series with their columns.
 -- used only by models and proofs of the code
 pub mod ColumnLists
 pub mod Rollups

@@ -7,5 +7,5 @@ pub mod LinesPut
 pub mod LineTexts
 -- used only by models and proofs of the code
 pub mod LinesInColumns
-pub mod Rooms
+pub mod CellsCreated
 pub mod LivePuts

@@ -1,5 +1,5 @@
-//! The rollup of a rule: its cells, the lane of each column, and the columns of each lane. A lane is a field with the
-//! values of the kept tags.
+//! The rollup of a rule: its cells, the rollup series of each column, and the columns of each rollup series. A rollup
+//! series is a field with the values of the kept tags.
 ghost use Rattle.std.specs.Prelude.{◌≡◌, ◌<◌, length, replicate, map, IsSome, is_some, IfSome, option_map, IfOk, OnOk, OnErr, None, Some};
 ghost use Rattle.std.specs.FinMap as finmap;
 ghost use Rattle.std.specs.List.{AllByRecursion};
@@ -8,46 +8,46 @@ ghost use Rattle.ts_core.specs.lists.Members.{AllDistinct};
 ghost use Rattle.ts_core.specs.facts.Tags.{tag_values};
 ghost use Rattle.ts_cells.specs.Expiry.{LosesBelow};
 ghost use Rattle.ts_core.specs.lists.Numbered.{IsAt};
-ghost use Rattle.ts_cells.specs.Grids.{lane_of, lane_named, lent_texts, cell_at, cell_in};
+ghost use Rattle.ts_cells.specs.Grids.{rollup_series_of, rollup_series_named, borrowed_texts, cell_at, cell_in};
 ghost use Rattle.ts_cells.specs.Walks.{entry_of, entries_within};
-ghost use Rattle.ts_store.specs.rollup.ColumnLists.{HasPlaceAt};
-ghost use Rattle.ts_store.specs.rollup.Rollups.{new_rollup, Extends, KeepsLists, KeepsCells, HasNext, with_next, with_frozen, roomed_in, frozen_in, added_in, corrected_in, live_part, lane_at, columns_of_lane};
+ghost use Rattle.ts_store.specs.rollup.ColumnLists.{HasCapacityAt};
+ghost use Rattle.ts_store.specs.rollup.Rollups.{new_rollup, Extends, KeepsLists, KeepsCells, HasNext, with_next, with_frozen, cell_created_in, frozen_in, added_in, corrected_in, live_part, rollup_series_at, columns_of_rollup_series};
 
-use lane_columns::LaneColumns;
+use series_columns::SeriesColumns;
 use std::alloc::{AllocError, Allocator};
 use std::marker::Model;
-use ts_cells::{Cells, LaneId, Parts, Walk};
+use ts_cells::{Cells, Parts, RollupSeriesId, Walk};
 use ts_core::{Agg, Key, Rule, reserve_eighth};
 use ts_raw::ColumnId;
 
 pub(crate) mod cells_filled;
-mod lane_columns;
 pub(crate) mod live_parts;
+mod series_columns;
 
-/// Cells of a rule, with the lane of each column and the columns of each lane.
+/// Cells of a rule, with the rollup series of each column and the columns of each rollup series.
 #[derive(Drop)]
 pub(crate) struct Rollup<A: Allocator> {
     cells: Cells<Agg, A>,
-    /// Lane of each column; `None` if the column is of another measurement.
-    lanes: Vec<Option<LaneId>, A>,
-    /// Columns of each lane.
-    columns: Vec<LaneColumns<A>, A>,
-    /// Lane of the column to be created next, once `prepare` has found it and allocated the column's capacity.
-    next: Option<Option<LaneId>>,
+    /// Rollup series of each column; `None` if the column is of another measurement.
+    series_list: Vec<Option<RollupSeriesId>, A>,
+    /// Columns of each rollup series.
+    columns: Vec<SeriesColumns<A>, A>,
+    /// Rollup series of the column to be created next, once `prepare` has found it and allocated the column's capacity.
+    next: Option<Option<RollupSeriesId>>,
 }
 
 impl<A: Allocator> Model for Rollup<A> {
     ghost use Rattle.std.specs.Prelude.{map};
-    ghost use Rattle.ts_store.specs.rollup.ColumnLists.{lists_in, places_in};
+    ghost use Rattle.ts_store.specs.rollup.ColumnLists.{lists_in, capacities_in};
     ghost use Rattle.ts_store.specs.rollup.Rollups.{RollupState, coded_rollup, IsRollup, has_spare};
 
     ghost Value = { RollupState };
 
     ghost coded = { coded_rollup };
 
-    ghost view = { λ r. record { grid = r.cells; lanes = r.lanes.items; next = r.next } };
+    ghost view = { λ r. record { grid = r.cells; series_list = r.series_list.items; next = r.next } };
 
-    ghost invariant = { λ r. IsRollup r.cells.lanes r.lanes.items (lists_in r.columns.items) r.next (has_spare r.lanes) (places_in r.columns.items) };
+    ghost invariant = { λ r. IsRollup r.cells.series_list r.series_list.items (lists_in r.columns.items) r.next (has_spare r.series_list) (capacities_in r.columns.items) };
 }
 
 /// Creates empty rollups for this number of rules.
@@ -70,7 +70,7 @@ fn group_of<'a, A: Allocator + Copy>(
     rule: &Rule<A>,
     key: &'a Key<A>,
 ) -> Result<Vec<&'a str, A>, AllocError>
-    ensures { IfOk result (λ group. lent_texts group.items ≡ tag_values rule.now.kept_tags key.now) }
+    ensures { IfOk result (λ group. borrowed_texts group.items ≡ tag_values rule.now.kept_tags key.now) }
 {
     let tags = rule.kept_tags();
     let mut group = Vec::with_capacity(alloc, tags.len())?;
@@ -80,41 +80,41 @@ fn group_of<'a, A: Allocator + Copy>(
     Ok(group)
 }
 
-/// Returns the lane of a field and a group, creating it and its list of columns if needed.
-fn listed_lane<A: Allocator + Copy>(
+/// Returns the rollup series of a field and a group, creating it and its list of columns if needed.
+fn listed_rollup_series<A: Allocator + Copy>(
     cells: &mut Cells<Agg, A>,
-    columns: &mut Vec<LaneColumns<A>, A>,
+    columns: &mut Vec<SeriesColumns<A>, A>,
     field: &str,
     group: &[&str],
-) -> Result<LaneId, AllocError>
-    requires each { length columns.old.items ≡ length cells.old.lanes }
-    ensures number { IfOk result (λ n. IsAt cells.new.lanes n (lane_named field.now group.now)) }
+) -> Result<RollupSeriesId, AllocError>
+    requires each { length columns.old.items ≡ length cells.old.series_list }
+    ensures number { IfOk result (λ n. IsAt cells.new.series_list n (rollup_series_named field.now group.now)) }
     ensures kept { KeepsLists cells.old columns.old.items cells.new columns.new.items }
 {
     reserve_eighth(columns, 1)?;
-    let lane = cells.lane(field, group)?;
-    if columns.len() < cells.lanes() {
-        columns.push(LaneColumns::new()).unwrap();
+    let series = cells.series(field, group)?;
+    if columns.len() < cells.series_list() {
+        columns.push(SeriesColumns::new()).unwrap();
     }
-    Ok(lane)
+    Ok(series)
 }
 
 /// Does the same, and reserves capacity for one more column in the list.
-fn lane_for<A: Allocator + Copy>(
+fn rollup_series_for<A: Allocator + Copy>(
     cells: &mut Cells<Agg, A>,
-    columns: &mut Vec<LaneColumns<A>, A>,
+    columns: &mut Vec<SeriesColumns<A>, A>,
     field: &str,
     group: &[&str],
-) -> Result<LaneId, AllocError>
-    requires each { length columns.old.items ≡ length cells.old.lanes }
-    ensures number { IfOk result (λ n. IsAt cells.new.lanes n (lane_named field.now group.now)) }
-    ensures room { IfOk result (λ n. HasPlaceAt columns.new.items n) }
+) -> Result<RollupSeriesId, AllocError>
+    requires each { length columns.old.items ≡ length cells.old.series_list }
+    ensures number { IfOk result (λ n. IsAt cells.new.series_list n (rollup_series_named field.now group.now)) }
+    ensures capacity { IfOk result (λ n. HasCapacityAt columns.new.items n) }
     ensures kept { KeepsLists cells.old columns.old.items cells.new columns.new.items }
 {
-    let lane = listed_lane(cells, columns, field, group)?;
+    let series = listed_rollup_series(cells, columns, field, group)?;
     let alloc = *columns.allocator();
-    columns[lane.number() as usize].reserve(alloc)?;
-    Ok(lane)
+    columns[series.number() as usize].reserve(alloc)?;
+    Ok(series)
 }
 
 impl<A: Allocator + Copy> Rollup<A> {
@@ -124,13 +124,13 @@ impl<A: Allocator + Copy> Rollup<A> {
     {
         Rollup {
             cells: Cells::new(alloc),
-            lanes: Vec::new(alloc),
+            series_list: Vec::new(alloc),
             columns: Vec::new(alloc),
             next: None,
         }
     }
 
-    /// Finds the lane of a new column, and allocates everything that the column needs here.
+    /// Finds the rollup series of a new column, and allocates everything that the column needs here.
     pub(crate) fn prepare(
         &mut self,
         rule: &Rule<A>,
@@ -141,53 +141,57 @@ impl<A: Allocator + Copy> Rollup<A> {
         ensures next { OnOk result (HasNext rule.now (record { series = key.now; field = field.now }) self.new) }
     {
         self.next = None;
-        reserve_eighth(&mut self.lanes, 1)?;
-        let lane = if key.measurement() == rule.measurement() {
-            let group = group_of(*self.lanes.allocator(), rule, key)?;
-            Some(lane_for(&mut self.cells, &mut self.columns, field, group.as_slice())?)
+        reserve_eighth(&mut self.series_list, 1)?;
+        let series = if key.measurement() == rule.measurement() {
+            let group = group_of(*self.series_list.allocator(), rule, key)?;
+            Some(rollup_series_for(&mut self.cells, &mut self.columns, field, group.as_slice())?)
         } else {
             None
         };
-        self.next = Some(lane);
+        self.next = Some(series);
         Ok(())
     }
 
-    /// Assigns the new column the lane that `prepare` found. Does not allocate.
+    /// Assigns the new column the rollup series that `prepare` found. Does not allocate.
     pub(crate) fn commit(&mut self, column: ColumnId)
         requires next { IsSome self.old.next }
-        requires number { column ≡ length self.old.lanes }
+        requires number { column ≡ length self.old.series_list }
         ensures { self.new ≡ with_next self.old }
     {
-        let lane = self.next.take().unwrap();
-        self.lanes.push(lane).unwrap();
-        if let Some(lane) = &lane {
-            self.columns[lane.number() as usize].push(column);
+        let series = self.next.take().unwrap();
+        self.series_list.push(series).unwrap();
+        if let Some(series) = &series {
+            self.columns[series.number() as usize].push(column);
         }
     }
 
     /// Creates the cell of a column in a bucket unless it exists. Does nothing if the column is of another measurement.
     pub(crate) fn make_room(&mut self, column: ColumnId, index: &i128) -> Result<(), AllocError>
-        requires { column < length self.old.lanes }
-        ensures ok { OnOk result (self.new ≡ with_frozen (roomed_in self.old (lane_at self.old column) index.now) self.old) }
+        requires { column < length self.old.series_list }
+        ensures ok { OnOk result (self.new ≡ with_frozen (cell_created_in self.old (rollup_series_at self.old column) index.now) self.old) }
         ensures err { OnErr result (self.new ≡ self.old) }
     {
-        match self.lanes[column.number()] {
-            Some(lane) => self.cells.make_room(index, lane),
+        match self.series_list[column.number()] {
+            Some(series) => self.cells.make_room(index, series),
             None => Ok(()),
         }
     }
 
-    /// Creates the cell of a bucket in a lane unless it exists.
-    pub(crate) fn make_room_in(&mut self, lane: LaneId, index: &i128) -> Result<(), AllocError>
-        requires { lane < length self.old.grid.lanes }
-        ensures ok { OnOk result (self.new ≡ with_frozen (roomed_in self.old (Some lane) index.now) self.old) }
+    /// Creates the cell of a bucket in a rollup series unless it exists.
+    pub(crate) fn make_room_in(
+        &mut self,
+        series: RollupSeriesId,
+        index: &i128,
+    ) -> Result<(), AllocError>
+        requires { series < length self.old.grid.series_list }
+        ensures ok { OnOk result (self.new ≡ with_frozen (cell_created_in self.old (Some series) index.now) self.old) }
         ensures err { OnErr result (self.new ≡ self.old) }
     {
-        self.cells.make_room(index, lane)
+        self.cells.make_room(index, series)
     }
 
-    /// Creates a cell, which must be missing, with this frozen part, and its lane if needed. On allocation failure, no
-    /// cell is created.
+    /// Creates a cell, which must be missing, with this frozen part, and its rollup series if needed. On allocation
+    /// failure, no cell is created.
     pub(crate) fn add_cell(
         &mut self,
         index: &i128,
@@ -195,73 +199,73 @@ impl<A: Allocator + Copy> Rollup<A> {
         group: &[&str],
         frozen: Agg,
     ) -> Result<(), AllocError>
-        requires absent { finmap.get self.old.grid.cells (cell_at index.now (lane_named field.now group.now)) ≡ None }
-        ensures made { Extends self.old.grid.lanes self.new.grid.lanes }
-        ensures lanes { self.new.lanes ≡ self.old.lanes }
-        ensures ok { OnOk result (self.new.grid.cells ≡ finmap.insert self.old.grid.cells (cell_at index.now (lane_named field.now group.now)) (record { frozen = frozen; live = empty_aggregate })) }
+        requires absent { finmap.get self.old.grid.cells (cell_at index.now (rollup_series_named field.now group.now)) ≡ None }
+        ensures made { Extends self.old.grid.series_list self.new.grid.series_list }
+        ensures series_list { self.new.series_list ≡ self.old.series_list }
+        ensures ok { OnOk result (self.new.grid.cells ≡ finmap.insert self.old.grid.cells (cell_at index.now (rollup_series_named field.now group.now)) (record { frozen = frozen; live = empty_aggregate })) }
         ensures err { OnErr result (self.new.grid.cells ≡ self.old.grid.cells) }
     {
         self.next = None;
-        let lane = listed_lane(&mut self.cells, &mut self.columns, field, group)?;
-        self.cells.make_room(index, lane)?;
+        let series = listed_rollup_series(&mut self.cells, &mut self.columns, field, group)?;
+        self.cells.make_room(index, series)?;
         // for the proof: the contract of `sum` states the bound of the count that `freeze` needs
         let _ = frozen.sum();
-        self.cells.freeze(index, lane, frozen);
+        self.cells.freeze(index, series, frozen);
         Ok(())
     }
 
     /// Merges a part into the frozen part of the cell of a column in a bucket. Does nothing if the cell doesn't exist,
     /// or if the counts add up to more than 2^62. Does not allocate.
     pub(crate) fn freeze(&mut self, column: usize, index: &i128, part: Agg)
-        requires { column < length self.old.lanes }
-        ensures { self.new ≡ with_frozen (frozen_in self.old (lane_at self.old column) index.now part) self.old }
+        requires { column < length self.old.series_list }
+        ensures { self.new ≡ with_frozen (frozen_in self.old (rollup_series_at self.old column) index.now part) self.old }
     {
-        if let Some(lane) = self.lanes[column] {
-            self.cells.freeze(index, lane, part);
+        if let Some(series) = self.series_list[column] {
+            self.cells.freeze(index, series, part);
         }
     }
 
-    /// Merges a part into the live part of the cell of a bucket in a lane. Does nothing if the cell doesn't exist, or
-    /// if the counts add up to more than 2^62. Does not allocate.
-    pub(crate) fn add(&mut self, index: &i128, lane: LaneId, part: Agg)
-        requires { lane < length self.old.grid.lanes }
-        ensures { self.new ≡ with_frozen (added_in self.old lane index.now part) self.old }
+    /// Merges a part into the live part of the cell of a bucket in a rollup series. Does nothing if the cell doesn't
+    /// exist, or if the counts add up to more than 2^62. Does not allocate.
+    pub(crate) fn add(&mut self, index: &i128, series: RollupSeriesId, part: Agg)
+        requires { series < length self.old.grid.series_list }
+        ensures { self.new ≡ with_frozen (added_in self.old series index.now part) self.old }
     {
-        self.cells.add(index, lane, part);
+        self.cells.add(index, series, part);
     }
 
-    /// Replaces the live part of the cell of a bucket in a lane, if the cell exists. Does not allocate.
-    pub(crate) fn correct(&mut self, index: &i128, lane: LaneId, live: Agg)
-        requires { lane < length self.old.grid.lanes }
-        ensures { self.new ≡ with_frozen (corrected_in self.old lane index.now live) self.old }
+    /// Replaces the live part of the cell of a bucket in a rollup series, if the cell exists. Does not allocate.
+    pub(crate) fn correct(&mut self, index: &i128, series: RollupSeriesId, live: Agg)
+        requires { series < length self.old.grid.series_list }
+        ensures { self.new ≡ with_frozen (corrected_in self.old series index.now live) self.old }
     {
-        self.cells.correct(index, lane, live);
+        self.cells.correct(index, series, live);
     }
 
-    /// Returns the live part of the cell of a bucket in a lane, if the cell exists.
-    pub(crate) fn live(&self, index: &i128, lane: LaneId) -> Option<Agg>
-        requires { lane < length self.now.grid.lanes }
-        ensures { result ≡ option_map live_part (finmap.get self.now.grid.cells (cell_in self.now.grid.lanes index.now lane)) }
+    /// Returns the live part of the cell of a bucket in a rollup series, if the cell exists.
+    pub(crate) fn live(&self, index: &i128, series: RollupSeriesId) -> Option<Agg>
+        requires { series < length self.now.grid.series_list }
+        ensures { result ≡ option_map live_part (finmap.get self.now.grid.cells (cell_in self.now.grid.series_list index.now series)) }
     {
-        let parts = self.cells.get(index, lane)?;
+        let parts = self.cells.get(index, series)?;
         Some(parts.live)
     }
 
     /// Returns true if the column is of the rule's measurement.
     pub(crate) fn rolls(&self, column: usize) -> bool
-        requires { column < length self.now.lanes }
-        ensures { result ≡ is_some (lane_at self.now column) }
+        requires { column < length self.now.series_list }
+        ensures { result ≡ is_some (rollup_series_at self.now column) }
     {
-        self.lanes[column].is_some()
+        self.series_list[column].is_some()
     }
 
-    /// Returns the lane of a column, or `None` if the column is of another measurement.
-    pub(crate) fn lane_of(&self, column: usize) -> Option<LaneId>
-        requires { column < length self.now.lanes }
-        ensures lane { result ≡ lane_at self.now column }
-        ensures inside { IfSome result (λ l. l < length self.now.grid.lanes) }
+    /// Returns the rollup series of a column, or `None` if the column is of another measurement.
+    pub(crate) fn rollup_series_of(&self, column: usize) -> Option<RollupSeriesId>
+        requires { column < length self.now.series_list }
+        ensures series { result ≡ rollup_series_at self.now column }
+        ensures inside { IfSome result (λ l. l < length self.now.grid.series_list) }
     {
-        self.lanes[column]
+        self.series_list[column]
     }
 
     /// Removes up to 256 cells below an index, and returns the number of removed cells.
@@ -272,20 +276,20 @@ impl<A: Allocator + Copy> Rollup<A> {
         self.cells.expire(low)
     }
 
-    /// Returns the columns of a lane, in creation order.
-    pub(crate) fn columns_of(&self, lane: LaneId) -> &[ColumnId]
-        requires { lane < length self.now.grid.lanes }
-        ensures columns { result.now ≡ columns_of_lane lane self.now }
-        ensures once { AllDistinct self.now.grid.lanes }
+    /// Returns the columns of a rollup series, in creation order.
+    pub(crate) fn columns_of(&self, series: RollupSeriesId) -> &[ColumnId]
+        requires { series < length self.now.grid.series_list }
+        ensures columns { result.now ≡ columns_of_rollup_series series self.now }
+        ensures once { AllDistinct self.now.grid.series_list }
     {
-        self.columns[lane.number() as usize].as_slice()
+        self.columns[series.number() as usize].as_slice()
     }
 
     /// Returns an iterator over the cells from bucket `from`, inclusive, to bucket `to`, exclusive, ordered by index,
     /// field and group. Does not allocate.
     pub(crate) fn walk(&self, from: &i128, to: &i128) -> Walk<'_, Parts<Agg>, A>
         ensures entries { map entry_of result ≡ entries_within from.now to.now self.now.grid.cells }
-        ensures lanes { AllByRecursion (λ k. IsAt self.now.grid.lanes k.lane (lane_of k.cell)) result }
+        ensures series_list { AllByRecursion (λ k. IsAt self.now.grid.series_list k.series (rollup_series_of k.cell)) result }
     {
         self.cells.walk(from, to)
     }

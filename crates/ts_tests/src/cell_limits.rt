@@ -5,20 +5,20 @@ use crate::stores::at_second;
 use crate::views::all_but_one;
 use std::alloc::{AllocError, Global};
 use std::test::Fail;
-use ts_cells::{Cells, LaneId};
+use ts_cells::{Cells, RollupSeriesId};
 use ts_core::{Agg, MAX_COUNT, Partial};
 
-/// Returns the lane of field `v` without a group.
-fn lane_of(cells: &mut Cells<Agg, Global>) -> Result<LaneId, AllocError>
-    ensures { IfOk result (λ lane. lane < length cells.new.lanes) }
+/// Returns the rollup series of field `v` without a group.
+fn rollup_series_of(cells: &mut Cells<Agg, Global>) -> Result<RollupSeriesId, AllocError>
+    ensures { IfOk result (λ series. series < length cells.new.series_list) }
 {
-    cells.lane("v", &[])
+    cells.series("v", &[])
 }
 
 /// Creates the cell of a bucket.
 fn make_room(cells: &mut Cells<Agg, Global>, index: i128) -> Result<(), AllocError> {
-    let lane = lane_of(cells)?;
-    cells.make_room(&index, lane)
+    let series = rollup_series_of(cells)?;
+    cells.make_room(&index, series)
 }
 
 #[test]
@@ -68,8 +68,8 @@ fn buckets_have_any_index(rt: HostRuntime) -> Result<(), Fail> {
 
 /// Returns the counts of the frozen and the live part of the cell of bucket 0.
 fn counts(cells: &mut Cells<Agg, Global>) -> Result<Option<(u64, u64)>, AllocError> {
-    let lane = lane_of(cells)?;
-    match cells.get(&0, lane) {
+    let series = rollup_series_of(cells)?;
+    match cells.get(&0, series) {
         Some(parts) => Ok(Some((parts.frozen.count(), parts.live.count()))),
         None => Ok(None),
     }
@@ -77,9 +77,9 @@ fn counts(cells: &mut Cells<Agg, Global>) -> Result<Option<(u64, u64)>, AllocErr
 
 /// Merges a part into both parts of the cell of bucket 0.
 fn add_to_both(cells: &mut Cells<Agg, Global>, part: Agg) -> Result<(), AllocError> {
-    let lane = lane_of(cells)?;
-    cells.freeze(&0, lane, part);
-    cells.add(&0, lane, part);
+    let series = rollup_series_of(cells)?;
+    cells.freeze(&0, series, part);
+    cells.add(&0, series, part);
     Ok(())
 }
 

@@ -88,7 +88,7 @@ impl<'a, A: Allocator + Copy> View<A> for Visited<'a, A> {
     }
 
     fn cell_walk(&self, _rule: usize, _from: &i128, _to: &i128) -> CellWalk<'_, A> {
-        CellWalk::lent(&[])
+        CellWalk::from_slice(&[])
     }
 }
 

@@ -60,9 +60,9 @@ fn append(text: &mut Text<'_>, fault: (FaultCode, FaultDetail<'_>)) -> Result<()
     fault.0.text_to(fault.1, text)
 }
 
-/// Returns a text that has the front, and capacity for `room` bytes more.
-fn front(heap: &Refusing<Global>, room: usize) -> Result<Text<'_>, AllocError> {
-    let mut text = String::with_capacity(heap, FRONT.len().saturating_add(room))?;
+/// Returns a text that has the front, and capacity for `capacity` bytes more.
+fn front(heap: &Refusing<Global>, capacity: usize) -> Result<Text<'_>, AllocError> {
+    let mut text = String::with_capacity(heap, FRONT.len().saturating_add(capacity))?;
     text.push_str(FRONT)?;
     Ok(text)
 }
@@ -73,14 +73,14 @@ fn grows_or_begins(
     heap: &Refusing<Global>,
     fault: (FaultCode, FaultDetail<'_>),
     message: &str,
-    room: usize,
+    capacity: usize,
 ) -> Result<bool, AllocError> {
-    let mut text = front(heap, room)?;
+    let mut text = front(heap, capacity)?;
     heap.refuse_after(0);
     let refused = append(&mut text, fault).is_err();
     let begun = heap.has_refused() && is_begun(text.as_str(), message);
     heap.refuse_none();
-    let mut text = front(heap, room)?;
+    let mut text = front(heap, capacity)?;
     append(&mut text, fault)?;
     Ok(refused && begun && is_whole(text.as_str(), message))
 }
@@ -103,10 +103,10 @@ fn fits(
 fn a_text_without_room_has_a_beginning(rt: HostRuntime) -> Result<(), Fail> {
     let heap = Refusing::new(rt.alloc());
     for (code, detail, message) in MESSAGES {
-        for room in 0..message.len() {
+        for capacity in 0..message.len() {
             assert!(rt;
-                grows_or_begins(&heap, (code, detail), message, room)?,
-                "{message} {room}"
+                grows_or_begins(&heap, (code, detail), message, capacity)?,
+                "{message} {capacity}"
             );
         }
         assert!(rt; fits(&heap, (code, detail), message)?, "{message}");

@@ -58,9 +58,9 @@ impl<'a, A: Allocator + Copy> View<A> for OneCell<'a, A> {
 
     fn cell_walk(&self, _rule: usize, from: &i128, to: &i128) -> CellWalk<'_, A> {
         if is_within(from, to, &self.cell.index) {
-            CellWalk::lent(slice::from_ref(&self.cell))
+            CellWalk::from_slice(slice::from_ref(&self.cell))
         } else {
-            CellWalk::lent(&[])
+            CellWalk::from_slice(&[])
         }
     }
 }

@@ -3,7 +3,7 @@ use Rattle.std.proofs.Common.{◌≡◌, ℤ, List, [], ◌∷◌, ◌++◌, ref
 use Rattle.ts_core.specs.facts.Facts.{Text}
 use Rattle.ts_core.specs.io.Devices.{Input, Output}
 use Rattle.ts_core.specs.store.StoreData.{StoreData}
-use Rattle.ts_store.specs.write.LineTexts.{State, IsIn}
+use Rattle.ts_store.specs.write.LineTexts.{LineState, IsIn}
 use Rattle.ts_http.specs.Maintaining.{left_in}
 use Rattle.ts_http.specs.HeadsRead.{request_of}
 use Rattle.ts_http.specs.Served.{ServedAs, IsServed}
@@ -15,8 +15,8 @@ use Rattle.tsdb.specs.ServedRequests.{ServedRequest, Leave, WentBy}
 pub stayed : (k : StoreData) → WentBy k k
 stayed k = λ s here. ([], s, refl, here)
 
-leave_on : (newer older : List ServedRequest) (a b c : State) → Leave older a b → Leave newer b c → Leave (newer ++ older) a c
-leave_on [] older a b c first e = subst (λ (s : State). Leave older a s) (sym e) first
+leave_on : (newer older : List ServedRequest) (a b c : LineState) → Leave older a b → Leave newer b c → Leave (newer ++ older) a c
+leave_on [] older a b c first e = subst (λ (s : LineState). Leave older a s) (sym e) first
 leave_on (r ∷ rs) older a b c first then = (then.0, leave_on rs older a b then.0 first then.1, then.2)
 
 pub went_on : (old mid new : StoreData) → WentBy old mid → WentBy mid new → WentBy old new

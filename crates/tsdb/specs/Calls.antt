@@ -9,7 +9,7 @@ use Rattle.tsdb.specs.CommandLines.{ParsesAs, outcome_of_kind, IsPrintedAs}
 use Rattle.tsdb.specs.FaultTables.{fault_table}
 use Rattle.ts_script.specs.Script.{IsReplay}
 use Rattle.ts_script.specs.ScriptLines.{turn_limit}
-use Rattle.ts_reply.specs.OutcomeViews.{handed_in}
+use Rattle.ts_reply.specs.OutcomeViews.{given_text}
 use Rattle.tsdb.specs.declared.call.Answer.{Answer}
 use Rattle.tsdb.specs.declared.call.Answer.TheVariants as answer
 use Rattle.tsdb.specs.declared.command_line.Action.{Action}
@@ -38,7 +38,7 @@ PrintsFaults table old other new = ⊥
 -- a call with this command line may have this outcome, and leave this of its source and its sink
 abbrev pub Executes : Result Action Error → Input → Output → Answer → Input → Output → Type 0
 Executes (Ok Replay) source sink (answer.Outcome outcome) source' sink' = IsReplayed source sink outcome source' sink'
-Executes (Ok (Faults number)) source sink (answer.Outcome outcome) source' sink' = PrintsFaults (fault_table (handed_in number)) sink outcome sink' × (source' ≡ source)
+Executes (Ok (Faults number)) source sink (answer.Outcome outcome) source' sink' = PrintsFaults (fault_table (given_text number)) sink outcome sink' × (source' ≡ source)
 Executes (Ok (Serve service)) source sink (answer.Service service') source' sink' = (service' ≡ service) × (source' ≡ source) × (sink' ≡ sink)
 Executes (Err error) source sink (answer.Outcome (NoScript cli_outcome)) source' sink' = IsPrintedAs (outcome_of_kind (kind_of error)) cli_outcome × (source' ≡ source) × (sink' ≡ sink)
 Executes _ source sink answer source' sink' = ⊥

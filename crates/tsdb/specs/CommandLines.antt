@@ -11,7 +11,7 @@ use Rattle.clap.specs.declared.builder.value_parser.ValueParser.TheVariants.{Sig
 use Rattle.clap.specs.declared.error.Error.{Error}
 use Rattle.clap.specs.declared.error.kind.ErrorKind.{ErrorKind}
 use Rattle.clap.specs.declared.error.kind.ErrorKind.TheVariants as kind
-use Rattle.ts_reply.specs.OutcomeViews.{handed_in}
+use Rattle.ts_reply.specs.OutcomeViews.{given_text}
 use Rattle.tsdb.specs.declared.command_line.Action.{Action}
 use Rattle.tsdb.specs.declared.command_line.Action.TheVariants.{Replay, Faults, Serve}
 use Rattle.tsdb.specs.declared.command_line.Service.{Service}
@@ -34,8 +34,8 @@ faults_app = with_rule (new_app (codes "faults")) (new_rule (codes "N"))
 abbrev pub settings_rule : Rule
 settings_rule = required_rule (codes "SETTINGS") None
 
-abbrev pub image_rule : Rule
-image_rule = required_rule (codes "IMAGE") None
+abbrev pub image_argument_rule : Rule
+image_argument_rule = required_rule (codes "IMAGE") None
 
 -- a port from 1 on
 abbrev pub port_rule : Rule
@@ -47,7 +47,7 @@ requests_rule = required_rule (codes "REQUESTS") (Some (Unsigned 0 1844674407370
 
 -- `tsdb serve SETTINGS IMAGE PORT REQUESTS`
 abbrev pub serve_app : App
-serve_app = fold with_rule (new_app (codes "serve")) (settings_rule ∷ image_rule ∷ port_rule ∷ requests_rule ∷ [])
+serve_app = fold with_rule (new_app (codes "serve")) (settings_rule ∷ image_argument_rule ∷ port_rule ∷ requests_rule ∷ [])
 
 -- `tsdb`, which requires a subcommand and knows its version
 abbrev pub tsdb_app : App
@@ -81,7 +81,7 @@ IsServiceOf rows service = (first_of (codes "SETTINGS") rows ≡ Some service.se
 abbrev pub IsActionOf : Option (Text × List Row) → Action → Type 0
 IsActionOf None action = ⊥
 IsActionOf (Some (name, rows)) Replay = name ≡ codes "replay"
-IsActionOf (Some (name, rows)) (Faults number) = (name ≡ codes "faults") × (handed_in number ≡ first_of (codes "N") rows)
+IsActionOf (Some (name, rows)) (Faults number) = (name ≡ codes "faults") × (given_text number ≡ first_of (codes "N") rows)
 IsActionOf (Some (name, rows)) (Serve service) = (name ≡ codes "serve") × IsServiceOf rows service
 
 -- The words, of which the first is the program's name, request an action if clap accepts them. Otherwise the error is

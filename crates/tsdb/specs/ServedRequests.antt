@@ -2,7 +2,7 @@
 use Rattle.std.specs.Prelude.{◌≡◌, ℕ, ℤ, Bool, true, false, List, [], ◌∷◌}
 use Rattle.ts_core.specs.facts.Facts.{Text}
 use Rattle.ts_core.specs.store.StoreData.{StoreData}
-use Rattle.ts_store.specs.write.LineTexts.{State, IsIn}
+use Rattle.ts_store.specs.write.LineTexts.{LineState, IsIn}
 use Rattle.ts_http.specs.Served.{Serves}
 use Rattle.ts_http.specs.declared.route.Route.TheVariants as to
 use Rattle.ts_http.specs.declared.serve.Served.{Served}
@@ -19,13 +19,13 @@ pub record ServedRequest : Type 0 where
   pub reply : Text
 
 -- From `old` these requests, the newest first, may leave that.
-abbrev pub Leave : List ServedRequest → State → State → Type 0
+abbrev pub Leave : List ServedRequest → LineState → LineState → Type 0
 Leave [] old new = new ≡ old
-Leave (r ∷ rs) old new = (mid : State) × Leave rs old mid × Serves r.now r.left mid r.bytes r.served r.reply new
+Leave (r ∷ rs) old new = (mid : LineState) × Leave rs old mid × Serves r.now r.left mid r.bytes r.served r.reply new
 
 -- From each state that the old store was in, some requests may lead to a state that the new one is in.
 abbrev pub WentBy : StoreData → StoreData → Type 0
-WentBy old new = (s : State) → IsIn s old → (rs : List ServedRequest) × (s' : State) × Leave rs s s' × IsIn s' new
+WentBy old new = (s : LineState) → IsIn s old → (rs : List ServedRequest) × (s' : LineState) × Leave rs s s' × IsIn s' new
 
 -- the image is saved after steps of a retention run were taken, or rules were changed
 abbrev pub is_saved_after : Served → Bool

@@ -1,7 +1,7 @@
 //! A call of the program, by the words of its command line.
 ghost use Rattle.std.specs.Prelude.{◌≡◌, ◌⊎◌, IfErr, map};
 ghost use Rattle.clap.specs.Words.{kind_of};
-ghost use Rattle.ts_reply.specs.OutcomeViews.{handed_in};
+ghost use Rattle.ts_reply.specs.OutcomeViews.{given_text};
 ghost use Rattle.tsdb.specs.CommandLines.{IsPrintedAs, outcome_of_kind};
 ghost use Rattle.tsdb.specs.FaultTables.{fault_table};
 ghost use Rattle.tsdb.specs.Calls.{IsReplayed, PrintsFaults, IsCall};
@@ -66,7 +66,7 @@ pub fn answer_words<'a, S: AsStr, R: Read, W: Write>(
 
 /// Prints the table of faults, or the row of one number.
 fn print_faults<W: Write>(alloc: Global, number: Option<&str>, sink: &mut Sink<W>) -> Outcome
-    ensures { PrintsFaults (fault_table (handed_in number.entry)) sink.old result sink.new }
+    ensures { PrintsFaults (fault_table (given_text number.entry)) sink.old result sink.new }
 {
     let table = match fault_table(alloc, number) {
         Ok(table) => table,

@@ -1,7 +1,7 @@
 //! The commands of the program with their arguments and help, as clap reads them.
 ghost use Rattle.std.specs.Prelude.{◌≡◌, IfOk, true};
 ghost use Rattle.clap.specs.Words.{app_of, rule_of};
-ghost use Rattle.tsdb.specs.CommandLines.{program_app, replay_app, faults_app, serve_app, IsCommand, IsArgument, port_rule, requests_rule, settings_rule, image_rule};
+ghost use Rattle.tsdb.specs.CommandLines.{program_app, replay_app, faults_app, serve_app, IsCommand, IsArgument, port_rule, requests_rule, settings_rule, image_argument_rule};
 
 use clap::{Arg, Command, value_parser};
 use std::alloc::{AllocError, Global};
@@ -121,7 +121,7 @@ fn settings<'a>(alloc: Global) -> Arg<'a>
 }
 
 fn image<'a>(alloc: Global) -> Arg<'a>
-    ensures { IsArgument image_rule result }
+    ensures { IsArgument image_argument_rule result }
 {
     Arg::new(alloc, "IMAGE").required(true).help(
         "The file that the store is saved in; created if it doesn't exist",

@@ -44,9 +44,9 @@ fn drain(stream: &TcpStream, clock: &impl Clock) {
         return;
     }
     let mut timed = Timed::new(stream, clock, DRAIN_PATIENCE);
-    let mut room = [0; 4096];
+    let mut buffer = [0; 4096];
     for _ in 0..DRAINS {
-        match timed.read(&mut room) {
+        match timed.read(&mut buffer) {
             Ok(n) if n > 0 => {}
             _ => return,
         }

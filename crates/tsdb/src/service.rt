@@ -14,7 +14,7 @@ use std::net::{Net, TcpListener, TcpStream};
 use std::process::ExitCode;
 use std::rt::{Clock, Files};
 use std::{fs, io};
-use ts_core::{Settings, SettingsError, SettingsFault, append_words};
+use ts_core::{Settings, SettingsError, SettingsFault, push_all};
 use ts_image::{LoadFault, SaveFault};
 use ts_store::Store;
 
@@ -80,7 +80,7 @@ impl ServiceFault {
         ensures { OnOk result (string_bytes text.new ≡ string_bytes text.old ++ service_line service.now self) }
     {
         match self {
-            ServiceFault::NoSettings => append_words(
+            ServiceFault::NoSettings => push_all(
                 text,
                 &[
                     "tsdb: ",
@@ -89,16 +89,16 @@ impl ServiceFault {
                 ],
             ),
             ServiceFault::Settings(fault) => {
-                append_words(text, &["tsdb: ", service.settings, ": "])?;
+                push_all(text, &["tsdb: ", service.settings, ": "])?;
                 fault.text_to(text)
             }
             ServiceFault::Image(fault) => {
-                append_words(text, &["tsdb: ", service.image, ": "])?;
+                push_all(text, &["tsdb: ", service.image, ": "])?;
                 fault.text_to(text)
             }
             ServiceFault::NoPort => text.push_str("tsdb: the port could not be listened on"),
             ServiceFault::NotSaved(fault) => {
-                append_words(text, &["tsdb: ", service.image, ": "])?;
+                push_all(text, &["tsdb: ", service.image, ": "])?;
                 fault.text_to(text)
             }
             ServiceFault::OutOfMemory => text.push_str("tsdb: out of memory"),

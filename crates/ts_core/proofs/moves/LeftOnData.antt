@@ -9,7 +9,7 @@ use Rattle.ts_core.specs.store.Cells.{Cell}
 use Rattle.ts_core.specs.moves.Runs.{turns_of, turns_left, steps_left, Falls, steps_in, last_left}
 use Rattle.ts_core.specs.store.StoreStates.{ColumnPoints, column_of, facts_of}
 use Rattle.ts_core.specs.store.StoreData.{CellMap, StoreData, rules_of, state_of}
-use Rattle.ts_core.specs.moves.StoreMoves.{kept_points, points_below, all_moved, column_moved, raised, run_begun, run_ended, HasRoom, HaveRoom, grown, put_cells, PutsFacts, put_facts}
+use Rattle.ts_core.specs.moves.StoreMoves.{kept_points, points_below, all_moved, column_moved, raised, run_begun, run_ended, GainsEmptyCells, GainEmptyCells, grown, put_cells, PutsFacts, put_facts}
 use Rattle.ts_core.proofs.lists.MembersLemmas.{AllDistinct-filter, Among-filter_was, Among-filter_passes, Among-filter_stays}
 use Rattle.ts_core.proofs.aggregates.Folds.{length-same}
 use Rattle.ts_core.proofs.lists.Comparisons.{lt_from}
@@ -43,7 +43,7 @@ turns_line rs lows (f ∷ fs) before after ms ns p = turns_line rs lows fs p.0 a
 
 -- ---- room
 
-module _ (r : Rule) (low : ℤ) (facts : List Fact) (m n : CellMap) (room : HasRoom r low facts m n) where
+module _ (r : Rule) (low : ℤ) (facts : List Fact) (m n : CellMap) (spare : GainsEmptyCells r low facts m n) where
   abbrev is_below : Cell → Bool
   is_below k = int_lt k.index low
 
@@ -55,9 +55,9 @@ module _ (r : Rule) (low : ℤ) (facts : List Fact) (m n : CellMap) (room : HasR
   below_roomed : BelowSame low m n
   below_roomed =
       length-same (filter is_below (finmap.keys n)) (filter is_below (finmap.keys m)) (AllDistinct-filter is_below (finmap.keys n) (keys_once n)) (AllDistinct-filter is_below (finmap.keys m) (keys_once m))
-      (below_of n m (λ k l. sym (room.above k l))) (below_of m n room.above)
+      (below_of n m (λ k l. sym (spare.above k l))) (below_of m n spare.above)
 
-turns_roomed : (rs : List Rule) (lows : List ℤ) (facts : List Fact) (ms ns : List CellMap) → HaveRoom rs lows facts ms ns → turns_left (rules_of rs lows ns) ≡ turns_left (rules_of rs lows ms)
+turns_roomed : (rs : List Rule) (lows : List ℤ) (facts : List Fact) (ms ns : List CellMap) → GainEmptyCells rs lows facts ms ns → turns_left (rules_of rs lows ns) ≡ turns_left (rules_of rs lows ms)
 turns_roomed [] lows facts ms ns e = refl
 turns_roomed (r ∷ rs) [] facts ms ns e = refl
 turns_roomed (r ∷ rs) (low ∷ lows) facts [] [] e = refl
@@ -93,9 +93,9 @@ left-last k e l =
     let a = left_open k e in
     (nil_from_length k.waiting (omega arith), omega arith)
 
-pub left-grows : (k : StoreData) (series : List Series) (columns : List ColumnPoints) (ms : List CellMap) (facts : List Fact) → HaveRoom k.settings.rules k.marks.lows facts k.cells ms
+pub left-grows : (k : StoreData) (series : List Series) (columns : List ColumnPoints) (ms : List CellMap) (facts : List Fact) → GainEmptyCells k.settings.rules k.marks.lows facts k.cells ms
     → steps_left (state_of (grown series columns ms k)) ≡ steps_left (state_of k)
-left-grows k series columns ms facts room = ap (λ t. cond k.running (length k.waiting + t + 1) 0) (turns_roomed k.settings.rules k.marks.lows facts k.cells ms room)
+left-grows k series columns ms facts spare = ap (λ t. cond k.running (length k.waiting + t + 1) 0) (turns_roomed k.settings.rules k.marks.lows facts k.cells ms spare)
 
 pub left-puts : (k : StoreData) (columns : List ColumnPoints) (facts : List Fact) (ns : List CellMap) (n : ℕ) → PutsFacts k.settings.rules k.columns k.cells columns ns facts
     → steps_left (state_of (put_facts columns ns n k)) ≡ steps_left (state_of k)

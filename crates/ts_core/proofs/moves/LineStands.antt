@@ -11,7 +11,7 @@ use Rattle.ts_core.proofs.lists.MembersLemmas.{Among-right}
 use Rattle.ts_core.proofs.store.Moves.{ColumnsToo}
 use Rattle.ts_core.proofs.store.Lines.{line_begun, write_more}
 use Rattle.ts_core.specs.store.StoreData.{CellMap, StoreData, rules_of, state_of}
-use Rattle.ts_core.specs.moves.StoreMoves.{HaveRoom, put_cells, PutsFact, PutsFacts, put_facts}
+use Rattle.ts_core.specs.moves.StoreMoves.{GainEmptyCells, put_cells, PutsFact, PutsFacts, put_facts}
 use Rattle.ts_core.proofs.moves.MovesStand.{HaveCellsOf, room_cells, cells_stay, too, written_rules}
 
 pub length_before : (fs older : List Fact) → length (put_before fs older) ≡ length fs + length older
@@ -89,9 +89,9 @@ line_more opening h k n us (f ∷ vs) facts before after ms ns e count same st c
     (cells_stay k.settings.rules k.marks.lows f (facts_of between) facts ms cells) there puts.2 lawful
 
 pub line_put : (opening : Settings) (h : History) (k : StoreData) (columns : List ColumnPoints) (facts : List Fact) (ms ns : List CellMap) → StandsFor opening h (state_of k)
-    → HaveRoom k.settings.rules k.marks.lows facts ms k.cells → ((f : Fact) → Among f facts → Among f.column (map column_of k.columns)) → PutsFacts k.settings.rules k.columns k.cells columns ns facts → IsLawful opening (Line facts ∷ h)
+    → GainEmptyCells k.settings.rules k.marks.lows facts ms k.cells → ((f : Fact) → Among f facts → Among f.column (map column_of k.columns)) → PutsFacts k.settings.rules k.columns k.cells columns ns facts → IsLawful opening (Line facts ∷ h)
     → StandsFor opening (Line facts ∷ h) (state_of (put_facts columns ns (length facts) k))
-line_put opening h k columns facts ms ns st room there puts lawful =
+line_put opening h k columns facts ms ns st spare there puts lawful =
     line_more opening h k 0 [] facts facts k.columns columns k.cells ns refl refl refl
     (subst (λ m. StandsFor opening (Line [] ∷ h) (state_of (put_at k.columns k.cells m k))) (none_yet k.accepted) (line_begun opening h (state_of k) st (front_lawful opening h [] facts lawful)))
-    (room_cells k.settings.rules k.marks.lows facts ms k.cells room) there puts lawful
+    (room_cells k.settings.rules k.marks.lows facts ms k.cells spare) there puts lawful

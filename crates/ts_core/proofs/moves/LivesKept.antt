@@ -17,7 +17,7 @@ use Rattle.ts_core.specs.store.Cells.{Cell, cell_cmp, same_cell, cell_of, is_rol
 use Rattle.ts_core.specs.lists.Changes.{or_else}
 use Rattle.ts_core.specs.store.StoreStates.{ColumnPoints, CellParts, StandsFor, HasCells, column_of, rule_of, facts_of}
 use Rattle.ts_core.specs.store.StoreData.{CellMap, StoreData, no_parts, rule_cells, rules_of, state_of, IsLive, AreLive}
-use Rattle.ts_core.specs.moves.StoreMoves.{moved_cells, all_moved, points_below, AreOf, HasRoom, HaveRoom, put_cell, put_cells, PutsFact, PutsFacts}
+use Rattle.ts_core.specs.moves.StoreMoves.{moved_cells, all_moved, points_below, AreOf, GainsEmptyCells, GainEmptyCells, put_cell, put_cells, PutsFact, PutsFacts}
 use Rattle.ts_core.proofs.lists.MembersLemmas.{no_members, Among-filter_was, Among-filter_passes}
 use Rattle.ts_core.proofs.plans.PieceCells.{same_cell-eq}
 use Rattle.ts_core.proofs.store.Cuts.{Holds}
@@ -73,29 +73,29 @@ none_there cut fs held holds r low m has k l g =
     let cell : Among (cell_of r f) (finmap.keys m) = has.there f (holds.only f (Among-filter_was (is_in_cell r k) f held a)).0 t.0 (subst (λ (x : Cell). low ≤ℤ x.index) (sym at) l) in
     key_not m k (subst (λ x. Among x (finmap.keys m)) at cell) g))
 
-live_grown : (cut : Column → ℤ) (fs : List Fact) (before after : List ColumnPoints) → facts_of after ≡ facts_of before → Holds cut fs (facts_of before) → (r : Rule) (low : ℤ) (facts : List Fact) (m n : CellMap) → HasRoom r low facts m n
+live_grown : (cut : Column → ℤ) (fs : List Fact) (before after : List ColumnPoints) → facts_of after ≡ facts_of before → Holds cut fs (facts_of before) → (r : Rule) (low : ℤ) (facts : List Fact) (m n : CellMap) → GainsEmptyCells r low facts m n
     → HasCells cut fs (rule_cells r low m) → IsLive before r m → IsLive after r n
-live_grown cut fs before after same holds r low facts m n room has a k p s =
-    let parts : or_else no_parts (finmap.get m k) ≡ p = sym (room.parts k) ∙ ap (or_else no_parts) s in
+live_grown cut fs before after same holds r low facts m n spare has a k p s =
+    let parts : or_else no_parts (finmap.get m k) ≡ p = sym (spare.parts k) ∙ ap (or_else no_parts) s in
     let facts_same : total_of r k (facts_of before) ≡ total_of r k (facts_of after) = ap (total_of r k) (sym same) in
     elim (finmap.get m k) as (λ o. finmap.get m k ≡ o → or_else no_parts o ≡ p → p.live ≡ total_of r k (facts_of after)) [
       | None ↦ λ g e.
-          let high : low ≤ℤ k.index = by_lt_z k.index low (λ l. absurd (none-some p (sym (room.above k l ∙ g) ∙ s))) (λ l. l) in
+          let high : low ≤ℤ k.index = by_lt_z k.index low (λ l. absurd (none-some p (sym (spare.above k l ∙ g) ∙ s))) (λ l. l) in
           ap (λ (x : CellParts). x.live) (sym e) ∙ sym (none_there cut fs (facts_of before) holds r low m has k high g) ∙ facts_same
       | Some q ↦ λ g e. ap (λ (x : CellParts). x.live) (sym e) ∙ a k q g ∙ facts_same
     ] refl parts
 
 -- cells are made, without raw facts
 pub lives_grown : (cut : Column → ℤ) (fs : List Fact) (before after : List ColumnPoints) → facts_of after ≡ facts_of before → Holds cut fs (facts_of before) → (rs : List Rule) (lows : List ℤ) (facts : List Fact) (ms ns : List CellMap)
-    → map rule_of (rules_of rs lows ms) ≡ rs → HaveRoom rs lows facts ms ns → AllByRecursion (HasCells cut fs) (rules_of rs lows ms) → AreLive before rs ms → AreLive after rs ns
-lives_grown cut fs before after same holds [] lows facts ms ns e room has a = tt
-lives_grown cut fs before after same holds (r ∷ rs) lows facts [] [] e room has a = tt
-lives_grown cut fs before after same holds (r ∷ rs) lows facts [] (n ∷ ns) e room has a = absurd room
-lives_grown cut fs before after same holds (r ∷ rs) lows facts (m ∷ ms) [] e room has a = tt
-lives_grown cut fs before after same holds (r ∷ rs) [] facts (m ∷ ms) (n ∷ ns) e room has a = absurd (cons_not (sym e))
-lives_grown cut fs before after same holds (r ∷ rs) (low ∷ lows) facts (m ∷ ms) (n ∷ ns) e room has a = (
-  live_grown cut fs before after same holds r low facts m n room.0 has.0 a.0,
-  lives_grown cut fs before after same holds rs lows facts ms ns (same_rest r r (map rule_of (rules_of rs lows ms)) rs e) room.1 has.1 a.1,
+    → map rule_of (rules_of rs lows ms) ≡ rs → GainEmptyCells rs lows facts ms ns → AllByRecursion (HasCells cut fs) (rules_of rs lows ms) → AreLive before rs ms → AreLive after rs ns
+lives_grown cut fs before after same holds [] lows facts ms ns e spare has a = tt
+lives_grown cut fs before after same holds (r ∷ rs) lows facts [] [] e spare has a = tt
+lives_grown cut fs before after same holds (r ∷ rs) lows facts [] (n ∷ ns) e spare has a = absurd spare
+lives_grown cut fs before after same holds (r ∷ rs) lows facts (m ∷ ms) [] e spare has a = tt
+lives_grown cut fs before after same holds (r ∷ rs) [] facts (m ∷ ms) (n ∷ ns) e spare has a = absurd (cons_not (sym e))
+lives_grown cut fs before after same holds (r ∷ rs) (low ∷ lows) facts (m ∷ ms) (n ∷ ns) e spare has a = (
+  live_grown cut fs before after same holds r low facts m n spare.0 has.0 a.0,
+  lives_grown cut fs before after same holds rs lows facts ms ns (same_rest r r (map rule_of (rules_of rs lows ms)) rs e) spare.1 has.1 a.1,
 )
 
 -- ---- facts are put
@@ -122,6 +122,6 @@ lives_line rs (f ∷ fs) before after ms ns d p a =
     lives_line rs fs p.0 after (put_cells rs f (facts_of p.0) ms) ns p.1.1.once p.2 (lives_put before p.0 f d p.1 rs ms a)
 
 pub lives_grow : (opening : Settings) (h : History) (k : StoreData) (columns : List ColumnPoints) (ms : List CellMap) (facts : List Fact) → StandsFor opening h (state_of k) → facts_of columns ≡ facts_of k.columns
-    → HaveRoom k.settings.rules k.marks.lows facts k.cells ms → AreLive k.columns k.settings.rules k.cells → AreLive columns k.settings.rules ms
-lives_grow opening h k columns ms facts st same room a =
-    lives_grown (kept_from opening h k.waiting) (latest_of h) k.columns columns same (StandsFor-Holds opening h (state_of k) st) k.settings.rules k.marks.lows facts k.cells ms st.rules room st.rolled a
+    → GainEmptyCells k.settings.rules k.marks.lows facts k.cells ms → AreLive k.columns k.settings.rules k.cells → AreLive columns k.settings.rules ms
+lives_grow opening h k columns ms facts st same spare a =
+    lives_grown (kept_from opening h k.waiting) (latest_of h) k.columns columns same (StandsFor-Holds opening h (state_of k) st) k.settings.rules k.marks.lows facts k.cells ms st.rules spare st.rolled a

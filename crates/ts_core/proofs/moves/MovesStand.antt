@@ -30,7 +30,7 @@ use Rattle.ts_core.specs.store.TwoParts.{with_live}
 use Rattle.ts_core.specs.lists.Changes.{or_else}
 use Rattle.std.proofs.lemmas.Bool.{and_parts}
 use Rattle.ts_core.specs.store.StoreData.{CellMap, no_parts, StoreData, rules_of, state_of}
-use Rattle.ts_core.specs.moves.StoreMoves.{raised, run_begun, Expired, with_cells, run_ended, HaveRoom, grown, refolded, put_cell, put_cells, PutsFact}
+use Rattle.ts_core.specs.moves.StoreMoves.{raised, run_begun, Expired, with_cells, run_ended, GainEmptyCells, grown, refolded, put_cell, put_cells, PutsFact}
 use Rattle.ts_core.proofs.moves.Freezing.{frozen_in, live_in, changed_as, changed_here, changed_else, keys_changed}
 use Rattle.ts_core.proofs.moves.StepStands.{find_among, same_flip}
 
@@ -121,7 +121,7 @@ run_ends opening h k st e = close_stands opening h (state_of k) st e
 
 -- ---- what has grown
 
-grown_cells : (cut : Column → ℤ) (fs facts : List Fact) (rs : List Rule) (lows : List ℤ) (ms ns : List CellMap) → HaveRoom rs lows facts ms ns
+grown_cells : (cut : Column → ℤ) (fs facts : List Fact) (rs : List Rule) (lows : List ℤ) (ms ns : List CellMap) → GainEmptyCells rs lows facts ms ns
     → AllByRecursion (HasCells cut fs) (rules_of rs lows ms) → AllByRecursion (HasCells cut fs) (rules_of rs lows ns)
 grown_cells cut fs facts [] lows ms ns e a = tt
 grown_cells cut fs facts (r ∷ rs) [] ms ns e a = tt
@@ -138,7 +138,7 @@ grown_cells cut fs facts (r ∷ rs) (low ∷ lows) (m ∷ ms) (n ∷ ns) e a = (
   grown_cells cut fs facts rs lows ms ns e.1 a.1,
 )
 
-rules_same : (rs : List Rule) (lows : List ℤ) (facts : List Fact) (ms ns : List CellMap) → HaveRoom rs lows facts ms ns → map rule_of (rules_of rs lows ns) ≡ map rule_of (rules_of rs lows ms)
+rules_same : (rs : List Rule) (lows : List ℤ) (facts : List Fact) (ms ns : List CellMap) → GainEmptyCells rs lows facts ms ns → map rule_of (rules_of rs lows ns) ≡ map rule_of (rules_of rs lows ms)
 rules_same [] lows facts ms ns e = refl
 rules_same (r ∷ rs) [] facts ms ns e = refl
 rules_same (r ∷ rs) (low ∷ lows) facts [] [] e = refl
@@ -146,7 +146,7 @@ rules_same (r ∷ rs) (low ∷ lows) facts [] (n ∷ ns) e = absurd e
 rules_same (r ∷ rs) (low ∷ lows) facts (m ∷ ms) [] e = absurd e
 rules_same (r ∷ rs) (low ∷ lows) facts (m ∷ ms) (n ∷ ns) e = ap (λ xs. r ∷ xs) (rules_same rs lows facts ms ns e.1)
 
-lows_same : (rs : List Rule) (lows : List ℤ) (facts : List Fact) (ms ns : List CellMap) → HaveRoom rs lows facts ms ns → map lowest_of (rules_of rs lows ns) ≡ map lowest_of (rules_of rs lows ms)
+lows_same : (rs : List Rule) (lows : List ℤ) (facts : List Fact) (ms ns : List CellMap) → GainEmptyCells rs lows facts ms ns → map lowest_of (rules_of rs lows ns) ≡ map lowest_of (rules_of rs lows ms)
 lows_same [] lows facts ms ns e = refl
 lows_same (r ∷ rs) [] facts ms ns e = refl
 lows_same (r ∷ rs) (low ∷ lows) facts [] [] e = refl
@@ -156,8 +156,8 @@ lows_same (r ∷ rs) (low ∷ lows) facts (m ∷ ms) (n ∷ ns) e = ap (λ xs. l
 
 pub grows : (opening : Settings) (h : History) (k : StoreData) (series : List Series) (columns : List ColumnPoints) (ms : List CellMap) (facts : List Fact) → StandsFor opening h (state_of k)
     → AllDistinct (map column_of columns) → ((c : Column) → Among c (map column_of k.columns) → Among c (map column_of columns)) → ((c : Column) → Among c (map column_of columns) → Among c.series series)
-    → facts_of columns ≡ facts_of k.columns → HaveRoom k.settings.rules k.marks.lows facts k.cells ms → StandsFor opening h (state_of (grown series columns ms k))
-grows opening h k series columns ms facts st once stay registered same room = record {
+    → facts_of columns ≡ facts_of k.columns → GainEmptyCells k.settings.rules k.marks.lows facts k.cells ms → StandsFor opening h (state_of (grown series columns ms k))
+grows opening h k series columns ms facts st once stay registered same spare = record {
   lawful = st.lawful;
   settings = st.settings;
   marks = st.marks;
@@ -171,9 +171,9 @@ grows opening h k series columns ms facts st once stay registered same room = re
   registered = registered;
   once = subst AllDistinct (sym same) st.once;
   raw = λ f. (λ a. (st.raw f).0 (subst (Among f) same a), λ a. subst (Among f) (sym same) ((st.raw f).1 a));
-  rules = rules_same k.settings.rules k.marks.lows facts k.cells ms room ∙ st.rules;
-  lows = lows_same k.settings.rules k.marks.lows facts k.cells ms room ∙ st.lows;
-  rolled = grown_cells (kept_from opening h k.waiting) (latest_of h) facts k.settings.rules k.marks.lows k.cells ms room st.rolled;
+  rules = rules_same k.settings.rules k.marks.lows facts k.cells ms spare ∙ st.rules;
+  lows = lows_same k.settings.rules k.marks.lows facts k.cells ms spare ∙ st.lows;
+  rolled = grown_cells (kept_from opening h k.waiting) (latest_of h) facts k.settings.rules k.marks.lows k.cells ms spare st.rolled;
 }
 
 -- ---- facts are put
@@ -219,7 +219,7 @@ HaveCellsOf (r ∷ rs) [] facts ms = Unit {0}
 HaveCellsOf (r ∷ rs) (low ∷ lows) facts [] = Unit {0}
 HaveCellsOf (r ∷ rs) (low ∷ lows) facts (m ∷ ms) = HasCellsOf r low facts m × HaveCellsOf rs lows facts ms
 
-pub room_cells : (rs : List Rule) (lows : List ℤ) (facts : List Fact) (ms ns : List CellMap) → HaveRoom rs lows facts ms ns → HaveCellsOf rs lows facts ns
+pub room_cells : (rs : List Rule) (lows : List ℤ) (facts : List Fact) (ms ns : List CellMap) → GainEmptyCells rs lows facts ms ns → HaveCellsOf rs lows facts ns
 room_cells [] lows facts ms ns e = tt
 room_cells (r ∷ rs) [] facts ms ns e = tt
 room_cells (r ∷ rs) (low ∷ lows) facts ms [] e = tt

@@ -94,7 +94,7 @@ column_frozen : (r : Rule) (k : Cell) (c : Column) (ps : List (ℤ × ℤ)) (lef
     → (merged (frozen_in (finmap.get m k)) (aggregate_of (filter (is_in_cell r k) (facts_at c ps)))).count ≤ 2 ^ 62
     → ((p : ℤ × ℤ) → Among p ps → same_text c.series.measurement r.measurement ≡ true → in_points r c k p ≡ true → finmap.get m k ≡ None → ⊥)
     → frozen_in (finmap.get (moved_cells r c ps left m) k) ≡ merged (frozen_in (finmap.get m k)) (aggregate_of (filter (is_in_cell r k) (facts_at c ps)))
-column_frozen r k c ps left m few room =
+column_frozen r k c ps left m few spare =
     let ins : List (ℤ × ℤ) = filter (in_points r c k) ps in
     let gone : Aggregate = aggregate_of (filter (is_in_cell r k) (facts_at c ps)) in
     elim (same_text c.series.measurement r.measurement) as (λ b. same_text c.series.measurement r.measurement ≡ b → frozen_in (finmap.get (cond b (refolded_points r c ps left (frozen_points r c ps m)) m) k) ≡ merged (frozen_in (finmap.get m k)) gone) [
@@ -103,7 +103,7 @@ column_frozen r k c ps left m few room =
           refolded_frozen r c k left ps (frozen_points r c ps m)
           ∙ elim (finmap.get m k) as (λ o. finmap.get m k ≡ o → (merged (frozen_in o) gone).count ≤ 2 ^ 62 → frozen_in (finmap.get (frozen_points r c ps m) k) ≡ merged (frozen_in o) gone) [
             | None ↦ λ g few'.
-                let empty : ins ≡ [] = no_members ins (λ p a. room p (Among-filter_was (in_points r c k) p ps a) t (Among-filter_passes (in_points r c k) p ps a) g) in
+                let empty : ins ≡ [] = no_members ins (λ p a. spare p (Among-filter_was (in_points r c k) p ps a) t (Among-filter_passes (in_points r c k) p ps a) g) in
                 ap frozen_in (frozen_none r c k ps m g) ∙ sym (ap (merged empty_aggregate) (same ∙ ap aggregate_of_points empty) ∙ empty_right empty_aggregate)
             | Some a ↦ λ g few'.
                 let counted : gone.count ≡ length ins = ap (λ (x : Aggregate). x.count) same ∙ fold-count aggregate_laws (λ (p : ℤ × ℤ). aggregate_of_one p.0 p.1) (λ p. refl) ins in
@@ -174,10 +174,10 @@ module _ (c : Column) (mark : ℤ) (before : List ColumnPoints) (ps : List (ℤ 
   pub live_moved : (r : Rule) (k : Cell) (m : CellMap) → live_in (finmap.get m k) ≡ total_of r k (facts_of before)
       → ((p : ℤ × ℤ) → Among p below → same_text c.series.measurement r.measurement ≡ true → in_points r c k p ≡ true → finmap.get m k ≡ None → ⊥)
       → live_in (finmap.get (moved_cells r c below left m) k) ≡ total_of r k left
-  live_moved r k m was room =
+  live_moved r k m was spare =
       elim (same_text c.series.measurement r.measurement) as (λ b. same_text c.series.measurement r.measurement ≡ b → live_in (finmap.get (cond b (refolded_points r c below left (frozen_points r c below m)) m) k) ≡ total_of r k left) [
         | true ↦ λ t. refolded_live r c k left below (frozen_points r c below m)
-            (λ y. let f = any_found r c k below y in frozen_there r c k below m (room f.0 f.1 t f.2))
+            (λ y. let f = any_found r c k below y in frozen_there r c k below m (spare f.0 f.1 t f.2))
             (λ n. frozen_live r c k below m ∙ was ∙ sym (still r k (none_in r k c below n)))
         | false ↦ λ t. was ∙ sym (still r k (points_out r k c below t))
       ] refl
@@ -209,7 +209,7 @@ rule_moved opening h lawful cut c mark before ps once there held r low m has =
     let below : List (ℤ × ℤ) = points_below mark ps in
     let left : List Fact = facts_of (map (left_points c mark) before) in
     -- the cell of a point that goes is there
-    let room : (k : Cell) → low ≤ℤ k.index → (p : ℤ × ℤ) → Among p below → same_text c.series.measurement r.measurement ≡ true → in_points r c k p ≡ true → finmap.get m k ≡ None → ⊥ = λ k l p q t i n.
+    let spare : (k : Cell) → low ≤ℤ k.index → (p : ℤ × ℤ) → Among p below → same_text c.series.measurement r.measurement ≡ true → in_points r c k p ≡ true → finmap.get m k ≡ None → ⊥ = λ k l p q t i n.
     let f : Fact = fact_at c p in
     let key : k ≡ cell_of r f = same_cell-eq k (cell_of r f) i in
     let shown : Among f (facts_of before) = facts_of-there before (record { column = c; points = ps }) f there (among_at c p ps (Among-filter_was (λ (x : ℤ × ℤ). int_lt x.0 mark) p ps q)) in
@@ -231,8 +231,8 @@ rule_moved opening h lawful cut c mark before ps once there held r low m has =
           let less : length (filter goes (facts_of before)) ≤ length (filter (is_in_cell r k) (facts_of before)) = fewer_both (is_in_cell r k) (λ (f : Fact). not (is_left c mark f)) (facts_of before) in
           let counted : (aggregate_where goes (facts_of before)).count ≡ length (filter goes (facts_of before)) = count_where goes (facts_of before) in
           let few : a.count + (aggregate_where goes (facts_of before)).count ≤ 2 ^ 62 = omega (arith, total, whole, frozen, live, less, counted) in
-          column_frozen r k c below left m (subst (λ (x : Aggregate). a.count + x.count ≤ 2 ^ 62) gone few) (room k l) ∙ ap (merged a) (sym gone);
-      live = λ k l. live_moved c mark before ps once there r k m (has.live k l ∙ live_of-held cut fs (facts_of before) held (latest-distinct (accepted h)) r k) (room k l);
+          column_frozen r k c below left m (subst (λ (x : Aggregate). a.count + x.count ≤ 2 ^ 62) gone few) (spare k l) ∙ ap (merged a) (sym gone);
+      live = λ k l. live_moved c mark before ps once there r k m (has.live k l ∙ live_of-held cut fs (facts_of before) held (latest-distinct (accepted h)) r k) (spare k l);
     }
 
 rules_moved : (opening : Settings) (h : History) → IsLawful opening h → (cut : Column → ℤ) (c : Column) (mark : ℤ) (before : List ColumnPoints) (ps : List (ℤ × ℤ)) → AllDistinct (map column_of before) → Among (record { column = c; points = ps }) before

@@ -17,7 +17,7 @@ use Rattle.ts_core.specs.plans.Pieces.{Source, Raw, Rollup, Piece, query_context
 use Rattle.ts_core.specs.store.Cells.{Cell, same_cell, cell_of, is_rolled, is_in_cell, total_of}
 use Rattle.ts_core.specs.store.StoreStates.{StoreState, StandsFor, facts_of, RuleCells}
 use Rattle.ts_core.specs.store.Views.{ViewState, Shows, view_state_of, shown_total}
-use Rattle.ts_core.specs.plans.Assembly.{in_part, stand_in, rule_shown, cell_groups, groups_given, assembled_groups, assembled_row, assembled_answer}
+use Rattle.ts_core.specs.plans.Assembly.{in_part, representative, rule_shown, cell_groups, groups_given, assembled_groups, assembled_row, assembled_answer}
 use Rattle.ts_core.proofs.settings.Intervals.{IsWide, asked_wide, settings_faultless}
 use Rattle.ts_core.proofs.lists.MembersLemmas.{Among-left, Among-right, Among-append, Among-filter_passes, Among-filter_was, Among-filter_stays, Among-map, map_back}
 use Rattle.ts_core.proofs.aggregates.Folds.{fold-count}
@@ -68,11 +68,11 @@ module _ (opening : Settings) (h : History) (seen : ViewState) (q : Query) (show
   cells_match : (a b : ℤ) (o : Option RuleCells) → Serving (latest_of h) q o a b → q.from ≤ℤ a → b ≤ℤ q.to → Among g (cell_groups q o (test a b)) → MatchIn a b
   cells_match a b o s l m n =
       let rule : Rule = s.shown.rule in
-      let full : Cell → Bool = λ c. test a b (stand_in rule c) && not (is_nothing (shown_total s.shown c)) in
-      let found = map_back (λ c. group_of q (stand_in rule c)) (filter full s.shown.cells) g (subst (λ x. Among g (cell_groups q x (test a b))) s.is n) in
+      let full : Cell → Bool = λ c. test a b (representative rule c) && not (is_nothing (shown_total s.shown c)) in
+      let found = map_back (λ c. group_of q (representative rule c)) (filter full s.shown.cells) g (subst (λ x. Among g (cell_groups q x (test a b))) s.is n) in
       let c : Cell = found.0 in
-      let p = and_parts (test a b (stand_in rule c)) (not (is_nothing (shown_total s.shown c))) (Among-filter_passes full c s.shown.cells found.1) in
-      let total : shown_total s.shown c ≡ total_of rule c (latest_of h) = s.totals.totals c (start_of-high s c.index (parts a b (stand_in rule c) p.0).1) in
+      let p = and_parts (test a b (representative rule c)) (not (is_nothing (shown_total s.shown c))) (Among-filter_passes full c s.shown.cells found.1) in
+      let total : shown_total s.shown c ≡ total_of rule c (latest_of h) = s.totals.totals c (start_of-high s c.index (parts a b (representative rule c) p.0).1) in
       let some = some_fact (filter (is_in_cell rule c) (latest_of h)) (ap is_nothing (sym total) ∙ not-true (is_nothing (shown_total s.shown c)) p.1) in
       let f : Fact = some.0 in
       let inside = and_parts (is_rolled rule f) (same_cell (cell_of rule f) c) (Among-filter_passes (is_in_cell rule c) f (latest_of h) some.1) in
@@ -80,8 +80,8 @@ module _ (opening : Settings) (h : History) (seen : ViewState) (q : Query) (show
       record {
         fact = f;
         among = Among-filter_was (is_in_cell rule c) f (latest_of h) some.1;
-        passes = same_match q (record { rule = rule; low = s.shown.low }) a b wide.query s.wide s.serves l m f inside.0 ∙ ap (λ x. test a b (stand_in rule x)) at ∙ p.0;
-        group = same_group_of q (record { rule = rule; low = s.shown.low }) a b wide.query s.wide s.serves l m f inside.0 ∙ ap (λ x. group_of q (stand_in rule x)) at ∙ found.2;
+        passes = same_match q (record { rule = rule; low = s.shown.low }) a b wide.query s.wide s.serves l m f inside.0 ∙ ap (λ x. test a b (representative rule x)) at ∙ p.0;
+        group = same_group_of q (record { rule = rule; low = s.shown.low }) a b wide.query s.wide s.serves l m f inside.0 ∙ ap (λ x. group_of q (representative rule x)) at ∙ found.2;
       }
 
   match_cells : (a b : ℤ) (o : Option RuleCells) → Serving (latest_of h) q o a b → q.from ≤ℤ a → b ≤ℤ q.to → MatchIn a b → Among g (cell_groups q o (test a b))
@@ -89,16 +89,16 @@ module _ (opening : Settings) (h : History) (seen : ViewState) (q : Query) (show
       let rule : Rule = s.shown.rule in
       let f : Fact = n.fact in
       let c : Cell = cell_of rule f in
-      let full : Cell → Bool = λ x. test a b (stand_in rule x) && not (is_nothing (shown_total s.shown x)) in
+      let full : Cell → Bool = λ x. test a b (representative rule x) && not (is_nothing (shown_total s.shown x)) in
       let p = parts a b f n.passes in
       let rolled : is_rolled rule f ≡ true = is_rolled-matches s f p.0 in
-      let passes : test a b (stand_in rule c) ≡ true = sym (same_match q (record { rule = rule; low = s.shown.low }) a b wide.query s.wide s.serves l m f rolled) ∙ n.passes in
+      let passes : test a b (representative rule c) ≡ true = sym (same_match q (record { rule = rule; low = s.shown.low }) a b wide.query s.wide s.serves l m f rolled) ∙ n.passes in
       let total : shown_total s.shown c ≡ total_of rule c (latest_of h) = s.totals.totals c (index_of-high s f.time p.1) in
       let inside : is_in_cell rule c f ≡ true = ap₂ (λ x y. x && y) rolled (same_cell-refl c) in
       let some : is_nothing (shown_total s.shown c) ≡ false = ap is_nothing total ∙ has_data f (filter (is_in_cell rule c) (latest_of h)) (Among-filter_stays (is_in_cell rule c) f (latest_of h) n.among inside) in
       let there : Among c (filter full s.shown.cells) = Among-filter_stays full c s.shown.cells (s.totals.there f n.among rolled (index_of-high s f.time p.1)) (ap₂ (λ x y. x && not y) passes some) in
-      let group : group_of q (stand_in rule c) ≡ g = sym (same_group_of q (record { rule = rule; low = s.shown.low }) a b wide.query s.wide s.serves l m f rolled) ∙ n.group in
-      subst (λ x. Among g (cell_groups q x (test a b))) (sym s.is) (subst (λ x. Among x (map (λ y. group_of q (stand_in rule y)) (filter full s.shown.cells))) group (Among-map (λ y. group_of q (stand_in rule y)) c (filter full s.shown.cells) there))
+      let group : group_of q (representative rule c) ≡ g = sym (same_group_of q (record { rule = rule; low = s.shown.low }) a b wide.query s.wide s.serves l m f rolled) ∙ n.group in
+      subst (λ x. Among g (cell_groups q x (test a b))) (sym s.is) (subst (λ x. Among x (map (λ y. group_of q (representative rule y)) (filter full s.shown.cells))) group (Among-map (λ y. group_of q (representative rule y)) c (filter full s.shown.cells) there))
 
   piece_match : (source : Source) (a b : ℤ) → SourceServes (query_context seen.settings seen.marks q) source a b → q.from ≤ℤ a → b ≤ℤ q.to → Among g (groups_given seen q source (test a b)) → MatchIn a b
   piece_match Raw a b s l m n =

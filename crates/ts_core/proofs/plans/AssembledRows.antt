@@ -18,7 +18,7 @@ use Rattle.ts_core.specs.plans.Pieces.{Source, Raw, Rollup, Piece, query_context
 use Rattle.ts_core.specs.store.Cells.{Cell, same_cell, cell_of, is_rolled, is_in_cell}
 use Rattle.ts_core.specs.store.StoreStates.{facts_of, RuleCells}
 use Rattle.ts_core.specs.store.Views.{ViewState, Shows, shown_total}
-use Rattle.ts_core.specs.plans.Assembly.{in_part, stand_in, rule_shown, totals_given, aggregate_given, assembled}
+use Rattle.ts_core.specs.plans.Assembly.{in_part, representative, rule_shown, totals_given, aggregate_given, assembled}
 use Rattle.ts_core.proofs.settings.Intervals.{IsWide}
 use Rattle.ts_core.proofs.lists.MembersLemmas.{AllDistinct-filter, Among-filter_passes, Among-filter_was, Among-filter_stays, filter-none}
 use Rattle.ts_core.proofs.aggregates.Folds.{fold-same}
@@ -60,20 +60,20 @@ cells_piece q g k a b fs o v s h l =
     let xs : List Fact = filter test fs in
     let parts : (f : Fact) → test f ≡ true → (is_in_row q g k f ≡ true) × (is_within a b f.time ≡ true) = λ f p. and_parts (is_in_row q g k f) (is_within a b f.time) p in
     let rolled : (f : Fact) → test f ≡ true → is_rolled rule f ≡ true = λ f p. is_rolled-matches s f (in_row-matches q g k f (parts f p).0) in
-    let alike : (f : Fact) → is_rolled rule f ≡ true → test f ≡ test (stand_in rule (cell_of rule f)) = λ f m. same_row q (record { rule = rule; low = y.low }) a b v s.wide s.serves h l f m g k in
-    let passes : Cell → Bool = λ c. test (stand_in rule c) in
+    let alike : (f : Fact) → is_rolled rule f ≡ true → test f ≡ test (representative rule (cell_of rule f)) = λ f m. same_row q (record { rule = rule; low = y.low }) a b v s.wide s.serves h l f m g k in
+    let passes : Cell → Bool = λ c. test (representative rule c) in
     let ks : List Cell = filter passes y.cells in
     let inside : (f : Fact) → Among f xs → Among (cell_of rule f) ks = λ f m.
     let p : test f ≡ true = Among-filter_passes test f fs m in
     Among-filter_stays passes (cell_of rule f) y.cells (s.totals.there f (Among-filter_was test f fs m) (rolled f p) (index_of-high s f.time (parts f p).1)) (sym (alike f (rolled f p)) ∙ p) in
     let each : (c : Cell) → Among c ks → shown_total y c ≡ aggregate_of (filter (λ f. same_cell (cell_of rule f) c) xs) = λ c m.
-    let p : test (stand_in rule c) ≡ true = Among-filter_passes passes c y.cells m in
+    let p : test (representative rule c) ≡ true = Among-filter_passes passes c y.cells m in
     let agree : (f : Fact) → (is_rolled rule f && same_cell (cell_of rule f) c) ≡ (test f && same_cell (cell_of rule f) c) = λ f.
     elim (same_cell (cell_of rule f) c) as (λ z. same_cell (cell_of rule f) c ≡ z → (is_rolled rule f && z) ≡ (test f && z)) [
-      | true ↦ λ e. ap (λ z. z && true) (same_bool (is_rolled rule f) (test f) (λ m. alike f m ∙ ap (λ z. test (stand_in rule z)) (same_cell-eq (cell_of rule f) c e) ∙ p) (rolled f))
+      | true ↦ λ e. ap (λ z. z && true) (same_bool (is_rolled rule f) (test f) (λ m. alike f m ∙ ap (λ z. test (representative rule z)) (same_cell-eq (cell_of rule f) c e) ∙ p) (rolled f))
       | false ↦ λ e. and_none (is_rolled rule f) ∙ sym (and_none (test f))
     ] refl in
-    s.totals.totals c (start_of-high s c.index (parts (stand_in rule c) p).1)
+    s.totals.totals c (start_of-high s c.index (parts (representative rule c) p).1)
     ∙ ap aggregate_of (filter-agree (is_in_cell rule c) (λ f. test f && same_cell (cell_of rule f) c) fs (λ f m. agree f) ∙ sym (filter_both (λ f. same_cell (cell_of rule f) c) test fs)) in
     ap (λ x. totals_given x test) s.is
     ∙ fold-agree (shown_total y) (λ c. aggregate_of (filter (λ f. same_cell (cell_of rule f) c) xs)) ks each

@@ -7,7 +7,7 @@ use Rattle.std.proofs.lemmas.Bool.{and_parts}
 use Rattle.ts_core.specs.facts.Facts.{Text}
 use Rattle.ts_core.specs.plans.Pieces.{Source, Raw, Rollup, Piece, MarkedRule, QueryContext, SourceServes, IsValidPiece, Covers, IsValidFrom}
 use Rattle.ts_core.specs.plans.Faults.{Fault, piece_fault}
-use Rattle.ts_core.specs.plans.Plans.{IsFirstToLead, Steps, IsWalk, is_same_rule, is_faultless, extended, joined_onto, joined, IsPlanOf}
+use Rattle.ts_core.specs.plans.Plans.{IsFirstToLead, Steps, IsWalk, is_same_rule, is_faultless, extended, merged_onto, joined, IsPlanOf}
 use Rattle.ts_core.proofs.settings.Intervals.{IsWide}
 use Rattle.ts_core.proofs.plans.Validity.{source_from}
 use Rattle.ts_core.proofs.plans.GoodPlaces.{rule_wide, good_within}
@@ -40,10 +40,10 @@ faultless_none (Some f) h = absurd (true≢false (sym h))
 abbrev joins : QueryContext → Piece → Piece → Bool
 joins t p b = is_same_rule p.source b.source && is_faultless (piece_fault t (extended p b))
 
-pub joined_valid : (t : QueryContext) (a : ℤ) (p : Piece) (bs : List Piece) → IsValidFrom t a (p ∷ bs) → IsValidFrom t a (joined_onto t p bs)
+pub joined_valid : (t : QueryContext) (a : ℤ) (p : Piece) (bs : List Piece) → IsValidFrom t a (p ∷ bs) → IsValidFrom t a (merged_onto t p bs)
 joined_valid t a p [] v = v
 joined_valid t a p (b ∷ bs) v =
-    elim (joins t p b) as (λ z. joins t p b ≡ z → IsValidFrom t a (cond z (joined_onto t (extended p b) bs) (p ∷ joined_onto t b bs))) [
+    elim (joins t p b) as (λ z. joins t p b ≡ z → IsValidFrom t a (cond z (merged_onto t (extended p b) bs) (p ∷ merged_onto t b bs))) [
       | true ↦ λ e.
           let none = faultless_none (piece_fault t (extended p b)) (and_parts (is_same_rule p.source b.source) _ e).1 in
           let c = v.covers in

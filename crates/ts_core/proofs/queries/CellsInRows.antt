@@ -12,7 +12,7 @@ use Rattle.ts_core.specs.queries.Queries.{Condition, Query, meets, is_selected, 
 use Rattle.ts_core.specs.plans.Pieces.{MarkedRule, RuleServes}
 use Rattle.ts_core.specs.store.Cells.{cell_of, is_rolled}
 use Rattle.ts_core.specs.queries.Answers.{same_group, is_in_row, bucket_in}
-use Rattle.ts_core.specs.plans.Assembly.{stand_in, in_part}
+use Rattle.ts_core.specs.plans.Assembly.{representative, in_part}
 use Rattle.ts_core.proofs.facts.Ids.{same_text-eq}
 use Rattle.ts_core.proofs.lists.Comparisons.{le_true, lt_true, same_text-refl}
 use Rattle.ts_core.proofs.queries.Boundaries.{cell_start, within_cell, within_parts, one_bucket}
@@ -96,16 +96,16 @@ module _ (q : Query) (r : MarkedRule) (a b : ℤ) (v : pos 1 ≤ℤ q.interval) 
   in_query e = wider a b q.from q.to f.time h l e ∙ sym (wider a b q.from q.to u h l (sym range ∙ e))
 
   -- they are of one group
-  pub same_group_of : group_of q f ≡ group_of q (stand_in r.rule (cell_of r.rule f))
+  pub same_group_of : group_of q f ≡ group_of q (representative r.rule (cell_of r.rule f))
   same_group_of = same_values r.rule f q.group_tags tags_kept.0
 
   -- they match alike
-  pub same_match : in_part (matches q) a b f ≡ in_part (matches q) a b (stand_in r.rule (cell_of r.rule f))
+  pub same_match : in_part (matches q) a b f ≡ in_part (matches q) a b (representative r.rule (cell_of r.rule f))
   same_match =
       match_in_range (is_selected q f.column) (is_selected q cell_column) (is_within q.from q.to f.time) (is_within q.from q.to u) (is_within a b f.time) (is_within a b u) selected range in_query
 
   -- they are in the same rows
-  pub same_row : (g : List Text) (k : ℤ) → in_part (is_in_row q g k) a b f ≡ in_part (is_in_row q g k) a b (stand_in r.rule (cell_of r.rule f))
+  pub same_row : (g : List Text) (k : ℤ) → in_part (is_in_row q g k) a b f ≡ in_part (is_in_row q g k) a b (representative r.rule (cell_of r.rule f))
   same_row g k =
       in_range (is_selected q f.column) (is_selected q cell_column) (is_within q.from q.to f.time) (is_within q.from q.to u)
       (same_group (group_of q f) g) (same_group (tag_values q.group_tags (kept_series r.rule f)) g)

@@ -48,14 +48,14 @@ place_previous fs e (x ∷ rows) zero r h d =
     ap (λ (y : Row). Some (repeated fs (last_data e y) y.start)) p ∙ ap (λ a. Some (repeated fs a r.start)) (last_of_data e r d)
 place_previous fs e (x ∷ rows) (suc i) r h d = place_previous fs (last_data e x) rows i r h d
 
-pub null_fill-place : (fs : List Function) (rows : List Row) (i : ℕ) (r : Row) → slice_get rows i ≡ Some r → slice_get (filled_rows NullFill fs rows) i ≡ Some (shown fs r)
-null_fill-place fs rows i r h = at_map_of (shown fs) rows i r h
+pub null_fill-index : (fs : List Function) (rows : List Row) (i : ℕ) (r : Row) → slice_get rows i ≡ Some r → slice_get (filled_rows NullFill fs rows) i ≡ Some (shown fs r)
+null_fill-index fs rows i r h = at_map_of (shown fs) rows i r h
 
-pub previous_fill-place : (fs : List Function) (rows : List Row) (i : ℕ) (r : Row) → slice_get rows i ≡ Some r → has_data r ≡ true → slice_get (filled_rows PreviousFill fs rows) i ≡ Some (shown fs r)
-previous_fill-place fs rows i r h d = place_previous fs None rows i r h d
+pub previous_fill-index : (fs : List Function) (rows : List Row) (i : ℕ) (r : Row) → slice_get rows i ≡ Some r → has_data r ≡ true → slice_get (filled_rows PreviousFill fs rows) i ≡ Some (shown fs r)
+previous_fill-index fs rows i r h d = place_previous fs None rows i r h d
 
-pub number_fill-place : (n : ℤ) (fs : List Function) (rows : List Row) (i : ℕ) (r : Row) → slice_get rows i ≡ Some r → has_data r ≡ true → slice_get (filled_rows (NumberFill n) fs rows) i ≡ Some (shown fs r)
-number_fill-place n fs rows i r h d = at_map_of (numbered fs n) rows i r h ∙ ap Some (numbered_data fs n r d)
+pub number_fill-index : (n : ℤ) (fs : List Function) (rows : List Row) (i : ℕ) (r : Row) → slice_get rows i ≡ Some r → has_data r ≡ true → slice_get (filled_rows (NumberFill n) fs rows) i ≡ Some (shown fs r)
+number_fill-index n fs rows i r h d = at_map_of (numbered fs n) rows i r h ∙ ap Some (numbered_data fs n r d)
 
 -- ---- rows without data
 

@@ -36,13 +36,13 @@ AppendsFront old new bytes = (sent : List ℕ) × (rest : List ℕ) × (bytes �
 
 -- ---- the effect of a call
 
--- one read into a buffer, whose new content is `room`
-pub record IsRead {E : Type 0} (old : Input) (result : Result ℕ E) (room : List ℕ) (new : Input) : Type 0 where
-  pub bound : ReadsAtMost result room
-  pub bytes : ReadConsumes old.remaining new.remaining result room
+-- one read into a buffer, whose new content is `buffer`
+pub record IsRead {E : Type 0} (old : Input) (result : Result ℕ E) (buffer : List ℕ) (new : Input) : Type 0 where
+  pub bound : ReadsAtMost result buffer
+  pub bytes : ReadConsumes old.remaining new.remaining result buffer
   pub turns : new.turns ≡ old.turns + 1
   pub failures : new.failures ≡ old.failures + one_if_err result
-  pub ends : new.ends ≡ old.ends + one_if_stuck result room
+  pub ends : new.ends ≡ old.ends + one_if_stuck result buffer
 
 -- one write of some bytes
 pub record IsWritten {E : Type 0} (old : Output) (result : Result ℕ E) (given : List ℕ) (new : Output) : Type 0 where

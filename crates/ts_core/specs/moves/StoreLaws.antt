@@ -12,7 +12,7 @@ use Rattle.ts_core.specs.store.History.{Line, Begin, Step, IsLawful}
 use Rattle.ts_core.specs.store.StoreStates.{ColumnPoints, StandsFor, column_of, facts_at, facts_of}
 use Rattle.ts_core.specs.store.StoreData.{CellMap, StoreData, rules_of, state_of, new_data, AreLive, OfEachHistory, GoesOn, StaysFor, ShowsEach}
 use Rattle.ts_core.specs.moves.Runs.{turns_left, steps_left, Falls, steps_in, last_left}
-use Rattle.ts_core.specs.moves.StoreMoves.{kept_points, points_below, PutsFact, column_moved, raised, run_begun, Expired, AreOf, with_cells, run_ended, HaveRoom, grown, PutsFacts, put_facts}
+use Rattle.ts_core.specs.moves.StoreMoves.{kept_points, points_below, PutsFact, column_moved, raised, run_begun, Expired, AreOf, with_cells, run_ended, GainEmptyCells, grown, PutsFacts, put_facts}
 
 -- a new store with valid settings represents the empty history
 abbrev pub NewStands : Type 0
@@ -38,12 +38,12 @@ RunEnds = (k : StoreData) → k.waiting ≡ [] → GoesOn k (Step true) (run_end
 abbrev pub Grows : Type 0
 Grows = (k : StoreData) (series : List Series) (columns : List ColumnPoints) (ms : List CellMap) (facts : List Fact)
     → AllDistinct (map column_of columns) → ((c : Column) → Among c (map column_of k.columns) → Among c (map column_of columns)) → ((c : Column) → Among c (map column_of columns) → Among c.series series)
-    → facts_of columns ≡ facts_of k.columns → HaveRoom k.settings.rules k.marks.lows facts k.cells ms → StaysFor k (grown series columns ms k)
+    → facts_of columns ≡ facts_of k.columns → GainEmptyCells k.settings.rules k.marks.lows facts k.cells ms → StaysFor k (grown series columns ms k)
 
 -- the facts of a line are inserted if the cells for them exist
 abbrev pub LinePut : Type 0
 LinePut = (k : StoreData) (columns : List ColumnPoints) (facts : List Fact) (ms ns : List CellMap)
-    → HaveRoom k.settings.rules k.marks.lows facts ms k.cells → ((f : Fact) → Among f facts → Among f.column (map column_of k.columns)) → PutsFacts k.settings.rules k.columns k.cells columns ns facts
+    → GainEmptyCells k.settings.rules k.marks.lows facts ms k.cells → ((f : Fact) → Among f facts → Among f.column (map column_of k.columns)) → PutsFacts k.settings.rules k.columns k.cells columns ns facts
     → OfEachHistory k (λ opening h. IsLawful opening (Line facts ∷ h) → StandsFor opening (Line facts ∷ h) (state_of (put_facts columns ns (length facts) k)))
 
 -- the view shows every history that the store represents
@@ -62,7 +62,7 @@ pub record LivesKept : Type 0 where
   pub moved : (k : StoreData) (c : Column) (ps : List (ℤ × ℤ)) (rest : List Column) → AllDistinct (map column_of k.columns) → Among (record { column = c; points = ps }) k.columns → IsLiveData k → IsLiveData (column_moved c ps rest k)
   pub gone : (k : StoreData) (ms : List CellMap) → AreOf k.cells ms → IsLiveData k → IsLiveData (with_cells ms k)
   pub grown : (k : StoreData) (series : List Series) (columns : List ColumnPoints) (ms : List CellMap) (facts : List Fact)
-      → facts_of columns ≡ facts_of k.columns → HaveRoom k.settings.rules k.marks.lows facts k.cells ms → IsLiveData k → OfEachHistory k (λ opening h. IsLiveData (grown series columns ms k))
+      → facts_of columns ≡ facts_of k.columns → GainEmptyCells k.settings.rules k.marks.lows facts k.cells ms → IsLiveData k → OfEachHistory k (λ opening h. IsLiveData (grown series columns ms k))
   pub put : (k : StoreData) (columns : List ColumnPoints) (facts : List Fact) (ns : List CellMap) (n : ℕ) → AllDistinct (facts_of k.columns) → PutsFacts k.settings.rules k.columns k.cells columns ns facts → IsLiveData k → IsLiveData (put_facts columns ns n k)
 
 -- ---- ways to compute a live part
@@ -94,7 +94,7 @@ pub record LeftFalls : Type 0 where
   pub moves : (k : StoreData) (c : Column) (ps : List (ℤ × ℤ)) (rest : List Column) → k.running ≡ true → k.waiting ≡ c ∷ rest → steps_left (state_of k) ≡ steps_left (state_of (column_moved c ps rest k)) + 1
   pub ends : (k : StoreData) → k.running ≡ true → k.waiting ≡ [] → turns_left (rules_of k.settings.rules k.marks.lows k.cells) ≡ 0 → (steps_left (state_of k) ≡ 1) × (steps_left (state_of (run_ended k)) ≡ 0)
   pub last : (k : StoreData) → k.running ≡ true → steps_left (state_of k) ≡ 1 → (k.waiting ≡ []) × (turns_left (rules_of k.settings.rules k.marks.lows k.cells) ≡ 0)
-  pub grows : (k : StoreData) (series : List Series) (columns : List ColumnPoints) (ms : List CellMap) (facts : List Fact) → HaveRoom k.settings.rules k.marks.lows facts k.cells ms
+  pub grows : (k : StoreData) (series : List Series) (columns : List ColumnPoints) (ms : List CellMap) (facts : List Fact) → GainEmptyCells k.settings.rules k.marks.lows facts k.cells ms
       → steps_left (state_of (grown series columns ms k)) ≡ steps_left (state_of k)
   pub puts : (k : StoreData) (columns : List ColumnPoints) (facts : List Fact) (ns : List CellMap) (n : ℕ) → PutsFacts k.settings.rules k.columns k.cells columns ns facts
       → steps_left (state_of (put_facts columns ns n k)) ≡ steps_left (state_of k)

@@ -133,19 +133,19 @@ run_ended k = record {
 
 -- n has a cell for each fact of the rule's measurement from the low index on. Compared with m, no cell is lost, no part
 -- changes, and no cell is created below the low index.
-pub record HasRoom (r : Rule) (low : ℤ) (facts : List Fact) (m n : CellMap) : Type 0 where
+pub record GainsEmptyCells (r : Rule) (low : ℤ) (facts : List Fact) (m n : CellMap) : Type 0 where
   pub there : (f : Fact) → Among f facts → is_rolled r f ≡ true → low ≤ℤ (cell_of r f).index → finmap.get n (cell_of r f) ≡ None → ⊥
   pub stays : (k : Cell) → finmap.get n k ≡ None → finmap.get m k ≡ None
   pub parts : (k : Cell) → or_else no_parts (finmap.get n k) ≡ or_else no_parts (finmap.get m k)
   pub above : (k : Cell) → k.index <ℤ low → finmap.get n k ≡ finmap.get m k
 
-abbrev pub HaveRoom : List Rule → List ℤ → List Fact → List CellMap → List CellMap → Type 0
-HaveRoom rs lows facts [] [] = Unit {0}
-HaveRoom rs lows facts [] (n ∷ ns) = ⊥
-HaveRoom rs lows facts (m ∷ ms) [] = ⊥
-HaveRoom [] lows facts (m ∷ ms) (n ∷ ns) = Unit {0}
-HaveRoom (r ∷ rs) [] facts (m ∷ ms) (n ∷ ns) = Unit {0}
-HaveRoom (r ∷ rs) (low ∷ lows) facts (m ∷ ms) (n ∷ ns) = HasRoom r low facts m n × HaveRoom rs lows facts ms ns
+abbrev pub GainEmptyCells : List Rule → List ℤ → List Fact → List CellMap → List CellMap → Type 0
+GainEmptyCells rs lows facts [] [] = Unit {0}
+GainEmptyCells rs lows facts [] (n ∷ ns) = ⊥
+GainEmptyCells rs lows facts (m ∷ ms) [] = ⊥
+GainEmptyCells [] lows facts (m ∷ ms) (n ∷ ns) = Unit {0}
+GainEmptyCells (r ∷ rs) [] facts (m ∷ ms) (n ∷ ns) = Unit {0}
+GainEmptyCells (r ∷ rs) (low ∷ lows) facts (m ∷ ms) (n ∷ ns) = GainsEmptyCells r low facts m n × GainEmptyCells rs lows facts ms ns
 
 -- more series, columns and cells, but no more facts
 abbrev pub grown : List Series → List ColumnPoints → List CellMap → StoreData → StoreData

@@ -14,8 +14,8 @@ use Rattle.ts_core.specs.store.StoreStates.{facts_of, RuleCells}
 use Rattle.ts_core.specs.store.Views.{ViewState, shown_total}
 
 -- a cell matches as a representative fact would: one at the start of its bucket, in a series with the kept tags
-abbrev pub stand_in : Rule → Cell → Fact
-stand_in r k = record { column = record { series = record { measurement = r.measurement; tags = zip r.kept_tags k.group }; field = k.field }; time = start_of r k.index; value = pos 0 }
+abbrev pub representative : Rule → Cell → Fact
+representative r k = record { column = record { series = record { measurement = r.measurement; tags = zip r.kept_tags k.group }; field = k.field }; time = start_of r k.index; value = pos 0 }
 
 -- the first rule of a name in the view
 abbrev pub rule_shown : Text → List RuleCells → Option RuleCells
@@ -31,7 +31,7 @@ in_part test a b f = test f && is_within a b f.time
 -- the merged totals of the matching cells
 abbrev pub totals_given : Option RuleCells → (Fact → Bool) → Aggregate
 totals_given None test = empty_aggregate
-totals_given (Some r) test = fold_by empty_aggregate merged (shown_total r) (filter (λ (k : Cell). test (stand_in r.rule k)) r.cells)
+totals_given (Some r) test = fold_by empty_aggregate merged (shown_total r) (filter (λ (k : Cell). test (representative r.rule k)) r.cells)
 
 abbrev pub aggregate_given : ViewState → Source → (Fact → Bool) → Aggregate
 aggregate_given seen Raw test = aggregate_of (filter test (facts_of seen.columns))
@@ -46,7 +46,7 @@ assembled seen q pieces g k = fold_by empty_aggregate merged (λ (p : Piece). ag
 -- the groups of the matching cells that have data
 abbrev pub cell_groups : Query → Option RuleCells → (Fact → Bool) → List (List Text)
 cell_groups q None test = []
-cell_groups q (Some r) test = map (λ (k : Cell). group_of q (stand_in r.rule k)) (filter (λ (k : Cell). test (stand_in r.rule k) && not ((shown_total r k).count == 0)) r.cells)
+cell_groups q (Some r) test = map (λ (k : Cell). group_of q (representative r.rule k)) (filter (λ (k : Cell). test (representative r.rule k) && not ((shown_total r k).count == 0)) r.cells)
 
 abbrev pub groups_given : ViewState → Query → Source → (Fact → Bool) → List (List Text)
 groups_given seen q Raw test = map (group_of q) (filter test (facts_of seen.columns))

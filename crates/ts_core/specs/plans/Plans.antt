@@ -67,16 +67,16 @@ abbrev pub extended : Piece → Piece → Piece
 extended p b = record { source = p.source; from = p.from; to = b.to }
 
 -- from left to right: the next bucket of the same rule extends the piece as long as the result is valid
-abbrev pub joined_onto : QueryContext → Piece → List Piece → List Piece
-joined_onto t p [] = p ∷ []
-joined_onto t p (b ∷ bs) =
+abbrev pub merged_onto : QueryContext → Piece → List Piece → List Piece
+merged_onto t p [] = p ∷ []
+merged_onto t p (b ∷ bs) =
     if is_same_rule p.source b.source && is_faultless (piece_fault t (extended p b))
-    then joined_onto t (extended p b) bs
-    else (p ∷ joined_onto t b bs)
+    then merged_onto t (extended p b) bs
+    else (p ∷ merged_onto t b bs)
 
 abbrev pub joined : QueryContext → List Piece → List Piece
 joined t [] = []
-joined t (b ∷ bs) = joined_onto t b bs
+joined t (b ∷ bs) = merged_onto t b bs
 
 abbrev pub IsPlanOf : QueryContext → List Piece → Type 0
 IsPlanOf t ps = (bs : List Piece) × IsWalk t t.query.from bs × (ps ≡ joined t bs)

@@ -69,7 +69,7 @@ rule_fault_text fault = fault_text (rule_fault_code fault) detailed.Alone
 abbrev pub settings_fault_text : SettingsFault → Text
 settings_fault_text Form = fault_text coded.BadSettingsText detailed.Alone
 settings_fault_text TooManyRules = fault_text coded.TooManyRules detailed.Alone
-settings_fault_text (OfRule fault place) = fault_text (rule_fault_code fault) (detailed.OfRule place)
+settings_fault_text (OfRule fault index) = fault_text (rule_fault_code fault) (detailed.OfRule index)
 
 unfoldable pub settings_error_text : SettingsError → Text
 settings_error_text (errors.Fault fault) = settings_fault_text fault

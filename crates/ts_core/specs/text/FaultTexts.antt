@@ -9,8 +9,8 @@ use Rattle.ts_core.specs.declared.text.fault_text.FaultDetail.{FaultDetail}
 use Rattle.ts_core.specs.declared.text.fault_text.FaultDetail.TheVariants.{Alone, At, AtToken, OfRule, OfPiece, Mark}
 
 -- a byte offset in a text or a file
-abbrev pub at_place : ℕ → Text
-at_place offset = codes " at " ++ decimal offset
+abbrev pub at_offset : ℕ → Text
+at_offset offset = codes " at " ++ decimal offset
 
 -- a byte offset, and the token there
 abbrev pub at_token : ℕ → Text → Text
@@ -19,10 +19,10 @@ at_token offset token = codes " at " ++ (decimal offset ++ (codes " " ++ token))
 -- the detail that follows the number
 abbrev pub detail_text : FaultDetail → Text
 detail_text Alone = []
-detail_text (At offset) = at_place offset
+detail_text (At offset) = at_offset offset
 detail_text (AtToken offset token) = at_token offset token.now
-detail_text (OfRule place) = codes " rule " ++ decimal place
-detail_text (OfPiece place) = codes " piece " ++ decimal place
+detail_text (OfRule index) = codes " rule " ++ decimal index
+detail_text (OfPiece index) = codes " piece " ++ decimal index
 detail_text (Mark nanos) = codes " mark " ++ signed_decimal nanos
 
 abbrev pub numbered_text : FaultCode → Text → Text
@@ -52,5 +52,5 @@ pub record EndsEarly (text old new : Text) : Type 0 where
 pub record IsAppended {A T E : Type 0} (text : Text) (old new : String A) (result : Result T E) : Type 0 where
   pub ok : OnOk result (string_bytes new ≡ string_bytes old ++ text)
   pub err : OnErr result (EndsEarly text (string_bytes old) (string_bytes new))
-  pub room : string_len old + length text ≤ string_capacity old → IsOk result
+  pub spare : string_len old + length text ≤ string_capacity old → IsOk result
   pub capacity : string_capacity old ≤ string_capacity new

@@ -12,14 +12,14 @@ owned_pairs [] = []
 owned_pairs (t ∷ ts) = (string_bytes t.0, string_bytes t.1) ∷ owned_pairs ts
 
 -- pairs of borrowed texts
-abbrev pub lent_pairs : List (Bor Text × Bor Text) → List (Text × Text)
-lent_pairs [] = []
-lent_pairs (t ∷ ts) = (t.0.now, t.1.now) ∷ lent_pairs ts
+abbrev pub borrowed_pairs : List (Bor Text × Bor Text) → List (Text × Text)
+borrowed_pairs [] = []
+borrowed_pairs (t ∷ ts) = (t.0.now, t.1.now) ∷ borrowed_pairs ts
 
 -- the tags are in byte order of their keys, each key once
 abbrev pub IsTagSet : List (Text × Text) → Type 0
 IsTagSet tags = T (is_sorted text_cmp tags)
 
 -- a series of borrowed texts
-abbrev pub lent_series : Text → List (Bor Text × Bor Text) → Series
-lent_series measurement tags = record { measurement = measurement; tags = lent_pairs tags }
+abbrev pub borrowed_series : Text → List (Bor Text × Bor Text) → Series
+borrowed_series measurement tags = record { measurement = measurement; tags = borrowed_pairs tags }

@@ -3,7 +3,7 @@ ghost use Rattle.std.specs.Prelude.{◌≡◌, IfOk};
 ghost use Rattle.std.specs.Cmp.Lexicographic.{slice_cmp};
 ghost use Rattle.ts_core.specs.facts.Facts.{tag_cmp, series_cmp};
 ghost use Rattle.ts_core.specs.facts.Tags.{value_among, tag_value};
-ghost use Rattle.ts_core.specs.text.Texts.{owned_pairs, lent_pairs, lent_series, IsTagSet};
+ghost use Rattle.ts_core.specs.text.Texts.{owned_pairs, borrowed_pairs, borrowed_series, IsTagSet};
 
 use std::alloc::{AllocError, Allocator};
 use std::cmp::Ordering;
@@ -38,20 +38,20 @@ pub struct KeyRef<'a> {
 
 impl<'a> Model for KeyRef<'a> {
     ghost use Rattle.ts_core.specs.facts.Facts.{Series};
-    ghost use Rattle.ts_core.specs.text.Texts.{lent_pairs, lent_series, IsTagSet};
+    ghost use Rattle.ts_core.specs.text.Texts.{borrowed_pairs, borrowed_series, IsTagSet};
 
     ghost Value = { Series };
 
-    ghost view = { λ k. lent_series k.measurement.now k.tags.now };
+    ghost view = { λ k. borrowed_series k.measurement.now k.tags.now };
 
-    ghost invariant = { λ k. IsTagSet (lent_pairs k.tags.now) };
+    ghost invariant = { λ k. IsTagSet (borrowed_pairs k.tags.now) };
 }
 
 impl<'a> KeyRef<'a> {
     /// Creates a key of a measurement and tags. The tags must be in byte order of their keys, each key once.
     pub fn new(measurement: &'a str, tags: &'a [(&'a str, &'a str)]) -> KeyRef<'a>
-        requires { IsTagSet (lent_pairs tags.now) }
-        ensures { result ≡ lent_series measurement.now tags.now }
+        requires { IsTagSet (borrowed_pairs tags.now) }
+        ensures { result ≡ borrowed_series measurement.now tags.now }
     {
         KeyRef { measurement, tags }
     }
@@ -65,7 +65,7 @@ impl<'a> KeyRef<'a> {
 
     /// Returns the tags as pairs of key and value, in byte order of the keys.
     pub fn tags(&self) -> &'a [(&'a str, &'a str)]
-        ensures { lent_pairs result.now ≡ self.now.tags }
+        ensures { borrowed_pairs result.now ≡ self.now.tags }
     {
         self.tags
     }
@@ -75,7 +75,7 @@ fn owned<A: Allocator + Copy>(
     alloc: A,
     pairs: &[(&str, &str)],
 ) -> Result<Vec<(String<A>, String<A>), A>, AllocError>
-    ensures { IfOk result (λ v. owned_pairs v.items ≡ lent_pairs pairs.now) }
+    ensures { IfOk result (λ v. owned_pairs v.items ≡ borrowed_pairs pairs.now) }
 {
     let mut all = Vec::new(alloc);
     for (key, value) in pairs {
@@ -88,7 +88,7 @@ fn owned<A: Allocator + Copy>(
 
 /// Compares two lists of tags lexicographically, each tag by its key and then by its value.
 fn compare_tags<A: Allocator>(tags: &[(String<A>, String<A>)], others: &[(&str, &str)]) -> Ordering
-    ensures { result ≡ slice_cmp tag_cmp (owned_pairs tags.now) (lent_pairs others.now) }
+    ensures { result ≡ slice_cmp tag_cmp (owned_pairs tags.now) (borrowed_pairs others.now) }
 {
     match (tags.split_first(), others.split_first()) {
         (None, None) => Ordering::Equal,

@@ -25,10 +25,10 @@ impl<A: Allocator> Model for OutputBuffer<A> {
 }
 
 /// Appends bytes for which the vector has capacity. Does not allocate.
-fn append_in_room<A: Allocator>(buffer: &mut Vec<u8, A>, bytes: &[u8])
+fn append_in_capacity<A: Allocator>(buffer: &mut Vec<u8, A>, bytes: &[u8])
     requires { vec_len buffer.old + length bytes.now ≤ vec_capacity buffer.old }
     ensures items { buffer.new.items ≡ buffer.old.items ++ bytes.now }
-    ensures room { vec_capacity buffer.old ≤ vec_capacity buffer.new }
+    ensures spare { vec_capacity buffer.old ≤ vec_capacity buffer.new }
 {
     match buffer.extend_from_slice(bytes) {
         Ok(()) => {}
@@ -64,14 +64,14 @@ impl<A: Allocator> OutputBuffer<A> {
         ensures { IsBuffered sink.old self.old result bytes.now sink.new self.new }
     {
         if bytes.len() <= self.size - self.bytes.len() {
-            append_in_room(&mut self.bytes, bytes);
+            append_in_capacity(&mut self.bytes, bytes);
             return Ok(());
         }
         self.flush(sink)?;
         if bytes.len() > self.size {
             return sink.put(bytes);
         }
-        append_in_room(&mut self.bytes, bytes);
+        append_in_capacity(&mut self.bytes, bytes);
         Ok(())
     }
 }

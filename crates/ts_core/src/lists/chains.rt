@@ -2,7 +2,7 @@
 ghost use Rattle.std.specs.Prelude.{◌≡◌, ◌<◌, ◌++◌, [], ◌∷◌, length, slice_index, OnOk, OnErr};
 ghost use Rattle.ts_core.specs.lists.LastBelow.{newest_of};
 
-use crate::lists::{next_number, reserve_eighth};
+use crate::lists::{next_id, reserve_eighth};
 use std::alloc::{AllocError, Allocator};
 use std::collections::HashMap;
 use std::hash::{BuildHasherDefault, FoldHasher};
@@ -75,7 +75,7 @@ impl<A: Allocator + Copy> Chains<A> {
         ensures ok { OnOk result (self.new ≡ self.old ++ hash ∷ []) }
         ensures err { OnErr result (self.new ≡ self.old) }
     {
-        let at = next_number(self.links.len())?;
+        let at = next_id(self.links.len())?;
         reserve_eighth(&mut self.links, 1)?;
         let older = self.newest.insert(hash, at)?;
         self.links.push(Link { hash, older }).unwrap();

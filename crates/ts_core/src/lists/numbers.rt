@@ -4,7 +4,7 @@ ghost use Rattle.std.specs.Prelude.{◌≡◌, ◌≤◌, IfOk, OnErr};
 use std::alloc::AllocError;
 
 /// Converts a list's length to the 32-bit index of its next entry. Returns `AllocError` if it doesn't fit 32 bits.
-pub fn next_number(len: usize) -> Result<u32, AllocError>
+pub fn next_id(len: usize) -> Result<u32, AllocError>
     ensures ok { IfOk result (λ n. n ≡ len) }
     ensures err { OnErr result (4_294_967_296 ≤ len) }
 {

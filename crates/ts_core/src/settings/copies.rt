@@ -5,7 +5,7 @@ use super::{Rule, Settings};
 use std::alloc::{AllocError, Allocator};
 
 /// Copies a list of texts.
-pub fn copied_texts<A: Allocator + Copy>(
+pub fn try_clone_texts<A: Allocator + Copy>(
     alloc: A,
     texts: &[String<A>],
 ) -> Result<Vec<String<A>, A>, AllocError>
@@ -19,7 +19,7 @@ pub fn copied_texts<A: Allocator + Copy>(
 }
 
 /// Copies a list of rules.
-fn copied_rules<A: Allocator + Copy>(
+fn try_clone_rules<A: Allocator + Copy>(
     alloc: A,
     rules: &[Rule<A>],
 ) -> Result<Vec<Rule<A>, A>, AllocError>
@@ -27,14 +27,14 @@ fn copied_rules<A: Allocator + Copy>(
 {
     let mut all = Vec::new(alloc);
     for rule in rules {
-        all.push(rule.copied(alloc)?)?;
+        all.push(rule.try_clone(alloc)?)?;
     }
     Ok(all)
 }
 
 impl<A: Allocator + Copy> Rule<A> {
     /// Returns a copy of the rule.
-    pub fn copied(&self, alloc: A) -> Result<Rule<A>, AllocError>
+    pub fn try_clone(&self, alloc: A) -> Result<Rule<A>, AllocError>
         ensures { IfOk result (λ r. r ≡ self.now) }
     {
         Ok(Rule {
@@ -42,7 +42,7 @@ impl<A: Allocator + Copy> Rule<A> {
             measurement: String::from_str(alloc, self.measurement.as_str())?,
             interval: self.interval,
             offset: self.offset,
-            kept_tags: copied_texts(alloc, self.kept_tags.as_slice())?,
+            kept_tags: try_clone_texts(alloc, self.kept_tags.as_slice())?,
             duration: self.duration,
         })
     }
@@ -50,12 +50,12 @@ impl<A: Allocator + Copy> Rule<A> {
 
 impl<A: Allocator + Copy> Settings<A> {
     /// Returns a copy of the settings.
-    pub fn copied(&self, alloc: A) -> Result<Settings<A>, AllocError>
+    pub fn try_clone(&self, alloc: A) -> Result<Settings<A>, AllocError>
         ensures { IfOk result (λ s. s ≡ self.now) }
     {
         Ok(Settings {
             raw_duration: self.raw_duration,
-            rules: copied_rules(alloc, self.rules.as_slice())?,
+            rules: try_clone_rules(alloc, self.rules.as_slice())?,
         })
     }
 }

@@ -238,9 +238,9 @@ impl SettingsFault {
                 FaultDetail::Alone,
                 text,
             ),
-            SettingsFault::OfRule(fault, place) => fault
+            SettingsFault::OfRule(fault, index) => fault
                 .code()
-                .text_to(FaultDetail::OfRule(place), text),
+                .text_to(FaultDetail::OfRule(index), text),
         }
     }
 }

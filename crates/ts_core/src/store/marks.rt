@@ -145,7 +145,7 @@ impl<A: Allocator> Marks<A> {
 
 impl<A: Allocator + Copy> Marks<A> {
     /// Returns a copy of the marks.
-    pub fn copied(&self, alloc: A) -> Result<Marks<A>, AllocError>
+    pub fn try_clone(&self, alloc: A) -> Result<Marks<A>, AllocError>
         ensures { IfOk result (λ m. m ≡ self.now) }
     {
         let mut lows = Vec::new(alloc);

@@ -33,24 +33,24 @@ impl FaultDetail<'static> {
     }
 
     /// Creates the detail of a piece's index.
-    pub fn of_piece(place: usize) -> FaultDetail<'static>
-        ensures value { result ≡ FaultDetail.OfPiece place }
-        ensures fits { place < 2 ^ 64 }
+    pub fn of_piece(index: usize) -> FaultDetail<'static>
+        ensures value { result ≡ FaultDetail.OfPiece index }
+        ensures fits { index < 2 ^ 64 }
     {
-        FaultDetail::OfPiece(place)
+        FaultDetail::OfPiece(index)
     }
 }
 
 /// Appends all words to `text`. When out of memory, `text` may end in some of them. Does not allocate if `text` has the
 /// capacity.
-pub fn append_words<A: Allocator>(text: &mut String<A>, words: &[&str]) -> Result<(), AllocError>
+pub fn push_all<A: Allocator>(text: &mut String<A>, words: &[&str]) -> Result<(), AllocError>
     ensures { IsAppended (words_joined words.now) text.old text.new result }
 {
     match words.split_first() {
         None => Ok(()),
         Some((first, others)) => {
             text.push_str(first)?;
-            append_words(text, others)
+            push_all(text, others)
         }
     }
 }
@@ -66,29 +66,29 @@ impl FaultCode {
         ensures { IsAppended (fault_text self detail.entry) text.old text.new result }
     {
         let mut number = Buffer::new();
-        let mut place = Buffer::new();
+        let mut index = Buffer::new();
         let number = number.format(self.number());
         match detail {
-            FaultDetail::Alone => append_words(text, &["fault ", number]),
-            FaultDetail::At(offset) => append_words(
+            FaultDetail::Alone => push_all(text, &["fault ", number]),
+            FaultDetail::At(offset) => push_all(
                 text,
-                &["fault ", number, " at ", place.format(offset)],
+                &["fault ", number, " at ", index.format(offset)],
             ),
-            FaultDetail::AtToken(offset, token) => append_words(
+            FaultDetail::AtToken(offset, token) => push_all(
                 text,
-                &["fault ", number, " at ", place.format(offset), " ", token],
+                &["fault ", number, " at ", index.format(offset), " ", token],
             ),
-            FaultDetail::OfRule(rule) => append_words(
+            FaultDetail::OfRule(rule) => push_all(
                 text,
-                &["fault ", number, " rule ", place.format(rule)],
+                &["fault ", number, " rule ", index.format(rule)],
             ),
-            FaultDetail::OfPiece(piece) => append_words(
+            FaultDetail::OfPiece(piece) => push_all(
                 text,
-                &["fault ", number, " piece ", place.format(piece)],
+                &["fault ", number, " piece ", index.format(piece)],
             ),
-            FaultDetail::Mark(mark) => append_words(
+            FaultDetail::Mark(mark) => push_all(
                 text,
-                &["fault ", number, " mark ", place.format(mark)],
+                &["fault ", number, " mark ", index.format(mark)],
             ),
         }
     }

@@ -3,11 +3,11 @@ ghost use Rattle.std.specs.Prelude.{◌≡◌, IfOk};
 
 use super::{Condition, Projection, Query, QueryParts};
 use std::alloc::{AllocError, Allocator};
-use ts_core::copied_texts;
+use ts_core::try_clone_texts;
 
 impl<A: Allocator + Copy> Projection<A> {
     /// Returns a copy allocated in `alloc`.
-    fn copied(&self, alloc: A) -> Result<Projection<A>, AllocError>
+    fn try_clone(&self, alloc: A) -> Result<Projection<A>, AllocError>
         ensures { IfOk result (λ c. c ≡ self.now) }
     {
         Ok(Projection::new(self.function, String::from_str(alloc, self.name.as_str())?))
@@ -16,7 +16,7 @@ impl<A: Allocator + Copy> Projection<A> {
 
 impl<A: Allocator + Copy> Condition<A> {
     /// Returns a copy allocated in `alloc`.
-    fn copied(&self, alloc: A) -> Result<Condition<A>, AllocError>
+    fn try_clone(&self, alloc: A) -> Result<Condition<A>, AllocError>
         ensures { IfOk result (λ c. c ≡ self.now) }
     {
         Ok(Condition::new(
@@ -28,7 +28,7 @@ impl<A: Allocator + Copy> Condition<A> {
 }
 
 /// Copies projections.
-fn copied_projections<A: Allocator + Copy>(
+fn try_clone_projections<A: Allocator + Copy>(
     alloc: A,
     columns: &[Projection<A>],
 ) -> Result<Vec<Projection<A>, A>, AllocError>
@@ -36,13 +36,13 @@ fn copied_projections<A: Allocator + Copy>(
 {
     let mut all = Vec::new(alloc);
     for column in columns {
-        all.push(column.copied(alloc)?)?;
+        all.push(column.try_clone(alloc)?)?;
     }
     Ok(all)
 }
 
 /// Copies conditions.
-fn copied_conditions<A: Allocator + Copy>(
+fn try_clone_conditions<A: Allocator + Copy>(
     alloc: A,
     conditions: &[Condition<A>],
 ) -> Result<Vec<Condition<A>, A>, AllocError>
@@ -50,37 +50,37 @@ fn copied_conditions<A: Allocator + Copy>(
 {
     let mut all = Vec::new(alloc);
     for condition in conditions {
-        all.push(condition.copied(alloc)?)?;
+        all.push(condition.try_clone(alloc)?)?;
     }
     Ok(all)
 }
 
 impl<A: Allocator + Copy> QueryParts<A> {
     /// Returns a copy allocated in `alloc`.
-    fn copied(&self, alloc: A) -> Result<QueryParts<A>, AllocError>
+    fn try_clone(&self, alloc: A) -> Result<QueryParts<A>, AllocError>
         ensures { IfOk result (λ q. q ≡ self.now) }
     {
         Ok(QueryParts {
-            columns: copied_projections(alloc, self.columns.as_slice())?,
+            columns: try_clone_projections(alloc, self.columns.as_slice())?,
             fill: self.fill,
             measurement: String::from_str(alloc, self.measurement.as_str())?,
             field: String::from_str(alloc, self.field.as_str())?,
-            conditions: copied_conditions(alloc, self.conditions.as_slice())?,
+            conditions: try_clone_conditions(alloc, self.conditions.as_slice())?,
             from: self.from,
             to: self.to,
             interval: self.interval,
             offset: self.offset,
-            group_tags: copied_texts(alloc, self.group_tags.as_slice())?,
+            group_tags: try_clone_texts(alloc, self.group_tags.as_slice())?,
         })
     }
 }
 
 impl<A: Allocator + Copy> Query<A> {
     /// Returns a copy allocated in `alloc`.
-    pub fn copied(&self, alloc: A) -> Result<Query<A>, AllocError>
+    pub fn try_clone(&self, alloc: A) -> Result<Query<A>, AllocError>
         ensures { IfOk result (λ q. q ≡ self.now) }
     {
-        let parts = self.parts.copied(alloc)?;
+        let parts = self.parts.try_clone(alloc)?;
         Ok(Query { parts })
     }
 }

@@ -3,7 +3,7 @@ ghost use Rattle.std.specs.Prelude.{◌≡◌, ◌+◌, min, IfOk};
 
 use std::alloc::AllocError;
 use std::marker::Model;
-use ts_core::next_number;
+use ts_core::next_id;
 
 /// Index of a column, in creation order from 0.
 #[derive(Clone, Copy, Debug, PartialEq, Eq, PartialOrd, Ord)]
@@ -17,7 +17,7 @@ impl ColumnId {
         ensures { IfOk result (λ id. id ≡ number) }
     {
         Ok(ColumnId {
-            number: next_number(number)?,
+            number: next_id(number)?,
         })
     }
 

@@ -1,7 +1,7 @@
 //! Columns by the indices of their series and fields.
 ghost use Rattle.std.specs.Prelude.{◌≡◌, ◌+◌, ◌<◌, ◌≤◌, ◌++◌, [], ◌∷◌, length, IfSome, IfNone, IfOk, OnOk, OnErr};
 ghost use Rattle.ts_core.specs.lists.Members.{Among, AllDistinct};
-ghost use Rattle.ts_raw.specs.ColumnTables.{has_field};
+ghost use Rattle.ts_raw.specs.ColumnTables.{is_of_field};
 ghost use Rattle.ts_core.specs.lists.Numbered.{IsAt, numbers_where};
 
 use crate::index::column_id::ColumnId;
@@ -9,14 +9,14 @@ use std::alloc::{AllocError, Allocator};
 use std::collections::HashMap;
 use std::hash::{BuildHasherDefault, FoldHasher};
 use std::marker::Model;
-use ts_core::next_number;
+use ts_core::next_id;
 
 /// Table of columns: a hash map from pairs of series and field to columns, and a list of the columns of each field.
 /// Caches for each series a guess at its first column.
 #[derive(Drop)]
 pub(crate) struct ColumnTable<A: Allocator> {
     columns: Vec<(u32, u32), A>,
-    places: HashMap<(u32, u32), u32, BuildHasherDefault<FoldHasher>, A>,
+    indices: HashMap<(u32, u32), u32, BuildHasherDefault<FoldHasher>, A>,
     members: Vec<Vec<ColumnId, A>, A>,
     firsts: Vec<ColumnId, A>,
 }
@@ -31,7 +31,7 @@ impl<A: Allocator> Model for ColumnTable<A> {
 
     ghost view = { λ t. record { columns = t.columns.items; fields = length t.members.items } };
 
-    ghost invariant = { λ t. IsColumnTable (get same_numbers t.places) t.columns.items (lists_of t.members.items) };
+    ghost invariant = { λ t. IsColumnTable (get same_numbers t.indices) t.columns.items (lists_of t.members.items) };
 }
 
 /// Caches a column as the first of its series, and of earlier series without an entry. An existing entry stays.
@@ -56,7 +56,7 @@ impl<A: Allocator + Copy> ColumnTable<A> {
     {
         ColumnTable {
             columns: Vec::new(alloc),
-            places: HashMap::new(alloc),
+            indices: HashMap::new(alloc),
             members: Vec::new(alloc),
             firsts: Vec::new(alloc),
         }
@@ -83,7 +83,7 @@ impl<A: Allocator + Copy> ColumnTable<A> {
         ensures found { IfSome result (λ n. IsAt self.now.columns n (series, field)) }
         ensures absent { IfNone result (Among (series, field) self.now.columns → ⊥) }
     {
-        let number = *self.places.get(&(series, field))?;
+        let number = *self.indices.get(&(series, field))?;
         Some(ColumnId { number })
     }
 
@@ -95,7 +95,7 @@ impl<A: Allocator + Copy> ColumnTable<A> {
     /// Returns the columns of a field, in creation order.
     pub(crate) fn of_field(&self, field: u32) -> &[ColumnId]
         requires { field < self.now.fields }
-        ensures { result.now ≡ numbers_where (has_field field) self.now.columns }
+        ensures { result.now ≡ numbers_where (is_of_field field) self.now.columns }
     {
         self.members[field as usize].as_slice()
     }
@@ -112,7 +112,7 @@ impl<A: Allocator + Copy> ColumnTable<A> {
     }
 
     /// Ensures that more than `fields` fields have a list of columns: adds an empty one if exactly `fields` have one.
-    pub(crate) fn make_room(&mut self, fields: usize) -> Result<(), AllocError>
+    pub(crate) fn reserve_bytes(&mut self, fields: usize) -> Result<(), AllocError>
         requires { fields ≤ self.old.fields }
         ensures columns { self.new.columns ≡ self.old.columns }
         ensures more { self.old.fields ≤ self.new.fields }
@@ -133,14 +133,14 @@ impl<A: Allocator + Copy> ColumnTable<A> {
         ensures fields { self.new.fields ≡ self.old.fields }
         ensures err { OnErr result (self.new.columns ≡ self.old.columns) }
     {
-        let number = next_number(self.columns.len())?;
+        let number = next_id(self.columns.len())?;
         note_first(&mut self.firsts, series, ColumnId { number })?;
         self.columns.reserve(1)?;
-        self.places.reserve(1)?;
+        self.indices.reserve(1)?;
         let members = &mut self.members[field as usize];
         members.push(ColumnId { number })?;
-        let placed: Result<_, _> = self.places.insert((series, field), number);
-        placed.unwrap();
+        let inserted: Result<_, _> = self.indices.insert((series, field), number);
+        inserted.unwrap();
         self.columns.push((series, field)).unwrap();
         Ok(ColumnId { number })
     }

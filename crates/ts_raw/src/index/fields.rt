@@ -8,7 +8,7 @@ ghost use Rattle.ts_core.specs.lists.Numbered.{IsAt};
 use crate::index::hash::hash_field;
 use std::alloc::{AllocError, Allocator};
 use std::marker::Model;
-use ts_core::{Chains, FieldName, next_number};
+use ts_core::{Chains, FieldName, next_id};
 
 /// A field of a measurement.
 #[derive(Drop)]
@@ -120,7 +120,7 @@ impl<A: Allocator + Copy> FieldTable<A> {
         if let Some(number) = self.lookup(measurement, field) {
             return Ok(number);
         }
-        let number = next_number(self.keys.len())?;
+        let number = next_id(self.keys.len())?;
         let key = FieldKey::new(*self.keys.allocator(), measurement, field)?;
         self.keys.reserve(1)?;
         self.chains.push(hash_field(measurement, field))?;

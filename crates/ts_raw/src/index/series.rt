@@ -2,7 +2,7 @@
 ghost use Rattle.std.specs.Prelude.{◌≡◌, ◌≤◌, ◌<◌, ◌↔◌, [], ℕ, length, IfSome, IfNone, IfOk, Err, IsTrue, string_bytes};
 ghost use Rattle.std.specs.Bool.{OnTrue};
 ghost use Rattle.ts_core.specs.lists.Members.{Among, AllDistinct};
-ghost use Rattle.ts_core.specs.text.Texts.{owned_pairs, lent_pairs};
+ghost use Rattle.ts_core.specs.text.Texts.{owned_pairs, borrowed_pairs};
 ghost use Rattle.ts_raw.specs.Hashes.{hash_of_series};
 ghost use Rattle.ts_raw.specs.Registering.{IsRegistered};
 ghost use Rattle.ts_raw.specs.TagChains.{AreAmongTagged};
@@ -15,7 +15,7 @@ use crate::index::tags::TagTable;
 use std::alloc::{AllocError, Allocator};
 use std::cmp::Ordering;
 use std::marker::Model;
-use ts_core::{Chains, Key, KeyRef, next_number};
+use ts_core::{Chains, Key, KeyRef, next_id};
 
 /// Hash table of the registered series. Its model is their list, in creation order. Caches for each series the one that
 /// `register` returned after it last time, so series that arrive in a recurring order are found without hashing. Finds
@@ -50,7 +50,7 @@ fn is_tag<A: Allocator>(tag: &(String<A>, String<A>), key: &str, value: &str) ->
 
 /// Returns true if the owned tags equal the borrowed ones, in the same order.
 fn are_same<A: Allocator>(tags: &[(String<A>, String<A>)], others: &[(&str, &str)]) -> bool
-    ensures { OnTrue result (owned_pairs tags.now ≡ lent_pairs others.now) }
+    ensures { OnTrue result (owned_pairs tags.now ≡ borrowed_pairs others.now) }
 {
     match (tags.split_first(), others.split_first()) {
         (None, None) => true,
@@ -198,7 +198,7 @@ impl<A: Allocator + Copy> SeriesTable<A> {
         if self.keys.len() >= limit {
             return Err(IndexFault::TooManySeries);
         }
-        let number = next_number(self.keys.len())?;
+        let number = next_id(self.keys.len())?;
         let copy = Key::new(*self.keys.allocator(), key)?;
         self.keys.reserve(1)?;
         self.followers.reserve(1)?;

@@ -1,7 +1,7 @@
 //! Hash chains of series, by their tags.
 ghost use Rattle.std.specs.Prelude.{◌≡◌, [], ℕ, IfOk, OnOk};
 ghost use Rattle.ts_core.specs.lists.Members.{Among};
-ghost use Rattle.ts_core.specs.text.Texts.{lent_pairs};
+ghost use Rattle.ts_core.specs.text.Texts.{borrowed_pairs};
 ghost use Rattle.ts_raw.specs.TagChains.{LeadsTo, KeepLeads, AllLead, next_of};
 
 use crate::index::hash::hash_tag;
@@ -9,7 +9,7 @@ use std::alloc::{AllocError, Allocator};
 use std::collections::HashMap;
 use std::hash::{BuildHasherDefault, FoldHasher};
 use std::marker::Model;
-use ts_core::{next_number, reserve_eighth};
+use ts_core::{next_id, reserve_eighth};
 
 /// Link of a chain: a series, and the index of the next older link. The oldest link of a chain has its own index there.
 /// The count of links from here on is a hint: no result depends on it.
@@ -84,7 +84,7 @@ impl<A: Allocator + Copy> TagTable<A> {
         ensures kept { KeepLeads self.old self.new }
         ensures ok { OnOk result (LeadsTo self.new hash series) }
     {
-        let at = next_number(self.links.len())?;
+        let at = next_id(self.links.len())?;
         reserve_eighth(&mut self.links, 1)?;
         let older = self.newest.insert(hash, at)?;
         let older = older.unwrap_or(at);
@@ -106,7 +106,7 @@ impl<A: Allocator + Copy> TagTable<A> {
         series: u32,
     ) -> Result<(), AllocError>
         ensures kept { KeepLeads self.old self.new }
-        ensures ok { OnOk result (AllLead self.new measurement.now (lent_pairs tags.now) series) }
+        ensures ok { OnOk result (AllLead self.new measurement.now (borrowed_pairs tags.now) series) }
     {
         match tags.split_first() {
             None => Ok(()),

@@ -11,7 +11,7 @@ use Rattle.ts_core.specs.store.Cells.{Cell}
 use Rattle.ts_core.specs.store.StoreStates.{ColumnPoints, column_of}
 use Rattle.ts_core.specs.store.StoreData.{CellMap}
 use Rattle.ts_core.proofs.lists.MembersLemmas.{Among-append}
-use Rattle.ts_line.specs.Names.{IsKey, IsNamed}
+use Rattle.ts_line.specs.Names.{IsKey, IsStatable}
 use Rattle.ts_store.specs.image.Building.{new_built, with_series, with_column, with_cell, cell_map_at}
 use Rattle.ts_store.specs.image.BuildingParts.{built_of, IsInOrder, AreIdle}
 use Rattle.ts_store.specs.store.ColumnStates.{StoreContent}
@@ -40,7 +40,7 @@ built_new settings marks running n held passed e f =
 
 -- ---- a series more
 
-pub order_series : (settings : Settings) (held after : StoreContent) (passed : List Bool) (s : Series) → length held.series < 1000000 → IsNamed s → after ≡ record { series = held.series ++ s ∷ []; columns = held.columns; rollups = held.rollups } → IsInOrder settings held passed
+pub order_series : (settings : Settings) (held after : StoreContent) (passed : List Bool) (s : Series) → length held.series < 1000000 → IsStatable s → after ≡ record { series = held.series ++ s ∷ []; columns = held.columns; rollups = held.rollups } → IsInOrder settings held passed
     → IsInOrder settings after passed
 order_series settings held after passed s few named e h =
     subst (λ (x : StoreContent). IsInOrder settings x passed) (sym e) (record {
@@ -48,7 +48,7 @@ order_series settings held after passed s few named e h =
       each = h.each;
       idle = h.idle;
       few = let n = length_push held.series s in omega (arith, n, few);
-      named = λ x a. ⊎_elim {C = IsNamed x} (h.named x) (λ q. ⊎_elim {C = IsNamed x} (λ i. subst IsNamed (sym i) named) (λ z. absurd z) q) (Among-append x held.series (s ∷ []) a);
+      named = λ x a. ⊎_elim {C = IsStatable x} (h.named x) (λ q. ⊎_elim {C = IsStatable x} (λ i. subst IsStatable (sym i) named) (λ z. absurd z) q) (Among-append x held.series (s ∷ []) a);
       keys = h.keys;
     })
 
@@ -125,7 +125,7 @@ built_cell settings marks running n held after passed rule k frozen columns seri
 
 -- ---- whether there was memory or not
 
-pub order_series-either : {T E : Type 0} (r : Result T E) (settings : Settings) (held after : StoreContent) (passed : List Bool) (s : Series) → length held.series < 1000000 → IsNamed s → OnOk r (after ≡ record { series = held.series ++ s ∷ []; columns = held.columns; rollups = held.rollups }) → OnErr r (after ≡ held)
+pub order_series-either : {T E : Type 0} (r : Result T E) (settings : Settings) (held after : StoreContent) (passed : List Bool) (s : Series) → length held.series < 1000000 → IsStatable s → OnOk r (after ≡ record { series = held.series ++ s ∷ []; columns = held.columns; rollups = held.rollups }) → OnErr r (after ≡ held)
     → IsInOrder settings held passed → IsInOrder settings after passed
 order_series-either (Ok x) settings held after passed s few named ok err h = order_series settings held after passed s few named ok h
 order_series-either (Err e) settings held after passed s few named ok err h = subst (λ (x : StoreContent). IsInOrder settings x passed) (sym err) h

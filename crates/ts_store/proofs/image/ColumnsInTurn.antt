@@ -11,7 +11,7 @@ use Rattle.ts_core.specs.store.StoreStates.{ColumnPoints, facts_at, facts_of}
 use Rattle.ts_raw.specs.Columns.{PointMap, ColumnState}
 use Rattle.ts_store.specs.store.ColumnStates.{no_column, with_points, point_maps}
 use Rattle.ts_store.specs.read.PointsRead.{number_of_points}
-use Rattle.ts_store.proofs.write.ColumnsAside.{points_at}
+use Rattle.ts_store.proofs.write.StagedColumns.{points_at}
 
 facts-taken : (xs : List ColumnPoints) (n : ℕ) (x : ColumnPoints) → slice_get xs n ≡ Some x → facts_of (take (suc n) xs) ≡ facts_of (take n xs) ++ facts_at x.column x.points
 facts-taken [] n x at = absurd (none-some x at)

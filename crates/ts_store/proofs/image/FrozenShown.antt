@@ -18,7 +18,7 @@ use Rattle.ts_core.proofs.lists.Comparisons.{lt_true}
 use Rattle.ts_core.proofs.aggregates.IndicesFit.{indices_fit}
 use Rattle.ts_core.proofs.lists.MembersLemmas.{Among-map}
 use Rattle.ts_cells.specs.Walks.{CellWithPart, entry_of, entries_within}
-use Rattle.ts_store.specs.store.CellIndices.{IsIndex, HasIndices, HaveIndices}
+use Rattle.ts_store.specs.store.CellIndices.{IsBucketIndex, HasIndices, HaveIndices}
 use Rattle.ts_store.specs.store.ColumnStates.{StoreContent}
 use Rattle.ts_store.specs.read.LiveCells.{rollup_at}
 use Rattle.ts_store.specs.rollup.Rollups.{RollupState, new_rollup, AreRollups, cells_of}
@@ -35,7 +35,7 @@ near_time (negsuc n) is = let h = is.not_before in omega (arith, ints)
 below_end : (z : ℤ) → FitsSigned w64 z → z <ℤ pos (2 ^ 64)
 below_end z fits = omega (arith, ints)
 
-pub index_near : (r : Rule) (i : ℤ) → pos 1000000000 ≤ℤ r.interval → FitsSigned w64 r.offset → IsIndex r i → i <ℤ pos (2 ^ 64)
+pub index_near : (r : Rule) (i : ℤ) → pos 1000000000 ≤ℤ r.interval → FitsSigned w64 r.offset → IsBucketIndex r i → i <ℤ pos (2 ^ 64)
 index_near r i long offset is = subst (λ z. z <ℤ pos (2 ^ 64)) is.2 (below_end (index_of r is.0) (indices_fit.bucket r is.0 long offset (near_time is.0 is.1)))
 
 -- ---- cells

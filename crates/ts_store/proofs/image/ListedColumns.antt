@@ -54,9 +54,9 @@ module _ (columns : List Column) (once : AllDistinct columns) (n : ℕ) (c : Col
         let x = map_back saved_field s.columns c.field a in
         let is = (h.each x.0).0 x.1 in
         let same : record { series = s.series; field = x.0.field } ≡ c = λ i. record { series = e i; field = x.2 i } in
-        let place : x.0.number ≡ n = one_index columns x.0.number n c once (subst (IsAt columns x.0.number) same is.1) at in
+        let index_is : x.0.number ≡ n = one_index columns x.0.number n c once (subst (IsAt columns x.0.number) same is.1) at in
         let low = is.0 in
-        absurd (omega (arith, place, low))));
+        absurd (omega (arith, index_is, low))));
     each = λ x. (
       λ a. ⊎_elim {C = (x.number < n + 1) × IsAt columns x.number (record { series = s.series; field = x.field })}
           (λ k. let is = (h.each x).0 k in let low = is.0 in (omega (arith, low), is.1))
@@ -118,14 +118,14 @@ keys_set (x ∷ all) (suc i) s t e k = ap (λ (ys : List Series). x.series ∷ y
 pub list_step : (index : Indexed) (n : ℕ) (all : List SavedSeries) (i id m : ℕ) (s t : SavedSeries) (x : SavedColumn) → AllDistinct index.series → AllDistinct index.columns → n < length index.columns → id ≡ n
     → ((c : Column) → IsAt index.columns id c → IsAt index.series i c.series) → ((c : Column) → IsAt index.columns id c → x.field ≡ c.field) → x.number ≡ id → m ≡ i → s ≡ get_or all m s → t ≡ with_column s x
     → ListsColumns index n all → ListsColumns index (n + 1) (set all m t)
-list_step index n all i id m s t x series_once once low e names field number place read made h =
+list_step index n all i id m s t x series_once once low e names field number index_is read made h =
     let none : Column = record { series = record { measurement = []; tags = [] }; field = [] } in
     let c : Column = get_or index.columns n none in
     let at : IsAt index.columns n c = slice_get-get_or index.columns n none low in
     let at' : IsAt index.columns id c = subst (λ k. IsAt index.columns k c) (sym e) at in
     let same : x ≡ record { field = c.field; number = n } = λ j. record { field = field c at' j; number = (number ∙ e) j } in
     let made' : t ≡ with_column s (record { field = c.field; number = n }) = made ∙ ap (with_column s) same in
-    let there : IsAt (map saved_key all) m c.series = subst (λ ks. IsAt ks m c.series) (sym h.keys) (subst (λ k. IsAt index.series k c.series) (sym place) (names c at')) in
+    let there : IsAt (map saved_key all) m c.series = subst (λ ks. IsAt ks m c.series) (sym h.keys) (subst (λ k. IsAt index.series k c.series) (sym index_is) (names c at')) in
     record {
       keys = keys_set all m s t read (ap saved_key made') ∙ h.keys;
       lists =

@@ -18,8 +18,8 @@ use Rattle.ts_core.specs.store.StoreData.{CellMap, no_parts}
 use Rattle.ts_core.specs.moves.StoreMoves.{frozen_with}
 use Rattle.ts_core.proofs.moves.Freezing.{frozen_with-fits}
 use Rattle.ts_core.proofs.plans.PieceCells.{cells_total, exact_cells, same_cell-refl}
-use Rattle.ts_cells.specs.CellChanges.{roomy}
-use Rattle.ts_cells.proofs.GridMoves.{get-changed, get-roomy}
+use Rattle.ts_cells.specs.CellChanges.{inserted_if_absent}
+use Rattle.ts_cells.proofs.GridMoves.{get-changed, get-inserted_if_absent}
 use Rattle.ts_raw.specs.Columns.{PointMap, ColumnState}
 use Rattle.ts_store.specs.image.BuildingParts.{IsIdle, AreIdle}
 use Rattle.ts_raw.specs.Indexed.{Indexed, IsSoundIndex, no_series, column_in}
@@ -33,9 +33,9 @@ use Rattle.ts_store.proofs.rollup.RollupsGrow.{rollups_kept, made_behind}
 
 -- it is created, and a part is frozen into it
 pub cell_made : (m : CellMap) (q : Cell) (part : Aggregate) → part.count ≤ 2 ^ 62 → finmap.get m q ≡ None
-    → changed (roomy m q no_parts) q (in_frozen (frozen_with part)) ≡ finmap.insert m q (record { frozen = part; live = empty_aggregate })
+    → changed (inserted_if_absent m q no_parts) q (in_frozen (frozen_with part)) ≡ finmap.insert m q (record { frozen = part; live = empty_aggregate })
 cell_made m q part few none =
-    let n : CellMap = roomy m q no_parts in
+    let n : CellMap = inserted_if_absent m q no_parts in
     let x : CellParts = record { frozen = part; live = empty_aggregate } in
     let fits : frozen_with part empty_aggregate ≡ part = frozen_with-fits part empty_aggregate (omega (arith, few)) ∙ aggregate_laws.unit part in
     let made : in_frozen (frozen_with part) no_parts ≡ x = λ i. record { frozen = fits i; live = empty_aggregate } in
@@ -44,9 +44,9 @@ cell_made m q part few none =
     ∙ elim (same_cell k q) as (λ b. same_cell k q ≡ b → cond b (option_map (in_frozen (frozen_with part)) (finmap.get n q)) (finmap.get n k) ≡ cond b (Some x) (finmap.get m k)) [
       | true ↦ λ e.
           ap (option_map (in_frozen (frozen_with part)))
-          (get-roomy m q no_parts q ∙ ap (λ b. cond b (Some (or_else no_parts (finmap.get m q))) (finmap.get m q)) (same_cell-refl q) ∙ ap (λ o. Some (or_else no_parts o)) none)
+          (get-inserted_if_absent m q no_parts q ∙ ap (λ b. cond b (Some (or_else no_parts (finmap.get m q))) (finmap.get m q)) (same_cell-refl q) ∙ ap (λ o. Some (or_else no_parts o)) none)
           ∙ ap Some made
-      | false ↦ λ e. get-roomy m q no_parts k ∙ ap (λ b. cond b (Some (or_else no_parts (finmap.get m q))) (finmap.get m k)) e
+      | false ↦ λ e. get-inserted_if_absent m q no_parts k ∙ ap (λ b. cond b (Some (or_else no_parts (finmap.get m q))) (finmap.get m k)) e
     ] refl
     ∙ sym (get-insert cells_total m q x k))
 
@@ -68,14 +68,14 @@ cells-stay [] n s t e f = refl
 cells-stay (x ∷ ss) zero s t e f = ap (λ m. m ∷ cells_of ss) (f ∙ ap (λ (z : RollupState). z.grid.cells) e)
 cells-stay (x ∷ ss) (suc n) s t e f = ap (λ ms. x.grid.cells ∷ ms) (cells-stay ss n s t e f)
 
--- more lanes in one rollup
-pub rollups-set : (rs : List Rule) (cs : List Column) (ss : List RollupState) (n : ℕ) (s t : RollupState) → s ≡ get_or ss n s → Extends s.grid.lanes t.grid.lanes → t.lanes ≡ s.lanes → AreRollups rs cs ss → AreRollups rs cs (set ss n t)
+-- more rollup series in one rollup
+pub rollups-set : (rs : List Rule) (cs : List Column) (ss : List RollupState) (n : ℕ) (s t : RollupState) → s ≡ get_or ss n s → Extends s.grid.series_list t.grid.series_list → t.series_list ≡ s.series_list → AreRollups rs cs ss → AreRollups rs cs (set ss n t)
 rollups-set [] cs [] n s t e more same h = tt
 rollups-set [] cs (x ∷ ss) n s t e more same h = absurd h
 rollups-set (r ∷ rs) cs [] n s t e more same h = absurd h
 rollups-set (r ∷ rs) cs (x ∷ ss) zero s t e more same h =
     let one : AreRollups (r ∷ []) cs (with_frozen s.grid.cells t ∷ []) =
-    rollups_kept (r ∷ []) cs (s ∷ []) (with_frozen s.grid.cells t ∷ []) (subst (λ (z : RollupState). AreRollups (r ∷ []) cs (z ∷ [])) (sym e) (h.0, tt)) (record { made = more; cells = refl; lanes = same }, tt) in
+    rollups_kept (r ∷ []) cs (s ∷ []) (with_frozen s.grid.cells t ∷ []) (subst (λ (z : RollupState). AreRollups (r ∷ []) cs (z ∷ [])) (sym e) (h.0, tt)) (record { made = more; cells = refl; series_list = same }, tt) in
     (one.0, h.1)
 rollups-set (r ∷ rs) cs (x ∷ ss) (suc n) s t e more same h = (h.0, rollups-set rs cs ss n s t e more same h.1)
 

@@ -34,12 +34,12 @@ lows-length mark (r ∷ rs) [] h = absurd h
 lows-length mark (r ∷ rs) (low ∷ lows) h = ap suc (lows-length mark rs lows h.1)
 
 rules-sized : (mark : ℤ) (facts : List Fact) (rs : List Rule) (lows : List ℤ) (ns : List CellMap) → AreLowIndices mark rs lows → HaveCells rs lows facts ns → AllByRecursion (IsSizedRule mark facts) (rules_of rs lows ns)
-rules-sized mark facts [] lows ns h rooms = tt
-rules-sized mark facts (r ∷ rs) [] ns h rooms = tt
-rules-sized mark facts (r ∷ rs) (low ∷ lows) [] h rooms = tt
-rules-sized mark facts (r ∷ rs) (low ∷ lows) (n ∷ ns) h rooms = (
-  record { least = h.0.least; most = h.0.most; there = λ f a rolled above. key_there n (cell_of r f) (λ none. rooms.0 f a rolled above none) },
-  rules-sized mark facts rs lows ns h.1 rooms.1,
+rules-sized mark facts [] lows ns h has_cells = tt
+rules-sized mark facts (r ∷ rs) [] ns h has_cells = tt
+rules-sized mark facts (r ∷ rs) (low ∷ lows) [] h has_cells = tt
+rules-sized mark facts (r ∷ rs) (low ∷ lows) (n ∷ ns) h has_cells = (
+  record { least = h.0.least; most = h.0.most; there = λ f a rolled above. key_there n (cell_of r f) (λ none. has_cells.0 f a rolled above none) },
+  rules-sized mark facts rs lows ns h.1 has_cells.1,
 )
 
 counts-built : (count : ℕ) (facts : List Fact) (columns : List ColumnPoints) (rs : List Rule) (lows : List ℤ) (ms ns : List CellMap) → length lows ≡ length rs → OfEachRule (PutsCells facts) rs lows ms ns → HoldFew count columns rs ms → HoldFew count columns rs ns
@@ -122,7 +122,7 @@ module _ (settings : Settings) (marks : Marks) (running : Bool) (count : ℕ) (h
       lows = lows-length marks.raw settings.rules marks.lows can.lows;
       cells = rules_many;
       rules = subst (λ (cs : List ColumnPoints). AllByRecursion (IsSizedRule marks.raw (facts_of cs)) (rules_of settings.rules marks.lows (cells_of after.rollups))) (sym same_columns)
-          (rules-sized marks.raw (facts_of held.columns) settings.rules marks.lows (cells_of after.rollups) can.lows fills.rooms);
+          (rules-sized marks.raw (facts_of held.columns) settings.rules marks.lows (cells_of after.rollups) can.lows fills.has_cells);
     };
   }
 
@@ -136,6 +136,6 @@ module _ (settings : Settings) (marks : Marks) (running : Bool) (count : ℕ) (h
     columns = same_columns;
     waiting = waiting-built running after.columns passed many can.idle ∙ ap (λ (cs : List ColumnPoints). waiting_of cs (map not passed)) same_columns;
     cells = fills.cells;
-    rooms = fills.rooms;
+    has_cells = fills.has_cells;
     live = fills.live;
   }

@@ -97,8 +97,8 @@ waits_at (Some run) columns n c once at =
           let m = among_at ys d.0 d.1 in
           let whole : IsAt (take run.end columns) (run.next + m.0) d.0 = sym (drop_get (take run.end columns) run.next m.0 (run.next + m.0) refl) ∙ m.1 in
           let below = take_below columns run.end (run.next + m.0) d.0 whole in
-          let place : IsAt columns (run.next + m.0) d.0 = sym (take_get columns run.end (run.next + m.0) below) ∙ whole in
-          let named : IsAt (map column_of columns) (run.next + m.0) c.column = at_map_of column_of columns (run.next + m.0) d.0 place ∙ ap Some d.2 in
+          let index_is : IsAt columns (run.next + m.0) d.0 = sym (take_get columns run.end (run.next + m.0) below) ∙ whole in
+          let named : IsAt (map column_of columns) (run.next + m.0) c.column = at_map_of column_of columns (run.next + m.0) d.0 index_is ∙ ap Some d.2 in
           let same : n ≡ run.next + m.0 = one_index (map column_of columns) n (run.next + m.0) c.column once (at_map_of column_of columns n c at) named in
           let here : IsAt (map column_of ys) m.0 c.column = at_map_of column_of ys m.0 d.0 m.1 ∙ ap Some d.2 in
           (omega (arith, same), omega (arith, same, below), sym (drop_or run.passed false run.next m.0 n same) ∙ free_at bs (map column_of ys) m.0 c.column once' here h),

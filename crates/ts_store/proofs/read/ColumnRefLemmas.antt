@@ -91,8 +91,8 @@ named_as_first : (m f m' f' : Text) (cs : List Column) (n : ℕ) → Among n (nu
 named_as_first m f m' f' cs n among names =
     let s = numbered_from (is_of m f) 0 cs n among in
     let c : Column = s.member in
-    let place : s.place ≡ n = (let e = s.is in omega (arith, e)) in
-    let named : IsNamed m' f' c = names c (subst (λ k. IsAt cs k c) place s.at) in
+    let index_is : s.index ≡ n = (let e = s.is in omega (arith, e)) in
+    let named : IsNamed m' f' c = names c (subst (λ k. IsAt cs k c) index_is s.at) in
     let parts = and_parts (same_text c.series.measurement m) (same_text c.field f) s.passes in
     (sym (same_text-eq c.series.measurement m parts.0) ∙ sym named.measurement_is, sym (same_text-eq c.field f parts.1) ∙ sym named.field_is)
 

@@ -17,9 +17,9 @@ use Rattle.ts_core.proofs.moves.Freezing.{frozen_with-fits}
 use Rattle.ts_core.proofs.plans.PieceCells.{cells_total, exact_cells, same_cell-eq, same_cell-refl}
 use Rattle.ts_core.proofs.lists.Comparisons.{same_bool}
 use Rattle.ts_cells.proofs.GridMoves.{get-changed}
-use Rattle.ts_cells.specs.Grids.{no_lane, cell_at}
+use Rattle.ts_cells.specs.Grids.{no_rollup_series, cell_at}
 use Rattle.ts_store.specs.store.CellCounts.{frozen_count}
-use Rattle.ts_store.specs.rollup.Rollups.{RollupState, IsLaneOf, lane_under, lane_at, with_frozen, frozen_in}
+use Rattle.ts_store.specs.rollup.Rollups.{RollupState, IsRollupSeriesOf, rollup_series_under, rollup_series_at, with_frozen, frozen_in}
 use Rattle.ts_store.specs.retain.RollupSteps.{points_in_cell, FreezesFit}
 
 -- ---- a part frozen
@@ -90,17 +90,17 @@ frozen_most m q part k =
     ] refl in
     subst (λ o. (or_else no_parts o).frozen.count ≤ frozen_count m k + cond (same_cell k q) part.count 0) (sym is) bound
 
--- ---- under the lanes of a rule, which stay
+-- ---- under the rollup series of a rule, which stay
 
-pub lanes_stay : (before s t : RollupState) (m : CellMap) → s ≡ with_frozen s.grid.cells before → t ≡ with_frozen m s → t ≡ with_frozen t.grid.cells before
-lanes_stay before s t m e f = f ∙ ap (with_frozen m) e ∙ ap (λ (x : CellMap). with_frozen x before) (sym (ap (λ (x : RollupState). x.grid.cells) f))
+pub series_list_stay : (before s t : RollupState) (m : CellMap) → s ≡ with_frozen s.grid.cells before → t ≡ with_frozen m s → t ≡ with_frozen t.grid.cells before
+series_list_stay before s t m e f = f ∙ ap (with_frozen m) e ∙ ap (λ (x : CellMap). with_frozen x before) (sym (ap (λ (x : RollupState). x.grid.cells) f))
 
-pub frozen_in-lane : (before s : RollupState) (column n : ℕ) (r : Rule) (c : Column) (index : ℤ) (part : Aggregate) → s ≡ with_frozen s.grid.cells before → lane_at before column ≡ Some n → IsLaneOf r c before.grid.lanes (Some n)
-    → frozen_in s (lane_at s column) index part ≡ changed s.grid.cells (cell_at index (lane_under r c)) (in_frozen (frozen_with part))
-frozen_in-lane before s column n r c index part e at is =
-    let lane : lane_at s column ≡ Some n = ap (λ (x : RollupState). lane_at x column) e ∙ at in
-    let key : get_or s.grid.lanes n no_lane ≡ lane_under r c = ap (λ (x : RollupState). get_or x.grid.lanes n no_lane) e ∙ get_or_from_slice_get before.grid.lanes n (lane_under r c) no_lane is.1 in
-    ap (λ o. frozen_in s o index part) lane ∙ ap (λ l. changed s.grid.cells (cell_at index l) (in_frozen (frozen_with part))) key
+pub frozen_in-series : (before s : RollupState) (column n : ℕ) (r : Rule) (c : Column) (index : ℤ) (part : Aggregate) → s ≡ with_frozen s.grid.cells before → rollup_series_at before column ≡ Some n → IsRollupSeriesOf r c before.grid.series_list (Some n)
+    → frozen_in s (rollup_series_at s column) index part ≡ changed s.grid.cells (cell_at index (rollup_series_under r c)) (in_frozen (frozen_with part))
+frozen_in-series before s column n r c index part e at is =
+    let series : rollup_series_at s column ≡ Some n = ap (λ (x : RollupState). rollup_series_at x column) e ∙ at in
+    let key : get_or s.grid.series_list n no_rollup_series ≡ rollup_series_under r c = ap (λ (x : RollupState). get_or x.grid.series_list n no_rollup_series) e ∙ get_or_from_slice_get before.grid.series_list n (rollup_series_under r c) no_rollup_series is.1 in
+    ap (λ o. frozen_in s o index part) series ∙ ap (λ l. changed s.grid.cells (cell_at index l) (in_frozen (frozen_with part))) key
 
 -- ---- points of a column, of which those of the last bucket are folded and not yet frozen
 

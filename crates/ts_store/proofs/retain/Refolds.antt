@@ -19,18 +19,18 @@ use Rattle.ts_core.specs.store.StoreData.{CellMap}
 use Rattle.ts_core.specs.moves.StoreMoves.{refolded, refolded_points, kept_points}
 use Rattle.ts_core.proofs.plans.PieceCells.{cells_total, exact_cells, same_cell-refl}
 use Rattle.ts_cells.proofs.GridMoves.{get-changed}
-use Rattle.ts_cells.specs.Grids.{no_lane, cell_at}
+use Rattle.ts_cells.specs.Grids.{no_rollup_series, cell_at}
 use Rattle.ts_raw.specs.Columns.{PointMap, ColumnState, points_from}
 use Rattle.ts_store.specs.store.ColumnStates.{with_points, point_maps, no_column}
-use Rattle.ts_store.specs.rollup.LivePoints.{lane_total, left_state, left_states}
+use Rattle.ts_store.specs.rollup.LivePoints.{rollup_series_total, left_state, left_states}
 use Rattle.ts_store.specs.write.LivePuts.{IsOver}
-use Rattle.ts_store.specs.rollup.Rollups.{RollupState, IsLaneOf, lane_under, lane_at, with_frozen, corrected_in}
+use Rattle.ts_store.specs.rollup.Rollups.{RollupState, IsRollupSeriesOf, rollup_series_under, rollup_series_at, with_frozen, corrected_in}
 use Rattle.ts_store.specs.retain.RollupSteps.{facts_left}
-use Rattle.ts_store.proofs.write.ColumnsAside.{points_at}
-use Rattle.ts_store.proofs.rollup.LanePoints.{left-length}
+use Rattle.ts_store.proofs.write.StagedColumns.{points_at}
+use Rattle.ts_store.proofs.rollup.RollupSeriesPoints.{left-length}
 use Rattle.ts_store.proofs.rollup.LiveParts.{cell_total}
 use Rattle.ts_store.proofs.retain.RollupMoves.{columns_left}
-use Rattle.ts_store.proofs.write.RoomLemmas.{lane_known}
+use Rattle.ts_store.proofs.write.CellsCreatedLemmas.{rollup_series_known}
 
 -- twice is once
 refolded-twice : (r : Rule) (q : Cell) (facts : List Fact) (m : CellMap) → refolded r q facts (refolded r q facts m) ≡ refolded r q facts m
@@ -53,7 +53,7 @@ module _ (r : Rule) (c : Column) (facts : List Fact) (all : List (ℤ × ℤ)) (
   -- the points left have the same result; the cell of the last bucket is done
   pub record IsRefolded (left : List (ℤ × ℤ)) (m : CellMap) (last : Option ℤ) : Type 0 where
     pub same : refolded_points r c left facts m ≡ refolded_points r c all facts before
-    pub done : (i : ℤ) → last ≡ Some i → refolded r (cell_at i (lane_under r c)) facts m ≡ m
+    pub done : (i : ℤ) → last ≡ Some i → refolded r (cell_at i (rollup_series_under r c)) facts m ≡ m
 
   pub refolded-none : (left : List (ℤ × ℤ)) (last : Option ℤ) → left ≡ all → last ≡ None → IsRefolded left before last
   refolded-none left last e none = record { same = ap (λ ps. refolded_points r c ps facts before) e; done = λ i some. absurd (none-some i (sym none ∙ some)) }
@@ -61,23 +61,23 @@ module _ (r : Rule) (c : Column) (facts : List Fact) (all : List (ℤ × ℤ)) (
   -- one more of the same bucket
   pub refolded-same : (p : ℤ × ℤ) (left left' : List (ℤ × ℤ)) (m m' : CellMap) (i : ℤ) (last last' : Option ℤ) → left' ≡ p ∷ left → m' ≡ m → last' ≡ last → last ≡ Some i → i ≡ index_of r p.0 → IsRefolded left' m last → IsRefolded left m' last'
   refolded-same p left left' m m' i last last' e is same some index h =
-      let done : refolded r (cell_of r (fact_at c p)) facts m ≡ m = ap (λ j. refolded r (cell_at j (lane_under r c)) facts m) (sym index) ∙ h.done i some in
+      let done : refolded r (cell_of r (fact_at c p)) facts m ≡ m = ap (λ j. refolded r (cell_at j (rollup_series_under r c)) facts m) (sym index) ∙ h.done i some in
       subst (λ (x : CellMap). IsRefolded left x last') (sym is) (subst (IsRefolded left m) (sym same) (record {
         same = ap (refolded_points r c left facts) (sym done) ∙ sym (ap (λ ps. refolded_points r c ps facts m) e) ∙ h.same;
         done = h.done;
       }))
 
   -- the first of another bucket
-  pub refolded-next : (p : ℤ × ℤ) (left left' : List (ℤ × ℤ)) (m m' : CellMap) (i : ℤ) (last last' : Option ℤ) → left' ≡ p ∷ left → m' ≡ refolded r (cell_at i (lane_under r c)) facts m → last' ≡ Some i → i ≡ index_of r p.0 → IsRefolded left' m last → IsRefolded left m' last'
+  pub refolded-next : (p : ℤ × ℤ) (left left' : List (ℤ × ℤ)) (m m' : CellMap) (i : ℤ) (last last' : Option ℤ) → left' ≡ p ∷ left → m' ≡ refolded r (cell_at i (rollup_series_under r c)) facts m → last' ≡ Some i → i ≡ index_of r p.0 → IsRefolded left' m last → IsRefolded left m' last'
   refolded-next p left left' m m' i last last' e is some index h =
-      let made : m' ≡ refolded r (cell_of r (fact_at c p)) facts m = is ∙ ap (λ j. refolded r (cell_at j (lane_under r c)) facts m) index in
+      let made : m' ≡ refolded r (cell_of r (fact_at c p)) facts m = is ∙ ap (λ j. refolded r (cell_at j (rollup_series_under r c)) facts m) index in
       record {
         same = ap (refolded_points r c left facts) made ∙ sym (ap (λ ps. refolded_points r c ps facts m) e) ∙ h.same;
         done = λ j at.
             let same : i ≡ j = same_Some i j (sym some ∙ at) in
-            ap (λ z. refolded r (cell_at z (lane_under r c)) facts m') (sym same)
-            ∙ ap (refolded r (cell_at i (lane_under r c)) facts) is
-            ∙ refolded-twice r (cell_at i (lane_under r c)) facts m
+            ap (λ z. refolded r (cell_at z (rollup_series_under r c)) facts m') (sym same)
+            ∙ ap (refolded r (cell_at i (rollup_series_under r c)) facts) is
+            ∙ refolded-twice r (cell_at i (rollup_series_under r c)) facts m
             ∙ sym is;
       }
 
@@ -88,17 +88,17 @@ maps_left mark n ss =
     map-set (λ (s : ColumnState). s.points) ss n (left_state mark (get_or ss n no_column))
     ∙ ap (λ (m : PointMap). set (point_maps ss) n (points_from m mark)) (sym (points_at ss n))
 
-pub left_total : (r : Rule) (mark : ℤ) (cs : List Column) (c : Column) (ss : List ColumnState) (s t : RollupState) (n l : ℕ) (index : ℤ) (new : Aggregate) → IsOver r cs ss s → slice_get cs n ≡ Some c → lane_at s n ≡ Some l → t ≡ with_frozen t.grid.cells s
-    → AllDistinct t.grid.lanes → new ≡ lane_total r t (left_states mark n ss) l index → corrected_in t l index new ≡ refolded r (cell_at index (lane_under r c)) (facts_left mark c cs ss) t.grid.cells
-left_total r mark cs c ss s t n l index new over at lane kept once made =
-    let k : Cell = cell_at index (lane_under r c) in
-    let is : IsLaneOf r c s.grid.lanes (Some l) = subst (IsLaneOf r c s.grid.lanes) lane (lane_known r s.grid.lanes cs s.lanes n c over.lanes at) in
+pub left_total : (r : Rule) (mark : ℤ) (cs : List Column) (c : Column) (ss : List ColumnState) (s t : RollupState) (n l : ℕ) (index : ℤ) (new : Aggregate) → IsOver r cs ss s → slice_get cs n ≡ Some c → rollup_series_at s n ≡ Some l → t ≡ with_frozen t.grid.cells s
+    → AllDistinct t.grid.series_list → new ≡ rollup_series_total r t (left_states mark n ss) l index → corrected_in t l index new ≡ refolded r (cell_at index (rollup_series_under r c)) (facts_left mark c cs ss) t.grid.cells
+left_total r mark cs c ss s t n l index new over at series kept once made =
+    let k : Cell = cell_at index (rollup_series_under r c) in
+    let is : IsRollupSeriesOf r c s.grid.series_list (Some l) = subst (IsRollupSeriesOf r c s.grid.series_list) series (rollup_series_known r s.grid.series_list cs s.series_list n c over.series_list at) in
     let each : length (left_states mark n ss) ≡ length cs = left-length mark n ss ∙ over.each in
     let maps : length (point_maps ss) ≡ length cs = length-map ss (λ (x : ColumnState). x.points) ∙ over.each in
     let columns : with_points cs (point_maps (left_states mark n ss)) ≡ map (kept_points c mark) (with_points cs (point_maps ss)) = ap (with_points cs) (maps_left mark n ss) ∙ columns_left c mark cs (point_maps ss) n over.once maps at in
     let total : new ≡ total_of r k (facts_left mark c cs ss) =
-    made ∙ ap (λ (x : RollupState). lane_total r x (left_states mark n ss) l index) kept
-    ∙ cell_total r s k l cs (left_states mark n ss) (subst (λ (x : RollupState). AllDistinct x.grid.lanes) kept once) is.1 each over.lanes
+    made ∙ ap (λ (x : RollupState). rollup_series_total r x (left_states mark n ss) l index) kept
+    ∙ cell_total r s k l cs (left_states mark n ss) (subst (λ (x : RollupState). AllDistinct x.grid.series_list) kept once) is.1 each over.series_list
     ∙ ap (λ (xs : List ColumnPoints). total_of r k (facts_of xs)) columns in
-    let key : get_or t.grid.lanes l no_lane ≡ lane_under r c = ap (λ (x : RollupState). get_or x.grid.lanes l no_lane) kept ∙ get_or_from_slice_get s.grid.lanes l (lane_under r c) no_lane is.1 in
+    let key : get_or t.grid.series_list l no_rollup_series ≡ rollup_series_under r c = ap (λ (x : RollupState). get_or x.grid.series_list l no_rollup_series) kept ∙ get_or_from_slice_get s.grid.series_list l (rollup_series_under r c) no_rollup_series is.1 in
     ap (λ (x : Cell). changed t.grid.cells x (with_live new)) (ap (cell_at index) key) ∙ ap (λ a. changed t.grid.cells k (with_live a)) total

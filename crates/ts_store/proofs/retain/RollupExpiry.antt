@@ -6,9 +6,9 @@ use Rattle.ts_store.specs.rollup.Rollups.{RollupState, with_frozen, cells_of}
 use Rattle.ts_store.specs.retain.RollupSteps.{with_frozen_all}
 use Rattle.ts_store.specs.retain.WholeRuns.{AreAbove, FirstLoses}
 
-pub same_lanes : (ss : List RollupState) → ss ≡ with_frozen_all (cells_of ss) ss
-same_lanes [] = refl
-same_lanes (s ∷ ss) = ap (λ ts. s ∷ ts) (same_lanes ss)
+pub same_series_list : (ss : List RollupState) → ss ≡ with_frozen_all (cells_of ss) ss
+same_series_list [] = refl
+same_series_list (s ∷ ss) = ap (λ ts. s ∷ ts) (same_series_list ss)
 
 -- the result of the call for the first rule
 pub record IsExpired (low : ℤ) (n : ℕ) (s t : RollupState) : Type 0 where
@@ -21,8 +21,8 @@ none_gone low n m after e r = let none : Removes low 0 m after = subst (λ k. Re
 same_state : (low : ℤ) (n : ℕ) (s t : RollupState) → n ≡ 0 → IsExpired low n s t → t ≡ s
 same_state low n s t e x = x.cells ∙ ap (λ (m : CellMap). with_frozen m s) (none_gone low n s.grid.cells t.grid.cells e x.below.removed)
 
-pub lanes_first : (low : ℤ) (n : ℕ) (s t : RollupState) (ss all : List RollupState) → all ≡ s ∷ ss → IsExpired low n s t → t ∷ ss ≡ with_frozen_all (t.grid.cells ∷ cells_of ss) all
-lanes_first low n s t ss all e x = ap₂ (λ u us. u ∷ us) x.cells (same_lanes ss) ∙ sym (ap (with_frozen_all (t.grid.cells ∷ cells_of ss)) e)
+pub series_list_first : (low : ℤ) (n : ℕ) (s t : RollupState) (ss all : List RollupState) → all ≡ s ∷ ss → IsExpired low n s t → t ∷ ss ≡ with_frozen_all (t.grid.cells ∷ cells_of ss) all
+series_list_first low n s t ss all e x = ap₂ (λ u us. u ∷ us) x.cells (same_series_list ss) ∙ sym (ap (with_frozen_all (t.grid.cells ∷ cells_of ss)) e)
 
 pub first_loses : (low : ℤ) (lows lows' : List ℤ) (n : ℕ) (s t : RollupState) (ss all : List RollupState) → lows' ≡ low ∷ lows → all ≡ s ∷ ss → 0 < n → IsExpired low n s t
     → FirstLoses lows' (cells_of all) (t.grid.cells ∷ cells_of ss)

@@ -22,15 +22,15 @@ use Rattle.ts_raw.specs.Indexed.{Indexed}
 use Rattle.ts_core.proofs.lists.NumberedLemmas.{at_among}
 use Rattle.ts_store.specs.store.ColumnStates.{point_maps, with_points, columns_in, no_column, content_of, IsSoundContent}
 use Rattle.ts_store.specs.read.PointsRead.{number_of_points}
-use Rattle.ts_store.specs.rollup.Rollups.{RollupState, IsLaneOf, AreRollups, lane_at, with_frozen, cells_of}
+use Rattle.ts_store.specs.rollup.Rollups.{RollupState, IsRollupSeriesOf, AreRollups, rollup_series_at, with_frozen, cells_of}
 use Rattle.ts_store.specs.retain.RollupSteps.{with_frozen_all, FreezesFit, FreezeFit, facts_left, content_moved}
 use Rattle.ts_store.specs.write.LivePuts.{IsOver}
 use Rattle.ts_store.proofs.store.ColumnsLemmas.{names_held}
-use Rattle.ts_store.proofs.write.ColumnsAside.{points_at}
-use Rattle.ts_store.proofs.rollup.RollupsGrow.{lanes-length}
-use Rattle.ts_store.proofs.retain.RollupExpiry.{same_lanes}
+use Rattle.ts_store.proofs.write.StagedColumns.{points_at}
+use Rattle.ts_store.proofs.rollup.RollupsGrow.{series_list-length}
+use Rattle.ts_store.proofs.retain.RollupExpiry.{same_series_list}
 
--- ---- other cells under the same lanes
+-- ---- other cells under the same rollup series
 
 pub cells_with : (ms : List CellMap) (ss : List RollupState) → length ms ≡ length ss → cells_of (with_frozen_all ms ss) ≡ ms
 cells_with [] [] l = refl
@@ -52,24 +52,24 @@ moved-length (r ∷ rs) c ps facts (m ∷ ms) = let e = moved-length rs c ps fac
 
 -- ---- a column is moved under a rule
 
--- a rule that has a lane for it
-pub moved_rolled : (r : Rule) (c : Column) (ps : List (ℤ × ℤ)) (facts : List Fact) (n : ℕ) (s t u : RollupState) → is_some (lane_at s n) ≡ true → IsLaneOf r c s.grid.lanes (lane_at s n) → t ≡ with_frozen t.grid.cells s → u ≡ with_frozen u.grid.cells t
-    → ((l : ℕ) → lane_at s n ≡ Some l → IsLaneOf r c s.grid.lanes (Some l) → t.grid.cells ≡ frozen_points r c ps s.grid.cells)
-    → ((l : ℕ) → lane_at t n ≡ Some l → u.grid.cells ≡ refolded_points r c ps facts t.grid.cells) → u ≡ with_frozen (moved_cells r c ps facts s.grid.cells) s
+-- a rule that has a rollup series for it
+pub moved_rolled : (r : Rule) (c : Column) (ps : List (ℤ × ℤ)) (facts : List Fact) (n : ℕ) (s t u : RollupState) → is_some (rollup_series_at s n) ≡ true → IsRollupSeriesOf r c s.grid.series_list (rollup_series_at s n) → t ≡ with_frozen t.grid.cells s → u ≡ with_frozen u.grid.cells t
+    → ((l : ℕ) → rollup_series_at s n ≡ Some l → IsRollupSeriesOf r c s.grid.series_list (Some l) → t.grid.cells ≡ frozen_points r c ps s.grid.cells)
+    → ((l : ℕ) → rollup_series_at t n ≡ Some l → u.grid.cells ≡ refolded_points r c ps facts t.grid.cells) → u ≡ with_frozen (moved_cells r c ps facts s.grid.cells) s
 moved_rolled r c ps facts n s t u rolled is kept still frozen refold =
-    elim (lane_at s n) as (λ o. lane_at s n ≡ o → is_some o ≡ true → IsLaneOf r c s.grid.lanes o → u ≡ with_frozen (moved_cells r c ps facts s.grid.cells) s) [
+    elim (rollup_series_at s n) as (λ o. rollup_series_at s n ≡ o → is_some o ≡ true → IsRollupSeriesOf r c s.grid.series_list o → u ≡ with_frozen (moved_cells r c ps facts s.grid.cells) s) [
       | None ↦ λ e k h. absurd (true≢false (sym k))
       | Some l ↦ λ e k h.
           let cells : u.grid.cells ≡ moved_cells r c ps facts s.grid.cells =
-          refold l (ap (λ (x : RollupState). lane_at x n) kept ∙ e) ∙ ap (refolded_points r c ps facts) (frozen l e h)
+          refold l (ap (λ (x : RollupState). rollup_series_at x n) kept ∙ e) ∙ ap (refolded_points r c ps facts) (frozen l e h)
           ∙ sym (ap (λ b. cond b (refolded_points r c ps facts (frozen_points r c ps s.grid.cells)) s.grid.cells) h.0) in
           still ∙ ap (with_frozen u.grid.cells) kept ∙ ap (λ (m : CellMap). with_frozen m s) cells
     ] refl rolled is
 
 -- and one that has none
-pub moved_passed : (r : Rule) (c : Column) (ps : List (ℤ × ℤ)) (facts : List Fact) (n : ℕ) (s : RollupState) → is_some (lane_at s n) ≡ false → IsLaneOf r c s.grid.lanes (lane_at s n) → s ≡ with_frozen (moved_cells r c ps facts s.grid.cells) s
+pub moved_passed : (r : Rule) (c : Column) (ps : List (ℤ × ℤ)) (facts : List Fact) (n : ℕ) (s : RollupState) → is_some (rollup_series_at s n) ≡ false → IsRollupSeriesOf r c s.grid.series_list (rollup_series_at s n) → s ≡ with_frozen (moved_cells r c ps facts s.grid.cells) s
 moved_passed r c ps facts n s passed is =
-    elim (lane_at s n) as (λ o. is_some o ≡ false → IsLaneOf r c s.grid.lanes o → s ≡ with_frozen (moved_cells r c ps facts s.grid.cells) s) [
+    elim (rollup_series_at s n) as (λ o. is_some o ≡ false → IsRollupSeriesOf r c s.grid.series_list o → s ≡ with_frozen (moved_cells r c ps facts s.grid.cells) s) [
       | None ↦ λ k h. ap (λ (m : CellMap). with_frozen m s) (sym (ap (λ b. cond b (refolded_points r c ps facts (frozen_points r c ps s.grid.cells)) s.grid.cells) h))
       | Some l ↦ λ k h. absurd (true≢false k)
     ] passed is
@@ -111,11 +111,11 @@ columns_left c mark (b ∷ cs) (m ∷ ms) (suc n) d l e =
 
 -- ---- under all rules
 
-pub lanes_within : (rs : List Rule) (cs : List Column) (ss : List RollupState) (n : ℕ) → AreRollups rs cs ss → n < length cs → AllByRecursion (λ (s : RollupState). n < length s.lanes) ss
-lanes_within [] cs [] n a l = tt
-lanes_within [] cs (s ∷ ss) n a l = absurd a
-lanes_within (r ∷ rs) cs [] n a l = tt
-lanes_within (r ∷ rs) cs (s ∷ ss) n a l = (let e = lanes-length r s.grid.lanes cs s.lanes a.0 in omega arith, lanes_within rs cs ss n a.1 l)
+pub series_list_within : (rs : List Rule) (cs : List Column) (ss : List RollupState) (n : ℕ) → AreRollups rs cs ss → n < length cs → AllByRecursion (λ (s : RollupState). n < length s.series_list) ss
+series_list_within [] cs [] n a l = tt
+series_list_within [] cs (s ∷ ss) n a l = absurd a
+series_list_within (r ∷ rs) cs [] n a l = tt
+series_list_within (r ∷ rs) cs (s ∷ ss) n a l = (let e = series_list-length r s.grid.series_list cs s.series_list a.0 in omega arith, series_list_within rs cs ss n a.1 l)
 
 -- without rules
 pub none_frozen : (ms : List CellMap) (ss : List RollupState) → length ss ≡ 0 → ss ≡ with_frozen_all ms ss
@@ -123,7 +123,7 @@ none_frozen ms [] e = refl
 none_frozen ms (s ∷ ss) e = absurd (omega arith)
 
 pub all_moved-none : (rs : List Rule) (cs : List Column) (ss : List RollupState) (c : Column) (ps : List (ℤ × ℤ)) (facts : List Fact) → length rs ≡ 0 → AreRollups rs cs ss → ss ≡ with_frozen_all (all_moved rs c ps facts (cells_of ss)) ss
-all_moved-none [] cs ss c ps facts e a = same_lanes ss
+all_moved-none [] cs ss c ps facts e a = same_series_list ss
 all_moved-none (r ∷ rs) cs ss c ps facts e a = absurd (let n : ⊥ = omega arith in n)
 
 -- the first rule, and the others
@@ -135,7 +135,7 @@ pub all_moved-more : (r : Rule) (rs rs' : List Rule) (cs : List Column) (states 
 all_moved-more r rs rs' cs states n c ps facts s t ss ts ss' d e each once a fit one others =
     let a' : AreRollups (r ∷ rs) cs (s ∷ ss) = subst (λ (us : List RollupState). AreRollups (r ∷ rs) cs us) e (subst (λ (qs : List Rule). AreRollups qs cs ss') d a) in
     let fit' : FreezeFit (r ∷ rs) c ps (cells_of (s ∷ ss)) = subst (λ (us : List RollupState). FreezeFit (r ∷ rs) c ps (cells_of us)) e (subst (λ (qs : List Rule). FreezeFit qs c ps (cells_of ss')) d fit) in
-    ap₂ (λ u us. u ∷ us) (one (record { each = each; once = once; lanes = a'.0 }) fit'.0) (others a'.1 fit'.1)
+    ap₂ (λ u us. u ∷ us) (one (record { each = each; once = once; series_list = a'.0 }) fit'.0) (others a'.1 fit'.1)
     ∙ sym (ap₂ (λ (qs : List Rule) (us : List RollupState). with_frozen_all (all_moved qs c ps facts (cells_of us)) us) d e)
 
 -- ---- a column of what is held
@@ -161,15 +161,15 @@ held_moves index ss us vs rs mark n x y held within is left a moved s at fit =
     let cs : List Column = index.columns in
     let ms : List PointMap = point_maps ss in
     let each : length ms ≡ length cs = length-map ss (λ (t : ColumnState). t.points) ∙ held.each in
-    let place = with_points-at cs ms n s at in
+    let index_is = with_points-at cs ms n s at in
     let col : get_or ss n no_column ≡ x = sym (get_or_default ss n x no_column within) ∙ sym is in
     let its : get_or ms n finmap.empty ≡ x.points = points_at ss n ∙ ap (λ (t : ColumnState). t.points) col in
-    let points : s.points ≡ entries (get_or ss n no_column).points = place.1 ∙ ap entries (points_at ss n) in
+    let points : s.points ≡ entries (get_or ss n no_column).points = index_is.1 ∙ ap entries (points_at ss n) in
     let rest : point_maps (set ss n y) ≡ set ms n (points_from (get_or ms n finmap.empty) mark) =
     map-set (λ (t : ColumnState). t.points) ss n y ∙ ap (set ms n) (left ∙ ap (λ (m : PointMap). points_from m mark) (sym its)) in
-    let columns : columns_in index (set ss n y) ≡ map (kept_points s.column mark) (columns_in index ss) = ap (with_points cs) rest ∙ columns_left s.column mark cs ms n held.sound.columns_once each place.0 in
+    let columns : columns_in index (set ss n y) ≡ map (kept_points s.column mark) (columns_in index ss) = ap (with_points cs) rest ∙ columns_left s.column mark cs ms n held.sound.columns_once each index_is.0 in
     let have : AreRollups rs cs us = subst (λ (names : List Column). AreRollups rs names us) (names_held index ss held.each) a in
     let rollups : vs ≡ with_frozen_all (all_moved rs s.column (points_below mark s.points) (facts_left mark s.column cs ss) (cells_of us)) us =
-    moved cs s.column held.each held.sound.columns_once have place.0 (subst (λ (ps : List (ℤ × ℤ)). FreezeFit rs s.column (points_below mark ps) (cells_of us)) points fit)
+    moved cs s.column held.each held.sound.columns_once have index_is.0 (subst (λ (ps : List (ℤ × ℤ)). FreezeFit rs s.column (points_below mark ps) (cells_of us)) points fit)
     ∙ ap (λ (ps : List (ℤ × ℤ)). with_frozen_all (all_moved rs s.column (points_below mark ps) (facts_left mark s.column cs ss) (cells_of us)) us) (sym points) in
     λ i. record { series = index.series; columns = columns i; rollups = rollups i }

@@ -16,38 +16,38 @@ use Rattle.ts_core.specs.store.StoreData.{CellMap, no_parts}
 use Rattle.ts_core.proofs.lists.MembersLemmas.{Among-append, Among-left, Among-right}
 use Rattle.ts_core.proofs.moves.MovesStand.{key_there, key_not}
 use Rattle.ts_core.proofs.plans.PieceCells.{same_cell-eq, same_cell-refl}
-use Rattle.ts_cells.specs.CellChanges.{roomy}
-use Rattle.ts_cells.specs.Grids.{no_lane, cell_at}
-use Rattle.ts_cells.proofs.GridMoves.{get-roomy}
+use Rattle.ts_cells.specs.CellChanges.{inserted_if_absent}
+use Rattle.ts_cells.specs.Grids.{no_rollup_series, cell_at}
+use Rattle.ts_cells.proofs.GridMoves.{get-inserted_if_absent}
 use Rattle.ts_store.specs.image.BuildingParts.{MakesCells}
-use Rattle.ts_store.specs.store.CellIndices.{IsIndex, HasIndices}
+use Rattle.ts_store.specs.store.CellIndices.{IsBucketIndex, HasIndices}
 use Rattle.ts_store.specs.write.LinesPut.{OfEachRule, IsOfFacts, GainsCells}
-use Rattle.ts_store.specs.rollup.Rollups.{RollupState, IsLaneOf, lane_under, cells_of, with_frozen, roomed_in}
+use Rattle.ts_store.specs.rollup.Rollups.{RollupState, IsRollupSeriesOf, rollup_series_under, cells_of, with_frozen, cell_created_in}
 use Rattle.ts_store.proofs.write.CellsMade.{each_same, each_more}
 use Rattle.ts_store.proofs.store.ColumnsLemmas.{in_column}
 
 -- ---- one cell
 
-room-stays : (n : CellMap) (q k : Cell) (p : CellParts) → finmap.get n k ≡ Some p → finmap.get (roomy n q no_parts) k ≡ Some p
-room-stays n q k p e =
-    get-roomy n q no_parts k
+capacity-stays : (n : CellMap) (q k : Cell) (p : CellParts) → finmap.get n k ≡ Some p → finmap.get (inserted_if_absent n q no_parts) k ≡ Some p
+capacity-stays n q k p e =
+    get-inserted_if_absent n q no_parts k
     ∙ elim (same_cell k q) as (λ b. same_cell k q ≡ b → cond b (Some (or_else no_parts (finmap.get n q))) (finmap.get n k) ≡ Some p) [
       | true ↦ λ s. ap (λ o. Some (or_else no_parts o)) (ap (finmap.get n) (sym (same_cell-eq k q s)) ∙ e)
       | false ↦ λ s. e
     ] refl
 
-room-new : (n : CellMap) (q k : Cell) (p : CellParts) → finmap.get n k ≡ None → finmap.get (roomy n q no_parts) k ≡ Some p → (p ≡ no_parts) × (k ≡ q)
-room-new n q k p none some =
+capacity-new : (n : CellMap) (q k : Cell) (p : CellParts) → finmap.get n k ≡ None → finmap.get (inserted_if_absent n q no_parts) k ≡ Some p → (p ≡ no_parts) × (k ≡ q)
+capacity-new n q k p none some =
     elim (same_cell k q) as (λ b. same_cell k q ≡ b → cond b (Some (or_else no_parts (finmap.get n q))) (finmap.get n k) ≡ Some p → (p ≡ no_parts) × (k ≡ q)) [
       | true ↦ λ s e.
           let is : k ≡ q = same_cell-eq k q s in
           (sym (same_Some no_parts p (sym (ap (λ o. Some (or_else no_parts o)) (ap (finmap.get n) (sym is) ∙ none)) ∙ e)), is)
       | false ↦ λ s e. absurd (none-some p (sym none ∙ e))
-    ] refl (sym (get-roomy n q no_parts k) ∙ some)
+    ] refl (sym (get-inserted_if_absent n q no_parts k) ∙ some)
 
-room-there : (n : CellMap) (q : Cell) → finmap.get (roomy n q no_parts) q ≡ None → ⊥
-room-there n q none =
-    none-some (or_else no_parts (finmap.get n q)) (sym none ∙ get-roomy n q no_parts q ∙ ap (λ b. cond b (Some (or_else no_parts (finmap.get n q))) (finmap.get n q)) (same_cell-refl q))
+capacity-there : (n : CellMap) (q : Cell) → finmap.get (inserted_if_absent n q no_parts) q ≡ None → ⊥
+capacity-there n q none =
+    none-some (or_else no_parts (finmap.get n q)) (sym none ∙ get-inserted_if_absent n q no_parts q ∙ ap (λ b. cond b (Some (or_else no_parts (finmap.get n q))) (finmap.get n q)) (same_cell-refl q))
 
 -- a cell that is missing now was missing
 missing : (m n : CellMap) → ((k : Cell) (p : CellParts) → finmap.get m k ≡ Some p → finmap.get n k ≡ Some p) → (k : Cell) → finmap.get n k ≡ None → finmap.get m k ≡ None
@@ -89,33 +89,33 @@ made-skip f left facts r low m n has h = record {
 }
 
 pub made-more : (f : Fact) (left facts : List Fact) (r : Rule) (low : ℤ) (m n : CellMap) → IsTime f.time → is_rolled r f ≡ true → low ≤ℤ (cell_of r f).index
-    → IsMadeBut (f ∷ left) facts r low m n → IsMadeBut left facts r low m (roomy n (cell_of r f) no_parts)
+    → IsMadeBut (f ∷ left) facts r low m n → IsMadeBut left facts r low m (inserted_if_absent n (cell_of r f) no_parts)
 made-more f left facts r low m n valid rolled above h =
     let q : Cell = cell_of r f in
-    let o : CellMap = roomy n q no_parts in
+    let o : CellMap = inserted_if_absent n q no_parts in
     let of_facts : IsOfFacts facts r q = (f, h.within f (inl refl), ap (λ b. b && same_cell q q) rolled ∙ same_cell-refl q) in
     record {
       within = λ g a. h.within g (inr a);
       gains = record {
-        stays = λ k p e. room-stays n q k p (h.gains.stays k p e);
+        stays = λ k p e. capacity-stays n q k p (h.gains.stays k p e);
         created = λ k p none some. elim (finmap.get n k) as (λ x. finmap.get n k ≡ x → (p ≡ no_parts) × (low ≤ℤ k.index) × IsOfFacts facts r k) [
           | None ↦ λ e.
-              let new = room-new n q k p e some in
+              let new = capacity-new n q k p e some in
               (new.0, subst (λ (z : Cell). low ≤ℤ z.index) (sym new.1) above, subst (IsOfFacts facts r) (sym new.1) of_facts)
           | Some x ↦ λ e.
               let old = h.gains.created k x none e in
-              (same_Some p x (sym some ∙ room-stays n q k x e) ∙ old.0, old.1, old.2)
+              (same_Some p x (sym some ∙ capacity-stays n q k x e) ∙ old.0, old.1, old.2)
         ] refl;
       };
       there = λ g a.
           ⊎_elim {C = Among g left ⊎ HasCellOf g r low o}
-          (λ z. ⊎_elim {C = Among g left ⊎ HasCellOf g r low o} (λ e. inr (λ rl ab none. room-there n q (ap (λ (x : Fact). finmap.get o (cell_of r x)) (sym e) ∙ none))) (λ y. inl y) z)
-          (λ has. inr (λ rl ab none. has rl ab (missing n o (room-stays n q) (cell_of r g) none))) (h.there g a);
+          (λ z. ⊎_elim {C = Among g left ⊎ HasCellOf g r low o} (λ e. inr (λ rl ab none. capacity-there n q (ap (λ (x : Fact). finmap.get o (cell_of r x)) (sym e) ∙ none))) (λ y. inl y) z)
+          (λ has. inr (λ rl ab none. has rl ab (missing n o (capacity-stays n q) (cell_of r g) none))) (h.there g a);
       indices = λ valids k a.
-          elim (finmap.get n k) as (λ x. finmap.get n k ≡ x → IsIndex r k.index) [
-            | None ↦ λ e. elim (finmap.get o k) as (λ x. finmap.get o k ≡ x → IsIndex r k.index) [
+          elim (finmap.get n k) as (λ x. finmap.get n k ≡ x → IsBucketIndex r k.index) [
+            | None ↦ λ e. elim (finmap.get o k) as (λ x. finmap.get o k ≡ x → IsBucketIndex r k.index) [
               | None ↦ λ none. absurd (key_not o k a none)
-              | Some p ↦ λ some. subst (λ (z : Cell). IsIndex r z.index) (sym (room-new n q k p e some).1) (f.time, valid, refl)
+              | Some p ↦ λ some. subst (λ (z : Cell). IsBucketIndex r z.index) (sym (capacity-new n q k p e some).1) (f.time, valid, refl)
             ] refl
             | Some x ↦ λ e. h.indices valids k (key_there n k (λ none. none-some x (sym none ∙ e)))
           ] refl;
@@ -123,19 +123,19 @@ made-more f left facts r low m n valid rolled above h =
 
 -- the cell of the last bucket is there
 abbrev pub IsLastThere : Rule → Column → Option ℤ → CellMap → Type 0
-IsLastThere r c last m = (i : ℤ) → last ≡ Some i → finmap.get m (cell_at i (lane_under r c)) ≡ None → ⊥
+IsLastThere r c last m = (i : ℤ) → last ≡ Some i → finmap.get m (cell_at i (rollup_series_under r c)) ≡ None → ⊥
 
 pub last-none : (r : Rule) (c : Column) (last : Option ℤ) (m : CellMap) → last ≡ None → IsLastThere r c last m
 last-none r c last m none = λ i some. absurd (none-some i (sym none ∙ some))
 
-pub last-made : (r : Rule) (c : Column) (i : ℤ) (n : CellMap) → IsLastThere r c (Some i) (roomy n (cell_at i (lane_under r c)) no_parts)
-last-made r c i n = λ j some none. room-there n (cell_at i (lane_under r c)) (ap (λ (z : ℤ). finmap.get (roomy n (cell_at i (lane_under r c)) no_parts) (cell_at z (lane_under r c))) (same_Some i j some) ∙ none)
+pub last-made : (r : Rule) (c : Column) (i : ℤ) (n : CellMap) → IsLastThere r c (Some i) (inserted_if_absent n (cell_at i (rollup_series_under r c)) no_parts)
+last-made r c i n = λ j some none. capacity-there n (cell_at i (rollup_series_under r c)) (ap (λ (z : ℤ). finmap.get (inserted_if_absent n (cell_at i (rollup_series_under r c)) no_parts) (cell_at z (rollup_series_under r c))) (same_Some i j some) ∙ none)
 
 -- a point below the low index, or of the last bucket, needs no other cell
 pub skipped : (r : Rule) (c : Column) (p : ℤ × ℤ) (low index : ℤ) (last : Option ℤ) (n : CellMap) → index ≡ index_of r p.0 → (index <ℤ low) ⊎ (last ≡ Some index) → IsLastThere r c last n → HasCellOf (fact_at c p) r low n
 skipped r c p low index last n is spared there = λ rolled above none.
     ⊎_elim {C = ⊥} (λ (below : index <ℤ low). omega (arith, ints, below, is, above))
-    (λ e. there index e (ap (λ (i : ℤ). finmap.get n (cell_at i (lane_under r c))) is ∙ none)) spared
+    (λ e. there index e (ap (λ (i : ℤ). finmap.get n (cell_at i (rollup_series_under r c))) is ∙ none)) spared
 
 pub made-all : (facts : List Fact) (r : Rule) (low : ℤ) (m n : CellMap) → IsMadeBut [] facts r low m n → MakesCells facts r low m n
 made-all facts r low m n h = record {
@@ -220,10 +220,10 @@ each_made-more P (Ok x) r rs rs' low lows lows' s t ss ts ss' d e f one others =
     (subst (λ (us : List RollupState). OfEachRule P (r ∷ rs) (low ∷ lows) (cells_of us) (cells_of (t ∷ ts))) (sym f)
     (each_more P r rs low lows s.grid.cells (cells_of ss) t.grid.cells (cells_of ts) one others)))
 
--- ---- under the lanes of a rule, which stay
+-- ---- under the rollup series of a rule, which stay
 
-pub roomed_in-lane : (before s : RollupState) (l : ℕ) (r : Rule) (c : Column) (index : ℤ) → s ≡ with_frozen s.grid.cells before → IsLaneOf r c before.grid.lanes (Some l)
-    → roomed_in s (Some l) index ≡ roomy s.grid.cells (cell_at index (lane_under r c)) no_parts
-roomed_in-lane before s l r c index e is =
-    let key : get_or s.grid.lanes l no_lane ≡ lane_under r c = ap (λ (x : RollupState). get_or x.grid.lanes l no_lane) e ∙ get_or_from_slice_get before.grid.lanes l (lane_under r c) no_lane is.1 in
-    ap (λ k. roomy s.grid.cells (cell_at index k) no_parts) key
+pub cell_created_in-series : (before s : RollupState) (l : ℕ) (r : Rule) (c : Column) (index : ℤ) → s ≡ with_frozen s.grid.cells before → IsRollupSeriesOf r c before.grid.series_list (Some l)
+    → cell_created_in s (Some l) index ≡ inserted_if_absent s.grid.cells (cell_at index (rollup_series_under r c)) no_parts
+cell_created_in-series before s l r c index e is =
+    let key : get_or s.grid.series_list l no_rollup_series ≡ rollup_series_under r c = ap (λ (x : RollupState). get_or x.grid.series_list l no_rollup_series) e ∙ get_or_from_slice_get before.grid.series_list l (rollup_series_under r c) no_rollup_series is.1 in
+    ap (λ k. inserted_if_absent s.grid.cells (cell_at index k) no_parts) key

@@ -1,4 +1,4 @@
--- The raw facts of a cell: the points of its lane's columns in its bucket, in the same order.
+-- The raw facts of a cell: the points of its rollup series' columns in its bucket, in the same order.
 use Rattle.std.proofs.Common.{◌≡◌, ℕ, zero, suc, ℤ, ◌+◌, ◌<◌, ◌≤◌, Bool, true, false, cond, ◌&&◌, ◌==◌, List, [], ◌∷◌, ◌++◌, length, filter, get_or, drop, Option, Some, None, refl, sym, ◌∙◌, ap, ap₂, subst, arith, true≢false}
 use Rattle.std.specs.Ordering.{int_eq}
 use Rattle.std.specs.FinMap as finmap
@@ -20,50 +20,50 @@ use Rattle.ts_core.proofs.plans.PieceCells.{same_cell-eq, same_cell-refl}
 use Rattle.ts_core.proofs.store.RunSteps.{filter-append}
 use Rattle.ts_core.proofs.aggregates.AggregatesLemmas.{count_of_fold}
 use Rattle.ts_cells.proofs.GridMoves.{all_at}
-use Rattle.ts_cells.specs.Grids.{Lane, lane_of, cell_at}
+use Rattle.ts_cells.specs.Grids.{RollupSeries, rollup_series_of, cell_at}
 use Rattle.ts_raw.specs.Columns.{ColumnState, points_in_bucket}
 use Rattle.ts_core.specs.lists.Numbered.{IsAt, numbers_where_from}
 use Rattle.ts_core.proofs.lists.NumberedLemmas.{at_among, same_at}
 use Rattle.ts_store.specs.store.ColumnStates.{with_points, point_maps, no_column}
-use Rattle.ts_store.specs.rollup.Rollups.{RollupState, IsLaneOf, HaveLanes, lane_under, is_of_lane, columns_of_lane}
+use Rattle.ts_store.specs.rollup.Rollups.{RollupState, IsRollupSeriesOf, HaveRollupSeries, rollup_series_under, is_of_rollup_series, columns_of_rollup_series}
 use Rattle.ts_store.specs.rollup.LivePoints.{points_in}
 
 -- ---- the cell of a point
 
--- cells of one lane are the same where their buckets are
-same_bucket : (i j : ℤ) (l : Lane) → same_cell (cell_at i l) (cell_at j l) ≡ int_eq i j
+-- cells of one rollup series are the same where their buckets are
+same_bucket : (i j : ℤ) (l : RollupSeries) → same_cell (cell_at i l) (cell_at j l) ≡ int_eq i j
 same_bucket i j l =
     same_bool (same_cell (cell_at i l) (cell_at j l)) (int_eq i j)
     (λ e. (Decides-int_eq i j).1 (ap (λ (k : Cell). k.index) (same_cell-eq (cell_at i l) (cell_at j l) e)))
     (λ e. subst (λ x. same_cell (cell_at i l) (cell_at x l) ≡ true) ((Decides-int_eq i j).0 e) (same_cell-refl (cell_at i l)))
 
--- cells of two lanes aren't the same
-other_lane : (a b : Cell) → (lane_of a ≡ lane_of b → ⊥) → same_cell a b ≡ false
-other_lane a b n = elim (same_cell a b) as (λ z. same_cell a b ≡ z → z ≡ false) [
-  | true ↦ λ e. absurd (n (ap lane_of (same_cell-eq a b e)))
+-- cells of two rollup series aren't the same
+other_rollup_series : (a b : Cell) → (rollup_series_of a ≡ rollup_series_of b → ⊥) → same_cell a b ≡ false
+other_rollup_series a b n = elim (same_cell a b) as (λ z. same_cell a b ≡ z → z ≡ false) [
+  | true ↦ λ e. absurd (n (ap rollup_series_of (same_cell-eq a b e)))
   | false ↦ λ e. refl
 ] refl
 
--- of distinct lanes each has one number
-one_number : (lanes : List Lane) (m n : ℕ) (l : Lane) → AllDistinct lanes → IsAt lanes m l → IsAt lanes n l → m ≡ n
-one_number [] m n l d a b = absurd (at_among {X = Lane} [] m l a)
+-- of distinct rollup series each has one number
+one_number : (series_list : List RollupSeries) (m n : ℕ) (l : RollupSeries) → AllDistinct series_list → IsAt series_list m l → IsAt series_list n l → m ≡ n
+one_number [] m n l d a b = absurd (at_among {X = RollupSeries} [] m l a)
 one_number (x ∷ xs) zero zero l d a b = refl
 one_number (x ∷ xs) zero (suc n) l d a b = absurd (d.0 (subst (λ y. Among y xs) (sym (same_at (x ∷ xs) zero x l refl a)) (at_among xs n l b)))
 one_number (x ∷ xs) (suc m) zero l d a b = absurd (d.0 (subst (λ y. Among y xs) (sym (same_at (x ∷ xs) zero x l refl b)) (at_among xs m l a)))
 one_number (x ∷ xs) (suc m) (suc n) l d a b = ap suc (one_number xs m n l d.1 a b)
 
--- a point of a column is in a cell where the column is of the cell's lane and the point in its bucket
-in_cell : (r : Rule) (k : Cell) (n : ℕ) (lanes : List Lane) → AllDistinct lanes → IsAt lanes n (lane_of k) → (c : Column) (o : Option ℕ) → IsLaneOf r c lanes o → (p : ℤ × ℤ)
-    → is_in_cell r k (fact_at c p) ≡ is_of_lane n o && int_eq (index_of r p.0) k.index
-in_cell r k n lanes d at c None of p = ap (λ b. b && same_cell (cell_of r (fact_at c p)) k) of
-in_cell r k n lanes d at c (Some m) of p =
+-- a point of a column is in a cell where the column is of the cell's rollup series and the point in its bucket
+in_cell : (r : Rule) (k : Cell) (n : ℕ) (series_list : List RollupSeries) → AllDistinct series_list → IsAt series_list n (rollup_series_of k) → (c : Column) (o : Option ℕ) → IsRollupSeriesOf r c series_list o → (p : ℤ × ℤ)
+    → is_in_cell r k (fact_at c p) ≡ is_of_rollup_series n o && int_eq (index_of r p.0) k.index
+in_cell r k n series_list d at c None of p = ap (λ b. b && same_cell (cell_of r (fact_at c p)) k) of
+in_cell r k n series_list d at c (Some m) of p =
     ap (λ b. b && same_cell (cell_of r (fact_at c p)) k) of.0
     ∙ elim (m == n) as (λ b. m == n ≡ b → same_cell (cell_of r (fact_at c p)) k ≡ b && int_eq (index_of r p.0) k.index) [
       | true ↦ λ e.
-          let same : lane_under r c ≡ lane_of k = same_at lanes n (lane_under r c) (lane_of k) (subst (λ i. IsAt lanes i (lane_under r c)) ((Decides-eqb m n).0 e) of.1) at in
-          ap (λ l. same_cell (cell_at (index_of r p.0) l) k) same ∙ same_bucket (index_of r p.0) k.index (lane_of k)
-      | false ↦ λ e. other_lane (cell_of r (fact_at c p)) k
-          (λ same. true≢false (sym ((Decides-eqb m n).1 (one_number lanes m n (lane_of k) d (subst (IsAt lanes m) same of.1) at)) ∙ e))
+          let same : rollup_series_under r c ≡ rollup_series_of k = same_at series_list n (rollup_series_under r c) (rollup_series_of k) (subst (λ i. IsAt series_list i (rollup_series_under r c)) ((Decides-eqb m n).0 e) of.1) at in
+          ap (λ l. same_cell (cell_at (index_of r p.0) l) k) same ∙ same_bucket (index_of r p.0) k.index (rollup_series_of k)
+      | false ↦ λ e. other_rollup_series (cell_of r (fact_at c p)) k
+          (λ same. true≢false (sym ((Decides-eqb m n).1 (one_number series_list m n (rollup_series_of k) d (subst (IsAt series_list m) same of.1) at)) ∙ e))
     ] refl
 
 -- ---- the points of columns
@@ -84,45 +84,45 @@ points_append : (fs gs : List Fact) → points_of_facts (fs ++ gs) ≡ points_of
 points_append [] gs = refl
 points_append (f ∷ fs) gs = ap (λ xs. (f.time, f.value) ∷ xs) (points_append fs gs)
 
-columns_parts : (r : Rule) (k : Cell) (l : ℕ) (lanes : List Lane) → AllDistinct lanes → IsAt lanes l (lane_of k) → (all : List ColumnState) (n : ℕ) (cs : List Column) (ss : List ColumnState) (os : List (Option ℕ))
-    → length ss ≡ length cs → HaveLanes r lanes cs os → ((i : ℕ) → i < length ss → get_or all (n + i) no_column ≡ get_or ss i no_column)
-    → points_of_facts (filter (is_in_cell r k) (facts_of (with_points cs (point_maps ss)))) ≡ points_in r all k.index (numbers_where_from (is_of_lane l) n os)
-columns_parts r k l lanes d at all n [] ss [] len have same = refl
-columns_parts r k l lanes d at all n [] ss (o ∷ os) len have same = absurd have
-columns_parts r k l lanes d at all n (c ∷ cs) ss [] len have same = absurd have
-columns_parts r k l lanes d at all n (c ∷ cs) [] (o ∷ os) len have same = absurd (omega (arith, len))
-columns_parts r k l lanes d at all n (c ∷ cs) (s ∷ ss) (o ∷ os) len have same =
+columns_parts : (r : Rule) (k : Cell) (l : ℕ) (series_list : List RollupSeries) → AllDistinct series_list → IsAt series_list l (rollup_series_of k) → (all : List ColumnState) (n : ℕ) (cs : List Column) (ss : List ColumnState) (os : List (Option ℕ))
+    → length ss ≡ length cs → HaveRollupSeries r series_list cs os → ((i : ℕ) → i < length ss → get_or all (n + i) no_column ≡ get_or ss i no_column)
+    → points_of_facts (filter (is_in_cell r k) (facts_of (with_points cs (point_maps ss)))) ≡ points_in r all k.index (numbers_where_from (is_of_rollup_series l) n os)
+columns_parts r k l series_list d at all n [] ss [] len have same = refl
+columns_parts r k l series_list d at all n [] ss (o ∷ os) len have same = absurd have
+columns_parts r k l series_list d at all n (c ∷ cs) ss [] len have same = absurd have
+columns_parts r k l series_list d at all n (c ∷ cs) [] (o ∷ os) len have same = absurd (omega (arith, len))
+columns_parts r k l series_list d at all n (c ∷ cs) (s ∷ ss) (o ∷ os) len have same =
     let test : Fact → Bool = is_in_cell r k in
     let ps : List (ℤ × ℤ) = finmap.entries s.points in
     let q : ℤ × ℤ → Bool = λ p. int_eq (index_of r p.0) k.index in
     let after : (i : ℕ) → i < length ss → get_or all (n + 1 + i) no_column ≡ get_or ss i no_column = λ i below. let e : n + 1 + i ≡ n + suc i = omega arith in ap (λ j. get_or all j no_column) e ∙ same (suc i) (omega (arith, below)) in
-    let rest = columns_parts r k l lanes d at all (n + 1) cs ss os (omega (arith, len)) have.1 after in
-    let first = column_part test c (is_of_lane l o) q (in_cell r k l lanes d at c o have.0) ps in
+    let rest = columns_parts r k l series_list d at all (n + 1) cs ss os (omega (arith, len)) have.1 after in
+    let first = column_part test c (is_of_rollup_series l o) q (in_cell r k l series_list d at c o have.0) ps in
     let e : n ≡ n + 0 = omega arith in
     let here : get_or all n no_column ≡ s = ap (λ j. get_or all j no_column) e ∙ same 0 (omega arith) in
     ap points_of_facts (filter-append test (facts_at c ps) (facts_of (with_points cs (point_maps ss))))
     ∙ points_append (filter test (facts_at c ps)) (filter test (facts_of (with_points cs (point_maps ss))))
     ∙ ap₂ (λ (xs ys : List (ℤ × ℤ)). xs ++ ys) first rest
-    ∙ elim (is_of_lane l o) as (λ b. cond b (filter q ps) [] ++ points_in r all k.index (numbers_where_from (is_of_lane l) (n + 1) os) ≡ points_in r all k.index (cond b (n ∷ numbers_where_from (is_of_lane l) (n + 1) os) (numbers_where_from (is_of_lane l) (n + 1) os))) [
-      | true ↦ ap (λ (x : ColumnState). points_in_bucket x.points k.index r.interval r.offset ++ points_in r all k.index (numbers_where_from (is_of_lane l) (n + 1) os)) (sym here)
+    ∙ elim (is_of_rollup_series l o) as (λ b. cond b (filter q ps) [] ++ points_in r all k.index (numbers_where_from (is_of_rollup_series l) (n + 1) os) ≡ points_in r all k.index (cond b (n ∷ numbers_where_from (is_of_rollup_series l) (n + 1) os) (numbers_where_from (is_of_rollup_series l) (n + 1) os))) [
+      | true ↦ ap (λ (x : ColumnState). points_in_bucket x.points k.index r.interval r.offset ++ points_in r all k.index (numbers_where_from (is_of_rollup_series l) (n + 1) os)) (sym here)
       | false ↦ refl
     ]
 
 -- of a whole store's columns
-pub cell_points : (r : Rule) (s : RollupState) (k : Cell) (l : ℕ) (cs : List Column) (ss : List ColumnState) → AllDistinct s.grid.lanes → IsAt s.grid.lanes l (lane_of k) → length ss ≡ length cs → HaveLanes r s.grid.lanes cs s.lanes
-    → points_of_facts (filter (is_in_cell r k) (facts_of (with_points cs (point_maps ss)))) ≡ points_in r ss k.index (columns_of_lane l s)
+pub cell_points : (r : Rule) (s : RollupState) (k : Cell) (l : ℕ) (cs : List Column) (ss : List ColumnState) → AllDistinct s.grid.series_list → IsAt s.grid.series_list l (rollup_series_of k) → length ss ≡ length cs → HaveRollupSeries r s.grid.series_list cs s.series_list
+    → points_of_facts (filter (is_in_cell r k) (facts_of (with_points cs (point_maps ss)))) ≡ points_in r ss k.index (columns_of_rollup_series l s)
 cell_points r s k l cs ss d at len have =
-    columns_parts r k l s.grid.lanes d at ss 0 cs ss s.lanes len have (λ i below. let e : 0 + i ≡ i = omega arith in ap (λ j. get_or ss j no_column) e)
+    columns_parts r k l s.grid.series_list d at ss 0 cs ss s.series_list len have (λ i below. let e : 0 + i ≡ i = omega arith in ap (λ j. get_or ss j no_column) e)
 
 -- the aggregate of these points
-pub cell_total : (r : Rule) (s : RollupState) (k : Cell) (l : ℕ) (cs : List Column) (ss : List ColumnState) → AllDistinct s.grid.lanes → IsAt s.grid.lanes l (lane_of k) → length ss ≡ length cs → HaveLanes r s.grid.lanes cs s.lanes
-    → aggregate_of_points (points_in r ss k.index (columns_of_lane l s)) ≡ total_of r k (facts_of (with_points cs (point_maps ss)))
+pub cell_total : (r : Rule) (s : RollupState) (k : Cell) (l : ℕ) (cs : List Column) (ss : List ColumnState) → AllDistinct s.grid.series_list → IsAt s.grid.series_list l (rollup_series_of k) → length ss ≡ length cs → HaveRollupSeries r s.grid.series_list cs s.series_list
+    → aggregate_of_points (points_in r ss k.index (columns_of_rollup_series l s)) ≡ total_of r k (facts_of (with_points cs (point_maps ss)))
 cell_total r s k l cs ss d at len have =
     sym (aggregate_of-points (filter (is_in_cell r k) (facts_of (with_points cs (point_maps ss)))) ∙ ap aggregate_of_points (cell_points r s k l cs ss d at len have))
 
 -- and how many they are
-pub cell_count : (r : Rule) (s : RollupState) (k : Cell) (l : ℕ) (cs : List Column) (ss : List ColumnState) → AllDistinct s.grid.lanes → IsAt s.grid.lanes l (lane_of k) → length ss ≡ length cs → HaveLanes r s.grid.lanes cs s.lanes
-    → length (points_in r ss k.index (columns_of_lane l s)) ≡ length (filter (is_in_cell r k) (facts_of (with_points cs (point_maps ss))))
+pub cell_count : (r : Rule) (s : RollupState) (k : Cell) (l : ℕ) (cs : List Column) (ss : List ColumnState) → AllDistinct s.grid.series_list → IsAt s.grid.series_list l (rollup_series_of k) → length ss ≡ length cs → HaveRollupSeries r s.grid.series_list cs s.series_list
+    → length (points_in r ss k.index (columns_of_rollup_series l s)) ≡ length (filter (is_in_cell r k) (facts_of (with_points cs (point_maps ss))))
 cell_count r s k l cs ss d at len have =
     let fs : List Fact = filter (is_in_cell r k) (facts_of (with_points cs (point_maps ss))) in
     ap length (sym (cell_points r s k l cs ss d at len have)) ∙ length-map fs (λ (f : Fact). (f.time, f.value))

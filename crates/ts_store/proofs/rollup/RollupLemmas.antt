@@ -1,4 +1,4 @@
--- Rollups of a rule: the columns of each lane, when a lane or a column is created.
+-- Rollups of a rule: the columns of each rollup series, when a rollup series or a column is created.
 use Rattle.std.proofs.Common.{◌≡◌, ℕ, zero, suc, ◌+◌, ◌<◌, ◌≤◌, ◌==◌, Bool, true, false, cond, List, [], ◌∷◌, ◌++◌, length, map, set, get_or, replicate, Option, Some, None, refl, sym, ◌∙◌, ap, subst, ⊎_elim, arith}
 use Rattle.std.specs.List.{slice_get}
 use Rattle.std.proofs.Math.Seq.{map-set_same}
@@ -6,12 +6,12 @@ use Rattle.std.proofs.lemmas.Bool.{eqb-true, eqb-false}
 use Rattle.std.proofs.lemmas.List.{append-nil, map-append, map-set, length-set, length_push, length-map, get_or-map, get_or-set_same, get_or-set_other}
 use Rattle.ts_core.specs.lists.Members.{Among, AllDistinct}
 use Rattle.ts_core.specs.store.StoreStates.{CellParts}
-use Rattle.ts_cells.specs.Grids.{Lane, Grid}
+use Rattle.ts_cells.specs.Grids.{RollupSeries, Grid}
 use Rattle.ts_core.specs.lists.Numbered.{Gains, numbers_where}
 use Rattle.ts_raw.proofs.NumbersLaws.{numbers_there}
 use Rattle.ts_core.proofs.lists.NumberedLemmas.{numbers_where-push, once_more}
-use Rattle.ts_store.specs.rollup.ColumnLists.{ColumnList, lists_in, places_in, HasPlaceAt}
-use Rattle.ts_store.specs.rollup.Rollups.{is_of_lane, HasSpares, IsRollup, Extends, KeepsLists}
+use Rattle.ts_store.specs.rollup.ColumnLists.{ColumnList, lists_in, capacities_in, HasCapacityAt}
+use Rattle.ts_store.specs.rollup.Rollups.{is_of_rollup_series, HasSpares, IsRollup, Extends, KeepsLists}
 
 same_number : (n : ℕ) → (n == n) ≡ true
 same_number n = grind arith
@@ -43,13 +43,13 @@ true_within [] n e = cc
 true_within (b ∷ bs) zero e = omega arith
 true_within (b ∷ bs) (suc n) e = let w = true_within bs n e in omega (arith, w)
 
--- a lane without columns is made
-pub lane_made : (ls : List ColumnList) (new : ColumnList) → new.items ≡ [] → (l : ℕ) → get_or (lists_in (ls ++ new ∷ [])) l [] ≡ get_or (lists_in ls) l []
-lane_made ls new e l =
+-- a rollup series without columns is made
+pub rollup_series_made : (ls : List ColumnList) (new : ColumnList) → new.items ≡ [] → (l : ℕ) → get_or (lists_in (ls ++ new ∷ [])) l [] ≡ get_or (lists_in ls) l []
+rollup_series_made ls new e l =
     ap (λ (xs : List (List ℕ)). get_or xs l []) (map-append (λ (w : ColumnList). w.items) ls (new ∷ [])) ∙ ap (λ (xs : List ℕ). get_or (lists_in ls ++ xs ∷ []) l []) e
     ∙ list_made (lists_in ls) l
 
--- the columns of a lane are replaced
+-- the columns of a rollup series are replaced
 module _ (ls : List ColumnList) (i : ℕ) (old new : ColumnList) (is : old ≡ get_or ls i old) where
   lists_same : new.items ≡ old.items → lists_in (set ls i new) ≡ lists_in ls
   lists_same e = map-set_same (λ (v : ColumnList). v.items) ls i new old (e ∙ ap (λ (v : ColumnList). v.items) is)
@@ -71,19 +71,19 @@ module _ (ls : List ColumnList) (i : ℕ) (old new : ColumnList) (is : old ≡ g
       (e ∙ ap (λ xs. xs ++ n ∷ []) (ap (λ (v : ColumnList). v.items) is ∙ sym (get_or-map (λ (v : ColumnList). v.items) ls i old [] l)))
 
 module _ (ls : List ColumnList) (n : ℕ) where
-  pub place_within : HasPlaceAt ls n → n < length ls
-  place_within h = let w = true_within (places_in ls) n h in let e = length-map ls (λ (v : ColumnList). v.place) in omega (arith, w, e)
+  pub place_within : HasCapacityAt ls n → n < length ls
+  place_within h = let w = true_within (capacities_in ls) n h in let e = length-map ls (λ (v : ColumnList). v.has_capacity) in omega (arith, w, e)
 
   -- columns with a place for one more
-  pub place_at : (v : ColumnList) → v ≡ get_or ls n v → HasPlaceAt ls n → v.place ≡ true
-  place_at v is h = ap (λ (w : ColumnList). w.place) is ∙ sym (get_or-map (λ (w : ColumnList). w.place) ls n v false (place_within h)) ∙ h
+  pub place_at : (v : ColumnList) → v ≡ get_or ls n v → HasCapacityAt ls n → v.has_capacity ≡ true
+  place_at v is h = ap (λ (w : ColumnList). w.has_capacity) is ∙ sym (get_or-map (λ (w : ColumnList). w.has_capacity) ls n v false (place_within h)) ∙ h
 
   -- a place was made
-  pub place_taken : (v : ColumnList) → n < length ls → v.place ≡ true → HasPlaceAt (set ls n v) n
-  place_taken v within room =
-      ap (λ bs. get_or bs n false) (map-set (λ (w : ColumnList). w.place) ls n v)
-      ∙ get_or-set_same (places_in ls) n v.place false (let e = length-map ls (λ (w : ColumnList). w.place) in omega (arith, within, e))
-      ∙ room
+  pub place_taken : (v : ColumnList) → n < length ls → v.has_capacity ≡ true → HasCapacityAt (set ls n v) n
+  place_taken v within capacity =
+      ap (λ bs. get_or bs n false) (map-set (λ (w : ColumnList). w.has_capacity) ls n v)
+      ∙ get_or-set_same (capacities_in ls) n v.has_capacity false (let e = length-map ls (λ (w : ColumnList). w.has_capacity) in omega (arith, within, e))
+      ∙ capacity
 
 pub room_in : (l : ℕ) (next : Option (Option ℕ)) (spare : Bool) (spares : List Bool) → next ≡ Some (Some l) → HasSpares next spare spares → get_or spares l false ≡ true
 room_in l next spare spares e h = (subst (λ (o : Option (Option ℕ)). HasSpares o spare spares) e h).1
@@ -96,8 +96,8 @@ pub gains-length : {X : Type 0} (before after : List X) (x : X) → Gains before
 gains-length before after x h =
     ⊎_elim {C = length after ≤ length before + 1} (λ a. let e = ap length a.1 in omega (arith, e)) (λ b. let e = ap length b.1 ∙ length_push before x in omega (arith, e)) h
 
-pub gains-extends : (before after : List Lane) (lane : Lane) → Gains before after lane → Extends before after
-gains-extends before after lane h = ⊎_elim {C = Extends before after} (λ a. ([], a.1 ∙ sym (append-nil before))) (λ b. (lane ∷ [], b.1)) h
+pub gains-extends : (before after : List RollupSeries) (series : RollupSeries) → Gains before after series → Extends before after
+gains-extends before after series h = ⊎_elim {C = Extends before after} (λ a. ([], a.1 ∙ sym (append-nil before))) (λ b. (series ∷ [], b.1)) h
 
 pub gains-least : {X : Type 0} (before after : List X) (x : X) → Gains before after x → length before ≤ length after
 gains-least before after x h =
@@ -113,30 +113,30 @@ replicate_push (suc n) x = ap (λ xs. x ∷ xs) (replicate_push n x) ∙ ap (λ 
 
 -- ---- the invariant
 
-module _ (lanes : List Lane) (os : List (Option ℕ)) (ms : List (List ℕ)) (next : Option (Option ℕ)) (spare : Bool) (spares : List Bool) (kept : IsRollup lanes os ms next spare spares) where
-  -- the lane of a column is there
-  pub lane_inside : (n l : ℕ) → slice_get os n ≡ Some (Some l) → l < length lanes
-  lane_inside n l at =
-      let there : Among n (get_or ms l []) = subst (Among n) (sym (kept.grouped l)) (numbers_there (is_of_lane l) os n (Some l) at (same_number l)) in
+module _ (series_list : List RollupSeries) (os : List (Option ℕ)) (ms : List (List ℕ)) (next : Option (Option ℕ)) (spare : Bool) (spares : List Bool) (kept : IsRollup series_list os ms next spare spares) where
+  -- the rollup series of a column is there
+  pub rollup_series_inside : (n l : ℕ) → slice_get os n ≡ Some (Some l) → l < length series_list
+  rollup_series_inside n l at =
+      let there : Among n (get_or ms l []) = subst (Among n) (sym (kept.grouped l)) (numbers_there (is_of_rollup_series l) os n (Some l) at (same_number l)) in
       let w = members_within ms l n there in
       omega (arith, w, kept.each)
 
-  -- a column of no lane is made
-  pub made_apart : (os' : List (Option ℕ)) (next' : Option (Option ℕ)) (spare' : Bool) (spares' : List Bool) → os' ≡ os ++ None ∷ [] → next' ≡ None → IsRollup lanes os' ms next' spare' spares'
+  -- a column of no rollup series is made
+  pub made_apart : (os' : List (Option ℕ)) (next' : Option (Option ℕ)) (spare' : Bool) (spares' : List Bool) → os' ≡ os ++ None ∷ [] → next' ≡ None → IsRollup series_list os' ms next' spare' spares'
   made_apart os' next' spare' spares' e none = record {
     once = kept.once;
     each = kept.each;
-    grouped = λ l. kept.grouped l ∙ sym (append-nil (numbers_where (is_of_lane l) os)) ∙ sym (numbers_where-push (is_of_lane l) os None) ∙ ap (numbers_where (is_of_lane l)) (sym e);
-    room = subst (λ (o : Option (Option ℕ)). HasSpares o spare' spares') (sym none) tt;
+    grouped = λ l. kept.grouped l ∙ sym (append-nil (numbers_where (is_of_rollup_series l) os)) ∙ sym (numbers_where-push (is_of_rollup_series l) os None) ∙ ap (numbers_where (is_of_rollup_series l)) (sym e);
+    capacity = subst (λ (o : Option (Option ℕ)). HasSpares o spare' spares') (sym none) tt;
   }
 
-  -- one of a lane is
+  -- one of a rollup series is
   pub made_in : (n : ℕ) → n < length ms → (os' : List (Option ℕ)) (ms' : List (List ℕ)) (next' : Option (Option ℕ)) (spare' : Bool) (spares' : List Bool) → os' ≡ os ++ Some n ∷ []
-      → ms' ≡ set ms n (get_or ms n [] ++ length os ∷ []) → next' ≡ None → IsRollup lanes os' ms' next' spare' spares'
+      → ms' ≡ set ms n (get_or ms n [] ++ length os ∷ []) → next' ≡ None → IsRollup series_list os' ms' next' spare' spares'
   made_in n within os' ms' next' spare' spares' e f none = record {
     once = kept.once;
     each = ap length f ∙ length-set ms n (get_or ms n [] ++ length os ∷ []) ∙ kept.each;
     grouped = λ l. ap (λ (xs : List (List ℕ)). get_or xs l []) f ∙ grown_list ms n (length os) within l (n == l) refl
-        ∙ ap (λ ns. ns ++ cond (n == l) (length os ∷ []) []) (kept.grouped l) ∙ sym (numbers_where-push (is_of_lane l) os (Some n)) ∙ ap (numbers_where (is_of_lane l)) (sym e);
-    room = subst (λ (o : Option (Option ℕ)). HasSpares o spare' spares') (sym none) tt;
+        ∙ ap (λ ns. ns ++ cond (n == l) (length os ∷ []) []) (kept.grouped l) ∙ sym (numbers_where-push (is_of_rollup_series l) os (Some n)) ∙ ap (numbers_where (is_of_rollup_series l)) (sym e);
+    capacity = subst (λ (o : Option (Option ℕ)). HasSpares o spare' spares') (sym none) tt;
   }

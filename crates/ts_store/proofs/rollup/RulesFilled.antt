@@ -23,24 +23,24 @@ use Rattle.ts_raw.specs.Indexed.{Indexed}
 use Rattle.ts_store.specs.store.CellIndices.{HaveIndices}
 use Rattle.ts_store.specs.store.ColumnStates.{IsSoundContent, content_of, columns_in, with_points, point_maps}
 use Rattle.ts_store.specs.write.LinesPut.{OfEachRule, IsOfFacts, PutsCells}
-use Rattle.ts_store.specs.rollup.Rollups.{RollupState, AreRollups, HaveLanes, IsLaneOf, lane_at, cells_of}
+use Rattle.ts_store.specs.rollup.Rollups.{RollupState, AreRollups, HaveRollupSeries, IsRollupSeriesOf, rollup_series_at, cells_of}
 use Rattle.ts_store.specs.retain.RollupSteps.{with_frozen_all}
 use Rattle.ts_store.proofs.store.ColumnsLemmas.{known_of, names_held, facts-distinct}
-use Rattle.ts_store.proofs.write.PointsPut.{lanes_then}
+use Rattle.ts_store.proofs.write.PointsPut.{series_list_then}
 use Rattle.ts_store.proofs.retain.RollupMoves.{rollups_with}
 use Rattle.ts_store.proofs.rollup.RollupsGrow.{rollups-length}
-use Rattle.ts_store.proofs.write.RoomLemmas.{lane_known}
+use Rattle.ts_store.proofs.write.CellsCreatedLemmas.{rollup_series_known}
 
 -- ---- the first rule, and the others
 
 -- the properties of the first rollup, and of the others
-pub rollups_first : (r : Rule) (rs rs' : List Rule) (cs : List Column) (s : RollupState) (ss ss' : List RollupState) → rs' ≡ r ∷ rs → ss' ≡ s ∷ ss → AreRollups rs' cs ss' → HaveLanes r s.grid.lanes cs s.lanes × AreRollups rs cs ss
+pub rollups_first : (r : Rule) (rs rs' : List Rule) (cs : List Column) (s : RollupState) (ss ss' : List RollupState) → rs' ≡ r ∷ rs → ss' ≡ s ∷ ss → AreRollups rs' cs ss' → HaveRollupSeries r s.grid.series_list cs s.series_list × AreRollups rs cs ss
 rollups_first r rs rs' cs s ss ss' d e h = subst (λ (us : List RollupState). AreRollups (r ∷ rs) cs us) e (subst (λ (qs : List Rule). AreRollups qs cs ss') d h)
 
-pub lane_first : (r : Rule) (cs : List Column) (n : ℕ) (c : Column) (s : RollupState) → HaveLanes r s.grid.lanes cs s.lanes → IsAt cs n c → IsLaneOf r c s.grid.lanes (lane_at s n)
-lane_first r cs n c s h at = lane_known r s.grid.lanes cs s.lanes n c h at
+pub rollup_series_first : (r : Rule) (cs : List Column) (n : ℕ) (c : Column) (s : RollupState) → HaveRollupSeries r s.grid.series_list cs s.series_list → IsAt cs n c → IsRollupSeriesOf r c s.grid.series_list (rollup_series_at s n)
+rollup_series_first r cs n c s h at = rollup_series_known r s.grid.series_list cs s.series_list n c h at
 
-pub wide_first : (n : ℕ) (ss : List RollupState) (m : ℕ) → m < n → AllByRecursion (λ (s : RollupState). length s.lanes ≡ n) ss → AllByRecursion (λ (s : RollupState). m < length s.lanes) ss
+pub wide_first : (n : ℕ) (ss : List RollupState) (m : ℕ) → m < n → AllByRecursion (λ (s : RollupState). length s.series_list ≡ n) ss → AllByRecursion (λ (s : RollupState). m < length s.series_list) ss
 wide_first n [] m l h = tt
 wide_first n (s ∷ ss) m l h = (subst (λ k. m < k) (sym h.0) l, wide_first n ss m l h.1)
 
@@ -224,16 +224,16 @@ all-filled columns rs lows ms os ns made keeps live idle = (
 pub others-of : (P : Rule → ℤ → CellMap → CellMap → Type 0) (r : Rule) (rs : List Rule) (low : ℤ) (lows : List ℤ) (m : CellMap) (ms : List CellMap) (n : CellMap) (ns : List CellMap) → OfEachRule P (r ∷ rs) (low ∷ lows) (m ∷ ms) (n ∷ ns) → OfEachRule P rs lows ms ns
 others-of P r rs low lows m ms n ns h = (let e = h.0 in omega (arith, e), λ i. h.1 (suc i))
 
-pub rooms-had : (facts : List Fact) (rs : List Rule) (lows : List ℤ) (ms ns : List CellMap) → OfEachRule (PutsCells facts) rs lows ms ns → HaveCells rs lows facts ns
-rooms-had facts [] lows ms ns h = tt
-rooms-had facts (r ∷ rs) [] ms ns h = tt
-rooms-had facts (r ∷ rs) (low ∷ lows) ms [] h = tt
-rooms-had facts (r ∷ rs) (low ∷ lows) [] (n ∷ ns) h = absurd (let e = h.0 in omega (arith, e))
-rooms-had facts (r ∷ rs) (low ∷ lows) (m ∷ ms) (n ∷ ns) h = (
+pub has_cells-had : (facts : List Fact) (rs : List Rule) (lows : List ℤ) (ms ns : List CellMap) → OfEachRule (PutsCells facts) rs lows ms ns → HaveCells rs lows facts ns
+has_cells-had facts [] lows ms ns h = tt
+has_cells-had facts (r ∷ rs) [] ms ns h = tt
+has_cells-had facts (r ∷ rs) (low ∷ lows) ms [] h = tt
+has_cells-had facts (r ∷ rs) (low ∷ lows) [] (n ∷ ns) h = absurd (let e = h.0 in omega (arith, e))
+has_cells-had facts (r ∷ rs) (low ∷ lows) (m ∷ ms) (n ∷ ns) h = (
   λ f a rolled above none.
       let puts : PutsCells facts r low m n = h.1 0 r low m n refl refl refl refl in
       (puts.there (cell_of r f)).1 (inr (above, (f, a, ap (λ b. b && same_cell (cell_of r f) (cell_of r f)) rolled ∙ same_cell-refl (cell_of r f)))) none,
-  rooms-had facts rs lows ms ns (others-of (PutsCells facts) r rs low lows m ms n ns h),
+  has_cells-had facts rs lows ms ns (others-of (PutsCells facts) r rs low lows m ms n ns h),
 )
 
 pub indices-had : (facts : List Fact) (rs : List Rule) (lows : List ℤ) (ms os : List CellMap) → length lows ≡ length rs → OfEachRule (MakesCells facts) rs lows ms os → HaveIndices rs ms → HaveIndices rs os
@@ -299,9 +299,9 @@ module _ (rs : List Rule) (lows : List ℤ) (index : Indexed) (ss : List ColumnS
       add index.columns held.each between (idle-made facts rs lows (cells_of us) (cells_of vs) many (length-map us (λ (s : RollupState). s.grid.cells) ∙ rollups-length rs index.columns us names) made idle) in
       let cells : OfEachRule (PutsCells facts) rs lows (cells_of us) (cells_of ws) = all-filled (columns_in index ss) rs lows (cells_of us) (cells_of vs) (cells_of ws) made frozen live idle in
       record {
-        others = ap (content_of index ss) (lanes_then us vs ws one two);
+        others = ap (content_of index ss) (series_list_then us vs ws one two);
         cells = cells;
-        rooms = rooms-had facts rs lows (cells_of us) (cells_of ws) cells;
+        has_cells = has_cells-had facts rs lows (cells_of us) (cells_of ws) cells;
         live = live;
         indices = λ v. indices-kept rs (cells_of vs) (cells_of ws) frozen (indices-had facts rs lows (cells_of us) (cells_of vs) many made v);
         known = known_of index ss ws held;

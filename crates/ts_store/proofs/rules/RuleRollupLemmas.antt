@@ -1,4 +1,4 @@
--- The rollup of a rule over columns that exist: its lanes, column after column, and its cells.
+-- The rollup of a rule over columns that exist: its rollup series, column after column, and its cells.
 use Rattle.std.proofs.Common.{◌≡◌, ◌≢◌, ◌≤ℤ◌, ◌&&◌, ◌+◌, ℕ, suc, ℤ, List, [], ◌∷◌, ◌++◌, length, map, take, Option, Some, None, refl, sym, ◌∙◌, ap, ap₂, subst, inr, ⊎_elim, arith}
 use Rattle.std.specs.FinMap as finmap
 use Rattle.std.specs.FinMap.{get-empty}
@@ -25,32 +25,32 @@ use Rattle.ts_store.specs.store.CellIndices.{HasIndices}
 use Rattle.ts_store.specs.store.ColumnStates.{IsSoundContent, content_of, columns_in}
 use Rattle.ts_store.specs.store.Inventories.{AreFilled}
 use Rattle.ts_store.specs.write.LinesPut.{IsOfFacts, PutsCells}
-use Rattle.ts_store.specs.rules.RuleRollups.{HasFirstLanes, IsRollupOf}
-use Rattle.ts_store.specs.rollup.Rollups.{RollupState, HaveLanes, KeepsCells, HasNext, cells_of, new_rollup, joined_lane, with_next, with_frozen}
+use Rattle.ts_store.specs.rules.RuleRollups.{HasFirstRollupSeries, IsRollupOf}
+use Rattle.ts_store.specs.rollup.Rollups.{RollupState, HaveRollupSeries, KeepsCells, HasNext, cells_of, new_rollup, joined_rollup_series, with_next, with_frozen}
 use Rattle.ts_store.specs.retain.RollupSteps.{with_frozen_all}
 use Rattle.ts_store.proofs.store.ColumnsLemmas.{names_held}
-use Rattle.ts_store.proofs.write.PointsPut.{lanes_then}
-use Rattle.ts_store.proofs.rollup.RollupsGrow.{lanes_kept, lanes_push}
+use Rattle.ts_store.proofs.write.PointsPut.{series_list_then}
+use Rattle.ts_store.proofs.rollup.RollupsGrow.{series_list_kept, series_list_push}
 use Rattle.ts_store.proofs.rollup.RulesFilled.{Makes, Adds, all_fill}
 
--- ---- lanes
+-- ---- rollup series
 
-pub no_lanes : (r : Rule) (columns : List Column) → HasFirstLanes r columns 0 new_rollup
-no_lanes r columns = record { lanes = tt; many = refl; cells = refl }
+pub no_series_list : (r : Rule) (columns : List Column) → HasFirstRollupSeries r columns 0 new_rollup
+no_series_list r columns = record { series_list = tt; many = refl; cells = refl }
 
 take-push : {X : Type 0} (xs : List X) (n : ℕ) (x : X) → IsAt xs n x → take (n + 1) xs ≡ take n xs ++ x ∷ []
 take-push xs n x at = ap (λ k. take k xs) (let e : n + 1 ≡ suc n = omega arith in e) ∙ take-suc xs n x (slice_get_within xs n x at) ∙ ap (λ y. take n xs ++ y ∷ []) (get_or_from_slice_get xs n x x at)
 
-pub one_lane : (r : Rule) (columns : List Column) (n : ℕ) (c : Column) (s t : RollupState) → IsAt columns n c → KeepsCells s t → HasNext r c t → HasFirstLanes r columns n s → HasFirstLanes r columns (n + 1) (with_next t)
-one_lane r columns n c s t at keeps next h =
-    let os : List (Option ℕ) = t.lanes in
+pub one_rollup_series : (r : Rule) (columns : List Column) (n : ℕ) (c : Column) (s t : RollupState) → IsAt columns n c → KeepsCells s t → HasNext r c t → HasFirstRollupSeries r columns n s → HasFirstRollupSeries r columns (n + 1) (with_next t)
+one_rollup_series r columns n c s t at keeps next h =
+    let os : List (Option ℕ) = t.series_list in
     let first : List Column = take n columns in
-    let lanes : HaveLanes r t.grid.lanes first os = subst (HaveLanes r t.grid.lanes first) (sym keeps.lanes) (lanes_kept r s.grid.lanes t.grid.lanes first s.lanes keeps.made h.lanes) in
-    let joined : joined_lane os t.next ≡ os ++ next.0 ∷ [] = ap (joined_lane os) next.1 in
+    let series_list : HaveRollupSeries r t.grid.series_list first os = subst (HaveRollupSeries r t.grid.series_list first) (sym keeps.series_list) (series_list_kept r s.grid.series_list t.grid.series_list first s.series_list keeps.made h.series_list) in
+    let joined : joined_rollup_series os t.next ≡ os ++ next.0 ∷ [] = ap (joined_rollup_series os) next.1 in
     record {
-      lanes = subst (λ (cs : List Column). HaveLanes r t.grid.lanes cs (joined_lane os t.next)) (sym (take-push columns n c at))
-          (subst (HaveLanes r t.grid.lanes (first ++ c ∷ [])) (sym joined) (lanes_push r t.grid.lanes first os c next.0 lanes next.2));
-      many = ap (λ (xs : List (Option ℕ)). length xs) joined ∙ length_push os next.0 ∙ ap (λ (xs : List (Option ℕ)). length xs + 1) keeps.lanes ∙ ap (λ k. k + 1) h.many;
+      series_list = subst (λ (cs : List Column). HaveRollupSeries r t.grid.series_list cs (joined_rollup_series os t.next)) (sym (take-push columns n c at))
+          (subst (HaveRollupSeries r t.grid.series_list (first ++ c ∷ [])) (sym joined) (series_list_push r t.grid.series_list first os c next.0 series_list next.2));
+      many = ap (λ (xs : List (Option ℕ)). length xs) joined ∙ length_push os next.0 ∙ ap (λ (xs : List (Option ℕ)). length xs + 1) keeps.series_list ∙ ap (λ k. k + 1) h.many;
       cells = keeps.cells ∙ h.cells;
     }
 
@@ -79,14 +79,14 @@ module _ (facts : List Fact) (r : Rule) (low : ℤ) (m : CellMap) (puts : PutsCe
 no_indices : (r : Rule) → HasIndices r finmap.empty
 no_indices r = λ k a. absurd (key_not finmap.empty k a (get-empty cell_cmp k))
 
-pub rollup_made : (index : Indexed) (ss : List ColumnState) (us : List RollupState) (r : Rule) (low : ℤ) (s t : RollupState) → IsSoundContent index ss → HasFirstLanes r index.columns (length index.columns) s
+pub rollup_made : (index : Indexed) (ss : List ColumnState) (us : List RollupState) (r : Rule) (low : ℤ) (s t : RollupState) → IsSoundContent index ss → HasFirstRollupSeries r index.columns (length index.columns) s
     → t ≡ with_frozen t.grid.cells s → FillsCells (r ∷ []) (low ∷ []) (content_of index ss (s ∷ [])) (content_of index ss (t ∷ [])) → IsRollupOf (content_of index ss us) r low t
 rollup_made index ss us r low s t held first same fills =
     let facts : List Fact = facts_of (content_of index ss us).columns in
     let puts : PutsCells facts r low finmap.empty t.grid.cells = subst (λ (m : CellMap). PutsCells facts r low m t.grid.cells) first.cells (fills.cells.1 0 r low s.grid.cells t.grid.cells refl refl refl refl) in
-    let lanes : HaveLanes r s.grid.lanes index.columns s.lanes = subst (λ (cs : List Column). HaveLanes r s.grid.lanes cs s.lanes) (take-length index.columns) first.lanes in
+    let series_list : HaveRollupSeries r s.grid.series_list index.columns s.series_list = subst (λ (cs : List Column). HaveRollupSeries r s.grid.series_list cs s.series_list) (take-length index.columns) first.series_list in
     record {
-      lanes = subst (λ (x : RollupState). HaveLanes r x.grid.lanes (map column_of (content_of index ss us).columns) x.lanes) (sym same) (subst (λ (cs : List Column). HaveLanes r s.grid.lanes cs s.lanes) (sym (names_held index ss held.each)) lanes);
+      series_list = subst (λ (x : RollupState). HaveRollupSeries r x.grid.series_list (map column_of (content_of index ss us).columns) x.series_list) (sym same) (subst (λ (cs : List Column). HaveRollupSeries r s.grid.series_list cs s.series_list) (sym (names_held index ss held.each)) series_list);
       fresh = fresh_of facts r low t.grid.cells puts fills.live.0;
       filled = filled_of facts r low t.grid.cells puts;
       indices = (fills.indices (subst (HasIndices r) (sym first.cells) (no_indices r), tt)).0;
@@ -99,16 +99,16 @@ pub alone : {X : Type 0} (xs ys : List X) (x : X) → length xs ≡ 1 → xs ≡
 alone xs [] x one e = e
 alone {X} xs (y ∷ ys) x one e = absurd (let n : length xs ≡ length (y ∷ (ys ++ x ∷ [])) = ap (λ (zs : List X). length zs) e in let m = length_push ys x in omega (arith, n, m, one))
 
-pub alone_wide : (n : ℕ) (s : RollupState) (us : List RollupState) → us ≡ s ∷ [] → length s.lanes ≡ n → AllByRecursion (λ (u : RollupState). length u.lanes ≡ n) us
-alone_wide n s us e wide = subst (AllByRecursion (λ (u : RollupState). length u.lanes ≡ n)) (sym e) (wide, tt)
+pub alone_wide : (n : ℕ) (s : RollupState) (us : List RollupState) → us ≡ s ∷ [] → length s.series_list ≡ n → AllByRecursion (λ (u : RollupState). length u.series_list ≡ n) us
+alone_wide n s us e wide = subst (AllByRecursion (λ (u : RollupState). length u.series_list ≡ n)) (sym e) (wide, tt)
 
-pub alone_made : (index : Indexed) (ss : List ColumnState) (us : List RollupState) (r : Rule) (low : ℤ) (s t : RollupState) (vs ws : List RollupState) → IsSoundContent index ss → HasFirstLanes r index.columns (length index.columns) s
+pub alone_made : (index : Indexed) (ss : List ColumnState) (us : List RollupState) (r : Rule) (low : ℤ) (s t : RollupState) (vs ws : List RollupState) → IsSoundContent index ss → HasFirstRollupSeries r index.columns (length index.columns) s
     → vs ≡ with_frozen_all (cells_of vs) (s ∷ []) → ws ≡ with_frozen_all (cells_of ws) vs → Makes (r ∷ []) (low ∷ []) vs ss (s ∷ []) → KeepFrozen (cells_of vs) (cells_of ws) → Adds (r ∷ []) ws ss vs → ws ≡ t ∷ [] → IsRollupOf (content_of index ss us) r low t
 alone_made index ss us r low s t vs ws held first one two make frozen add only =
-    let lanes : HaveLanes r s.grid.lanes index.columns s.lanes = subst (λ (cs : List Column). HaveLanes r s.grid.lanes cs s.lanes) (take-length index.columns) first.lanes in
-    let named : HaveLanes r s.grid.lanes (map column_of (columns_in index ss)) s.lanes = subst (λ (cs : List Column). HaveLanes r s.grid.lanes cs s.lanes) (sym (names_held index ss held.each)) lanes in
+    let series_list : HaveRollupSeries r s.grid.series_list index.columns s.series_list = subst (λ (cs : List Column). HaveRollupSeries r s.grid.series_list cs s.series_list) (take-length index.columns) first.series_list in
+    let named : HaveRollupSeries r s.grid.series_list (map column_of (columns_in index ss)) s.series_list = subst (λ (cs : List Column). HaveRollupSeries r s.grid.series_list cs s.series_list) (sym (names_held index ss held.each)) series_list in
     let idle : AreIdle (cells_of (s ∷ [])) = (λ k p e. absurd (none-some p (sym (ap (λ (m : CellMap). finmap.get m k) first.cells ∙ get-empty cell_cmp k) ∙ e)), tt) in
     let fills : FillsCells (r ∷ []) (low ∷ []) (content_of index ss (s ∷ [])) (content_of index ss ws) = all_fill (r ∷ []) (low ∷ []) index ss (s ∷ []) vs ws held refl (named, tt) idle one two make frozen add in
     let same : t ≡ with_frozen t.grid.cells s =
-    same_head t (with_frozen t.grid.cells s) [] [] (sym only ∙ lanes_then (s ∷ []) vs ws one two ∙ ap (λ (xs : List RollupState). with_frozen_all (cells_of xs) (s ∷ [])) only) in
+    same_head t (with_frozen t.grid.cells s) [] [] (sym only ∙ series_list_then (s ∷ []) vs ws one two ∙ ap (λ (xs : List RollupState). with_frozen_all (cells_of xs) (s ∷ [])) only) in
     rollup_made index ss us r low s t held first same (subst (λ (xs : List RollupState). FillsCells (r ∷ []) (low ∷ []) (content_of index ss (s ∷ [])) (content_of index ss xs)) only fills)

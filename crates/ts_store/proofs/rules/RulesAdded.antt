@@ -33,14 +33,14 @@ use Rattle.ts_store.specs.store.CellCounts.{HoldsFew, HoldFew}
 use Rattle.ts_store.specs.store.CellIndices.{HasIndices, HaveIndices}
 use Rattle.ts_store.specs.store.ColumnStates.{StoreContent}
 use Rattle.ts_store.specs.retain.OpenRuns.{Run, data_of_parts, IsSoundStore}
-use Rattle.ts_store.specs.rollup.Rollups.{RollupState, HaveLanes, AreRollups, cells_of}
+use Rattle.ts_store.specs.rollup.Rollups.{RollupState, HaveRollupSeries, AreRollups, cells_of}
 use Rattle.ts_store.specs.rules.RuleRollups.{IsRollupOf, with_rollup}
 use Rattle.ts_store.specs.rules.RulesChanged.{RuleComes, AddsRule}
 use Rattle.ts_store.specs.store.SizedStores.{IsSizedRule}
 
 -- ---- lists that are one longer
 
-rollups_push : (rs : List Rule) (cs : List Column) (ss : List RollupState) (r : Rule) (s : RollupState) → AreRollups rs cs ss → HaveLanes r s.grid.lanes cs s.lanes → AreRollups (rs ++ r ∷ []) cs (ss ++ s ∷ [])
+rollups_push : (rs : List Rule) (cs : List Column) (ss : List RollupState) (r : Rule) (s : RollupState) → AreRollups rs cs ss → HaveRollupSeries r s.grid.series_list cs s.series_list → AreRollups (rs ++ r ∷ []) cs (ss ++ s ∷ [])
 rollups_push [] cs [] r s h one = (one, tt)
 rollups_push [] cs (t ∷ ss) r s h one = absurd h
 rollups_push (q ∷ rs) cs [] r s h one = absurd h
@@ -137,7 +137,7 @@ module _ (settings : Settings) (marks : Marks) (n : ℕ) (held : StoreContent) (
 
     pub kept_added : IsSoundStore later (with_rollup s held) run
     kept_added = record {
-      rollups = rollups_push settings.rules (map column_of held.columns) held.rollups r s kept.rollups rollup.lanes;
+      rollups = rollups_push settings.rules (map column_of held.columns) held.rollups r s kept.rollups rollup.series_list;
       few = kept.few;
       counts = counts_push n held.columns settings.rules (cells_of held.rollups) r cells kept.sized.cells few kept.counts;
       live = lives_push held.columns settings.rules (cells_of held.rollups) r cells kept.sized.cells rollup.fresh.live kept.live;

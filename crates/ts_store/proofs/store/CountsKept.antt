@@ -12,7 +12,7 @@ use Rattle.ts_core.specs.lists.Changes.{or_else}
 use Rattle.ts_core.specs.store.StoreStates.{ColumnPoints, CellParts, facts_of}
 use Rattle.ts_core.specs.store.TwoParts.{with_live}
 use Rattle.ts_core.specs.store.StoreData.{CellMap, no_parts}
-use Rattle.ts_core.specs.moves.StoreMoves.{Puts, refolded, put_cell, put_cells, PutsFacts, HaveRoom}
+use Rattle.ts_core.specs.moves.StoreMoves.{Puts, refolded, put_cell, put_cells, PutsFacts, GainEmptyCells}
 use Rattle.ts_core.proofs.lists.MembersLemmas.{Split, split_at, out_of_middle, Among-filter_was, Among-filter_passes, Among-filter_stays, AllDistinct-filter}
 use Rattle.ts_core.proofs.moves.Freezing.{frozen_in, changed_as}
 use Rattle.ts_store.specs.store.CellCounts.{frozen_count, live_count, HoldFew}
@@ -71,18 +71,18 @@ counts-put n rs before ms after ns (f ∷ fs) put few =
     (counts-put (n + 1) rs put.0 (put_cells rs f (facts_of put.0) ms) after ns fs put.2 (counts-one n before put.0 f put.1.1 rs ms few))
 
 -- columns and cells are made, without facts
-pub counts-grown : (n : ℕ) (before after : List ColumnPoints) → facts_of after ≡ facts_of before → (facts : List Fact) (rs : List Rule) (lows : List ℤ) (ms ns : List CellMap) → length lows ≡ length rs → HaveRoom rs lows facts ms ns → HoldFew n before rs ms → HoldFew n after rs ns
-counts-grown n before after same facts [] lows ms ns l room few = tt
-counts-grown n before after same facts (r ∷ rs) lows ms [] l room few = tt
-counts-grown n before after same facts (r ∷ rs) lows [] (x ∷ ns) l room few = absurd room
-counts-grown n before after same facts (r ∷ rs) [] (m ∷ ms) (x ∷ ns) l room few = absurd (omega (arith, l))
-counts-grown n before after same facts (r ∷ rs) (low ∷ lows) (m ∷ ms) (x ∷ ns) l room few = (
+pub counts-grown : (n : ℕ) (before after : List ColumnPoints) → facts_of after ≡ facts_of before → (facts : List Fact) (rs : List Rule) (lows : List ℤ) (ms ns : List CellMap) → length lows ≡ length rs → GainEmptyCells rs lows facts ms ns → HoldFew n before rs ms → HoldFew n after rs ns
+counts-grown n before after same facts [] lows ms ns l capacity few = tt
+counts-grown n before after same facts (r ∷ rs) lows ms [] l capacity few = tt
+counts-grown n before after same facts (r ∷ rs) lows [] (x ∷ ns) l capacity few = absurd capacity
+counts-grown n before after same facts (r ∷ rs) [] (m ∷ ms) (x ∷ ns) l capacity few = absurd (omega (arith, l))
+counts-grown n before after same facts (r ∷ rs) (low ∷ lows) (m ∷ ms) (x ∷ ns) l capacity few = (
   λ k.
-      let frozen : frozen_count x k ≡ frozen_count m k = ap (λ (a : CellParts). a.frozen.count) (room.0.parts k) in
+      let frozen : frozen_count x k ≡ frozen_count m k = ap (λ (a : CellParts). a.frozen.count) (capacity.0.parts k) in
       let live : live_count r k after ≡ live_count r k before = ap (λ fs. length (filter (is_in_cell r k) fs)) same in
       let all = few.0 k in
       omega (arith, frozen, live, all),
-  counts-grown n before after same facts rs lows ms ns (omega (arith, l)) room.1 few.1,
+  counts-grown n before after same facts rs lows ms ns (omega (arith, l)) capacity.1 few.1,
 )
 
 -- nothing is there yet

@@ -18,7 +18,7 @@ use Rattle.ts_core.proofs.plans.PieceCells.{same_cell-eq}
 use Rattle.ts_core.proofs.moves.StepStands.{keys_column}
 use Rattle.ts_core.proofs.moves.MovesStand.{key_there, key_not}
 use Rattle.ts_store.specs.write.LinesPut.{OfEachRule, IsOfFacts, PutsCells, GainsCells}
-use Rattle.ts_store.specs.store.CellIndices.{IsIndex, HaveIndices}
+use Rattle.ts_store.specs.store.CellIndices.{IsBucketIndex, HaveIndices}
 
 pub indices_new : (rs : List Rule) → HaveIndices rs (map (λ (r : Rule). finmap.empty) rs)
 indices_new [] = tt
@@ -57,7 +57,7 @@ pub taken_valid : (mark : ℤ) (facts : List Fact) → AllByRecursion (MayBeTake
 taken_valid mark [] all f a = absurd a
 taken_valid mark (g ∷ gs) all f a = ⊎_elim {C = IsTime f.time} (λ e. subst (λ (x : Fact). IsTime x.time) (sym e) all.0.valid) (λ b. taken_valid mark gs all.1 f b) a
 
-of_fact : (r : Rule) (k : Cell) (facts : List Fact) → ((f : Fact) → Among f facts → IsTime f.time) → IsOfFacts facts r k → IsIndex r k.index
+of_fact : (r : Rule) (k : Cell) (facts : List Fact) → ((f : Fact) → Among f facts → IsTime f.time) → IsOfFacts facts r k → IsBucketIndex r k.index
 of_fact r k facts valid o =
     let t = and_parts (is_rolled r o.0) (same_cell (cell_of r o.0) k) o.2 in
     (o.0.time, valid o.0 o.1, ap (λ (x : Cell). x.index) (same_cell-eq (cell_of r o.0) k t.1))
@@ -72,7 +72,7 @@ indices_gained facts valid (r ∷ rs) (low ∷ lows) (m ∷ ms) (n ∷ ns) l e h
     let same : length ns ≡ length ms = (let x = e.0 in omega (arith, x)) in (
       λ k a.
           let s = some_there n k a in
-          elim (finmap.get m k) as (λ o. finmap.get m k ≡ o → IsIndex r k.index) [
+          elim (finmap.get m k) as (λ o. finmap.get m k ≡ o → IsBucketIndex r k.index) [
             | None ↦ λ z. of_fact r k facts valid (g.created k s.0 z s.1).2
             | Some p ↦ λ z. h.0 k (key_of m k p z)
           ] refl,
@@ -87,6 +87,6 @@ indices_put facts valid (r ∷ rs) [] (m ∷ ms) (n ∷ ns) l e h = absurd (omeg
 indices_put facts valid (r ∷ rs) (low ∷ lows) (m ∷ ms) (n ∷ ns) l e h =
     let g : PutsCells facts r low m n = e.1 0 r low m n refl refl refl refl in
     let same : length ns ≡ length ms = (let x = e.0 in omega (arith, x)) in (
-      λ k a. ⊎_elim {C = IsIndex r k.index} (λ b. h.0 k (key_there m k b)) (λ b. of_fact r k facts valid b.1) ((g.there k).0 (key_not n k a)),
+      λ k a. ⊎_elim {C = IsBucketIndex r k.index} (λ b. h.0 k (key_there m k b)) (λ b. of_fact r k facts valid b.1) ((g.there k).0 (key_not n k a)),
       indices_put facts valid rs lows ms ns (omega (arith, l)) (same, λ i. e.1 (suc i)) h.1,
     )

@@ -16,7 +16,7 @@ use Rattle.ts_core.specs.store.Marks.{index_of, low_of}
 use Rattle.ts_core.specs.store.Cells.{cell_of}
 use Rattle.ts_core.specs.store.StoreStates.{ColumnPoints, RuleCells, column_of, facts_of}
 use Rattle.ts_core.specs.store.StoreData.{CellMap, StoreData, rule_cells, rules_of, new_data}
-use Rattle.ts_core.specs.moves.StoreMoves.{PutsFacts, HaveRoom, Expired, put_cells, points_below, kept_points, all_moved, column_moved, raised, run_begun, with_cells, run_ended, grown, put_facts}
+use Rattle.ts_core.specs.moves.StoreMoves.{PutsFacts, GainEmptyCells, Expired, put_cells, points_below, kept_points, all_moved, column_moved, raised, run_begun, with_cells, run_ended, grown, put_facts}
 use Rattle.ts_core.proofs.settings.SettingsLaws.{settings_wide, settings_are}
 use Rattle.ts_core.proofs.aggregates.BucketsOrder.{bucket_le}
 use Rattle.ts_core.proofs.store.StateLemmas.{le_trans, int_max-left, int_max-right}
@@ -27,7 +27,7 @@ use Rattle.ts_core.proofs.store.Moves.{is_left}
 use Rattle.ts_core.proofs.store.RunSteps.{facts_of-left, columns_of-left}
 use Rattle.ts_core.proofs.moves.StepStands.{keys_column}
 use Rattle.ts_core.proofs.moves.MovesStand.{key_there, key_not, put_cell-keys}
-use Rattle.ts_line.specs.Names.{IsKey, IsNamed}
+use Rattle.ts_line.specs.Names.{IsKey, IsStatable}
 use Rattle.ts_store.specs.store.SizedStores.{IsSizedRule, IsSized}
 use Rattle.ts_store.proofs.store.CountsKept.{facts-put}
 use Rattle.ts_store.proofs.retain.RollupMoves.{moved-length}
@@ -39,13 +39,13 @@ raised-length now [] lows e = e
 raised-length now (r ∷ rs) [] e = e
 raised-length now (r ∷ rs) (low ∷ lows) e = let rest = raised-length now rs lows (omega (arith, e)) in omega (arith, rest)
 
-room-length : (rs : List Rule) (lows : List ℤ) (facts : List Fact) (ms ns : List CellMap) → length lows ≡ length rs → length ms ≡ length rs → HaveRoom rs lows facts ms ns → length ns ≡ length rs
-room-length rs lows facts [] [] l e room = e
-room-length rs lows facts [] (n ∷ ns) l e room = absurd room
-room-length rs lows facts (m ∷ ms) [] l e room = absurd room
-room-length [] lows facts (m ∷ ms) (n ∷ ns) l e room = absurd (omega (arith, e))
-room-length (r ∷ rs) [] facts (m ∷ ms) (n ∷ ns) l e room = absurd (omega (arith, l))
-room-length (r ∷ rs) (low ∷ lows) facts (m ∷ ms) (n ∷ ns) l e room = let rest = room-length rs lows facts ms ns (omega (arith, l)) (omega (arith, e)) room.1 in omega (arith, rest)
+capacity-length : (rs : List Rule) (lows : List ℤ) (facts : List Fact) (ms ns : List CellMap) → length lows ≡ length rs → length ms ≡ length rs → GainEmptyCells rs lows facts ms ns → length ns ≡ length rs
+capacity-length rs lows facts [] [] l e capacity = e
+capacity-length rs lows facts [] (n ∷ ns) l e capacity = absurd capacity
+capacity-length rs lows facts (m ∷ ms) [] l e capacity = absurd capacity
+capacity-length [] lows facts (m ∷ ms) (n ∷ ns) l e capacity = absurd (omega (arith, e))
+capacity-length (r ∷ rs) [] facts (m ∷ ms) (n ∷ ns) l e capacity = absurd (omega (arith, l))
+capacity-length (r ∷ rs) (low ∷ lows) facts (m ∷ ms) (n ∷ ns) l e capacity = let rest = capacity-length rs lows facts ms ns (omega (arith, l)) (omega (arith, e)) capacity.1 in omega (arith, rest)
 
 expired-length : (lows : List ℤ) (ms ns : List CellMap) → length lows ≡ length ms → Expired lows ms ns → length ns ≡ length ms
 expired-length lows [] [] l e = refl
@@ -166,30 +166,30 @@ rules_gone mark facts (r ∷ rs) (low ∷ lows) (m ∷ ms) (n ∷ ns) e s = (
 )
 
 -- room is made
-rules_grown : (mark : ℤ) (made facts : List Fact) (rs : List Rule) (lows : List ℤ) (ms ns : List CellMap) → HaveRoom rs lows made ms ns → AreSizedRules mark facts rs lows ms → AreSizedRules mark facts rs lows ns
-rules_grown mark made facts [] lows ms ns room s = tt
-rules_grown mark made facts (r ∷ rs) [] ms ns room s = tt
-rules_grown mark made facts (r ∷ rs) (low ∷ lows) ms [] room s = tt
-rules_grown mark made facts (r ∷ rs) (low ∷ lows) [] (n ∷ ns) room s = absurd room
-rules_grown mark made facts (r ∷ rs) (low ∷ lows) (m ∷ ms) (n ∷ ns) room s = (
-  record { least = s.0.least; most = s.0.most; there = λ f a t l. key_there n (cell_of r f) (λ z. key_not m (cell_of r f) (s.0.there f a t l) (room.0.stays (cell_of r f) z)) },
-  rules_grown mark made facts rs lows ms ns room.1 s.1,
+rules_grown : (mark : ℤ) (made facts : List Fact) (rs : List Rule) (lows : List ℤ) (ms ns : List CellMap) → GainEmptyCells rs lows made ms ns → AreSizedRules mark facts rs lows ms → AreSizedRules mark facts rs lows ns
+rules_grown mark made facts [] lows ms ns capacity s = tt
+rules_grown mark made facts (r ∷ rs) [] ms ns capacity s = tt
+rules_grown mark made facts (r ∷ rs) (low ∷ lows) ms [] capacity s = tt
+rules_grown mark made facts (r ∷ rs) (low ∷ lows) [] (n ∷ ns) capacity s = absurd capacity
+rules_grown mark made facts (r ∷ rs) (low ∷ lows) (m ∷ ms) (n ∷ ns) capacity s = (
+  record { least = s.0.least; most = s.0.most; there = λ f a t l. key_there n (cell_of r f) (λ z. key_not m (cell_of r f) (s.0.there f a t l) (capacity.0.stays (cell_of r f) z)) },
+  rules_grown mark made facts rs lows ms ns capacity.1 s.1,
 )
 
 -- for these facts too
-rules_roomy : (mark : ℤ) (made facts : List Fact) (rs : List Rule) (lows : List ℤ) (ms ns : List CellMap) → HaveRoom rs lows made ms ns → AreSizedRules mark facts rs lows ns → AreSizedRules mark (made ++ facts) rs lows ns
-rules_roomy mark made facts [] lows ms ns room s = tt
-rules_roomy mark made facts (r ∷ rs) [] ms ns room s = tt
-rules_roomy mark made facts (r ∷ rs) (low ∷ lows) ms [] room s = tt
-rules_roomy mark made facts (r ∷ rs) (low ∷ lows) [] (n ∷ ns) room s = absurd room
-rules_roomy mark made facts (r ∷ rs) (low ∷ lows) (m ∷ ms) (n ∷ ns) room s = (
+rules_roomy : (mark : ℤ) (made facts : List Fact) (rs : List Rule) (lows : List ℤ) (ms ns : List CellMap) → GainEmptyCells rs lows made ms ns → AreSizedRules mark facts rs lows ns → AreSizedRules mark (made ++ facts) rs lows ns
+rules_roomy mark made facts [] lows ms ns capacity s = tt
+rules_roomy mark made facts (r ∷ rs) [] ms ns capacity s = tt
+rules_roomy mark made facts (r ∷ rs) (low ∷ lows) ms [] capacity s = tt
+rules_roomy mark made facts (r ∷ rs) (low ∷ lows) [] (n ∷ ns) capacity s = absurd capacity
+rules_roomy mark made facts (r ∷ rs) (low ∷ lows) (m ∷ ms) (n ∷ ns) capacity s = (
   record {
     least = s.0.least;
     most = s.0.most;
     there = λ f a t l.
-        ⊎_elim {C = Among (cell_of r f) (finmap.keys n)} (λ b. key_there n (cell_of r f) (room.0.there f b t l)) (λ b. s.0.there f b t l) (Among-append f made facts a);
+        ⊎_elim {C = Among (cell_of r f) (finmap.keys n)} (λ b. key_there n (cell_of r f) (capacity.0.there f b t l)) (λ b. s.0.there f b t l) (Among-append f made facts a);
   },
-  rules_roomy mark made facts rs lows ms ns room.1 s.1,
+  rules_roomy mark made facts rs lows ms ns capacity.1 s.1,
 )
 
 -- a fact is put
@@ -302,8 +302,8 @@ sized_ended k s = record {
 }
 
 pub sized_grown : (k : StoreData) (series : List Series) (columns : List ColumnPoints) (ms : List CellMap) (facts : List Fact) → length series ≤ 1000000 → AllDistinct (map column_of columns) → ((c : Column) → Among c (map column_of columns) → Among c.series series)
-    → ((x : Series) → Among x series → IsNamed x) → ((c : Column) → Among c (map column_of columns) → IsKey c.field) → facts_of columns ≡ facts_of k.columns → HaveRoom k.settings.rules k.marks.lows facts k.cells ms → IsSized k → IsSized (grown series columns ms k)
-sized_grown k series columns ms facts few distinct registered named keys same room s = record {
+    → ((x : Series) → Among x series → IsStatable x) → ((c : Column) → Among c (map column_of columns) → IsKey c.field) → facts_of columns ≡ facts_of k.columns → GainEmptyCells k.settings.rules k.marks.lows facts k.cells ms → IsSized k → IsSized (grown series columns ms k)
+sized_grown k series columns ms facts few distinct registered named keys same capacity s = record {
   settings = s.settings;
   accepted = s.accepted;
   facts = subst (λ (fs : List Fact). length fs ≤ k.accepted) (sym same) s.facts;
@@ -314,14 +314,14 @@ sized_grown k series columns ms facts few distinct registered named keys same ro
   keys = keys;
   once = subst AllDistinct (sym same) s.once;
   lows = s.lows;
-  cells = room-length k.settings.rules k.marks.lows facts k.cells ms s.lows s.cells room;
-  rules = subst (λ (fs : List Fact). AreSizedRules k.marks.raw fs k.settings.rules k.marks.lows ms) (sym same) (rules_grown k.marks.raw facts (facts_of k.columns) k.settings.rules k.marks.lows k.cells ms room s.rules);
+  cells = capacity-length k.settings.rules k.marks.lows facts k.cells ms s.lows s.cells capacity;
+  rules = subst (λ (fs : List Fact). AreSizedRules k.marks.raw fs k.settings.rules k.marks.lows ms) (sym same) (rules_grown k.marks.raw facts (facts_of k.columns) k.settings.rules k.marks.lows k.cells ms capacity s.rules);
 }
 
 -- facts are put where there is room for them: this was made in other cells
-pub sized_put : (k : StoreData) (columns : List ColumnPoints) (facts : List Fact) (ms ns : List CellMap) → HaveRoom k.settings.rules k.marks.lows facts ms k.cells → PutsFacts k.settings.rules k.columns k.cells columns ns facts
+pub sized_put : (k : StoreData) (columns : List ColumnPoints) (facts : List Fact) (ms ns : List CellMap) → GainEmptyCells k.settings.rules k.marks.lows facts ms k.cells → PutsFacts k.settings.rules k.columns k.cells columns ns facts
     → k.accepted + length facts ≤ 2 ^ 62 → IsSized k → IsSized (put_facts columns ns (length facts) k)
-sized_put k columns facts ms ns room put few s =
+sized_put k columns facts ms ns capacity put few s =
     let rs : List Rule = k.settings.rules in
     let lows : List ℤ = k.marks.lows in
     let names : map column_of columns ≡ map column_of k.columns = puts_names rs k.columns k.cells columns ns facts put in
@@ -338,5 +338,5 @@ sized_put k columns facts ms ns room put few s =
       lows = s.lows;
       cells = puts-length rs k.columns k.cells columns ns facts put ∙ s.cells;
       rules = rules_fewer k.marks.raw (facts ++ facts_of k.columns) (facts_of columns) (puts-only rs k.columns k.cells columns ns facts put) rs lows ns
-          (rules_puts k.marks.raw (facts ++ facts_of k.columns) rs lows k.columns k.cells columns ns facts put (rules_roomy k.marks.raw facts (facts_of k.columns) rs lows ms k.cells room s.rules));
+          (rules_puts k.marks.raw (facts ++ facts_of k.columns) rs lows k.columns k.cells columns ns facts put (rules_roomy k.marks.raw facts (facts_of k.columns) rs lows ms k.cells capacity s.rules));
     }

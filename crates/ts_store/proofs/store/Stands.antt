@@ -17,7 +17,7 @@ use Rattle.ts_core.specs.store.Marks.{Marks, marks_of}
 use Rattle.ts_core.specs.store.RawFacts.{same_column, raw_facts, is_waiting, kept_from}
 use Rattle.ts_core.specs.store.StoreStates.{ColumnPoints, StandsFor, column_of, fact_at, facts_at, facts_of}
 use Rattle.ts_core.specs.store.StoreData.{CellMap, StoreData, state_of, new_data, AreLive}
-use Rattle.ts_core.specs.moves.StoreMoves.{PutsFacts, HaveRoom, grown, put_facts}
+use Rattle.ts_core.specs.moves.StoreMoves.{PutsFacts, GainEmptyCells, grown, put_facts}
 use Rattle.ts_core.proofs.moves.LivesKept.{no_live, lives_line}
 use Rattle.ts_core.proofs.lists.MembersLemmas.{Among-left, Among-right, Among-map, Among-filter_passes, Among-filter_was, Among-filter_stays, AllDistinct-filter}
 use Rattle.ts_core.proofs.aggregates.Folds.{length-same}
@@ -32,7 +32,7 @@ use Rattle.ts_core.proofs.moves.LineStands.{length_before, line_put}
 use Rattle.ts_core.proofs.moves.LeftOnData.{left-grows, left-puts}
 use Rattle.ts_core.specs.moves.Runs.{steps_left}
 use Rattle.ts_core.specs.settings.SettingsFaults.{unless, settings_fault}
-use Rattle.ts_line.specs.Names.{AreKeys, IsNamed}
+use Rattle.ts_line.specs.Names.{AreKeys, IsStatable}
 use Rattle.ts_line.specs.Parts.{LinePart, Parts, series_of, fact_of, field_text, line_facts}
 use Rattle.ts_core.specs.lists.Numbered.{IsAt}
 use Rattle.ts_core.proofs.lists.NumberedLemmas.{at_among}
@@ -51,7 +51,7 @@ use Rattle.ts_store.specs.write.LinesInColumns.{PutsLine, GrowsForLine}
 use Rattle.ts_store.specs.write.LivePuts.{StayLive}
 use Rattle.ts_store.specs.write.LinesPut.{Accepts, Leaves}
 use Rattle.ts_store.proofs.retain.WaitingColumns.{NamesMore, within_more, waiting_more}
-use Rattle.ts_store.proofs.write.ColumnsAside.{names_with, same_facts}
+use Rattle.ts_store.proofs.write.StagedColumns.{names_with, same_facts}
 use Rattle.ts_store.proofs.store.ColumnsLemmas.{in_column}
 use Rattle.ts_store.proofs.store.CountsKept.{counts-put, counts-grown, counts-new}
 use Rattle.ts_store.proofs.store.SizesKept.{puts_names, sized_new, sized_grown, sized_put}
@@ -140,13 +140,13 @@ sized_waits settings marks n run before after series columns ms s = record {
 
 -- a store that has only grown
 grown_stands : (opening : Settings) (h : History) (settings : Settings) (marks : Marks) (n : ℕ) (before : StoreContent) (run : Option Run) (made : List Column) (facts : List Fact) (series : List Series) (columns : List ColumnPoints) (ms : List CellMap)
-    → columns ≡ with_columns before.columns made → AllDistinct (map column_of columns) → ((c : Column) → Among c (map column_of columns) → Among c.series series) → HaveRoom settings.rules marks.lows facts (cells_of before.rollups) ms → IsWithin run before.columns
+    → columns ≡ with_columns before.columns made → AllDistinct (map column_of columns) → ((c : Column) → Among c (map column_of columns) → Among c.series series) → GainEmptyCells settings.rules marks.lows facts (cells_of before.rollups) ms → IsWithin run before.columns
     → StandsFor opening h (state_of (data_of_parts settings marks n before run)) → StandsFor opening h (state_of (data_of settings marks n run series columns ms))
-grown_stands opening h settings marks n before run made facts series columns ms e once registered room within st =
+grown_stands opening h settings marks n before run made facts series columns ms e once registered capacity within st =
     let more : NamesMore before.columns columns made = ap (map column_of) e ∙ names_with before.columns made in
     subst (λ ws. StandsFor opening h (state_of (waits settings marks n run ws series columns ms))) (sym (waiting_more run before.columns columns made more within))
     (grows opening h (data_of_parts settings marks n before run) series columns ms facts st once
-    (λ c a. subst (λ (cs : List ColumnPoints). Among c (map column_of cs)) (sym e) (names_stay before.columns made c a)) registered (ap facts_of e ∙ same_facts before.columns made) room)
+    (λ c a. subst (λ (cs : List ColumnPoints). Among c (map column_of cs)) (sym e) (names_stay before.columns made c a)) registered (ap facts_of e ∙ same_facts before.columns made) capacity)
 
 -- after out of memory
 pub left_by : (settings : Settings) (marks : Marks) (n : ℕ) (before after : StoreContent) (run : Option Run) (p : Parts) → IsSoundStore (data_of_parts settings marks n before run) before run → GrowsForLine settings.rules marks.lows before after p
@@ -157,16 +157,16 @@ left_by settings marks n before after run p kept g =
     let others : data_of_parts settings marks n after run ≡ grown after.series after.columns (cells_of after.rollups) old =
     ap (λ ws. waits settings marks n run ws after.series after.columns (cells_of after.rollups)) (waiting_more run before.columns after.columns g.columns.made more kept.few) in
     record {
-      history = λ opening h st. grown_stands opening h settings marks n before run g.columns.made [] after.series after.columns (cells_of after.rollups) g.columns.columns g.known.once g.known.registered g.rooms kept.few st;
+      history = λ opening h st. grown_stands opening h settings marks n before run g.columns.made [] after.series after.columns (cells_of after.rollups) g.columns.columns g.known.once g.known.registered g.has_cells kept.few st;
       series = g.series;
       columns = g.columns;
       cells = g.cells;
       others = others;
-      left = ap (λ (k : StoreData). steps_left (state_of k)) others ∙ left-grows old after.series after.columns (cells_of after.rollups) [] g.rooms;
+      left = ap (λ (k : StoreData). steps_left (state_of k)) others ∙ left-grows old after.series after.columns (cells_of after.rollups) [] g.has_cells;
     }
 
 -- the store is as it was between two calls
-pub kept_left : (settings : Settings) (marks : Marks) (n : ℕ) (before after : StoreContent) (run : Option Run) (p : Parts) → IsSoundStore (data_of_parts settings marks n before run) before run → is_too_many before.series (series_of p) ≡ false → IsNamed (series_of p) → AreKeys (map field_text p.fields) → GrowsForLine settings.rules marks.lows before after p
+pub kept_left : (settings : Settings) (marks : Marks) (n : ℕ) (before after : StoreContent) (run : Option Run) (p : Parts) → IsSoundStore (data_of_parts settings marks n before run) before run → is_too_many before.series (series_of p) ≡ false → IsStatable (series_of p) → AreKeys (map field_text p.fields) → GrowsForLine settings.rules marks.lows before after p
     → IsSoundStore (data_of_parts settings marks n after run) after run
 kept_left settings marks n before after run p kept registers named keys g =
     let made : List Column = g.columns.made in
@@ -175,13 +175,13 @@ kept_left settings marks n before after run p kept registers named keys g =
     record {
       rollups = g.rollups;
       few = within_more run before.columns after.columns made (ap (map column_of) g.columns.columns ∙ names_with before.columns made) kept.few;
-      counts = counts-grown n before.columns after.columns same [] settings.rules marks.lows (cells_of before.rollups) (cells_of after.rollups) kept.sized.lows g.rooms kept.counts;
-      live = lives_grown marks.raw before.columns after.columns same settings.rules marks.lows [] (cells_of before.rollups) (cells_of after.rollups) kept.sized.lows g.rooms kept.sized.rules kept.live;
+      counts = counts-grown n before.columns after.columns same [] settings.rules marks.lows (cells_of before.rollups) (cells_of after.rollups) kept.sized.lows g.has_cells kept.counts;
+      live = lives_grown marks.raw before.columns after.columns same settings.rules marks.lows [] (cells_of before.rollups) (cells_of after.rollups) kept.sized.lows g.has_cells kept.sized.rules kept.live;
       indices = ⊎_elim {C = HaveIndices settings.rules (cells_of after.rollups)} (λ e. subst (HaveIndices settings.rules) (sym e) kept.indices)
           (λ taken. indices_gained (line_facts p) (taken_valid least_time (line_facts p) taken) settings.rules marks.lows (cells_of before.rollups) (cells_of after.rollups) kept.sized.lows g.cells kept.indices) g.taken;
       sized = sized_waits settings marks n run (waiting_in run before.columns) (waiting_in run after.columns) after.series after.columns (cells_of after.rollups)
           (sized_grown k after.series after.columns (cells_of after.rollups) [] (may_gain_few before.series after.series (series_of p) kept.sized.series registers g.series) g.known.once g.known.registered
-          (may_gain_named before.series after.series (series_of p) named g.series kept.sized.named) (first_keys p before.columns after.columns keys g.columns kept.sized.keys) same g.rooms kept.sized);
+          (may_gain_named before.series after.series (series_of p) named g.series kept.sized.named) (first_keys p before.columns after.columns keys g.columns kept.sized.keys) same g.has_cells kept.sized);
     }
 
 -- ---- a line
@@ -219,15 +219,15 @@ write_stands opening h settings marks n before after run p put taken few within 
     let fs : List Fact = line_facts p in
     let made : List Column = new_columns (map column_of before.columns) fs in
     let columns : List ColumnPoints = with_columns before.columns made in
-    let names : map column_of after.columns ≡ map column_of columns = puts_names settings.rules columns put.roomy after.columns (cells_of after.rollups) fs put.facts in
-    let room : StandsFor opening h (state_of (data_of settings marks n run after.series columns put.roomy)) =
-    grown_stands opening h settings marks n before run made fs after.series columns put.roomy refl (subst AllDistinct names put.known.once) (λ c a. put.known.registered c (subst (Among c) (sym names) a)) put.rooms within st in
+    let names : map column_of after.columns ≡ map column_of columns = puts_names settings.rules columns put.cells_between after.columns (cells_of after.rollups) fs put.facts in
+    let capacity : StandsFor opening h (state_of (data_of settings marks n run after.series columns put.cells_between)) =
+    grown_stands opening h settings marks n before run made fs after.series columns put.cells_between refl (subst AllDistinct names put.known.once) (λ c a. put.known.registered c (subst (Among c) (sym names) a)) put.has_cells within st in
     let mark : marks.raw ≡ raw_mark opening h = ap (λ (m : Marks). m.raw) st.marks in
     let more = length_before fs (accepted h) in
     let none : NamesMore columns after.columns [] = names ∙ sym (append-nil (map column_of columns)) in
     subst (λ ws. StandsFor opening (Line fs ∷ h) (state_of (waits settings marks (n + length fs) run ws after.series after.columns (cells_of after.rollups))))
     (sym (waiting_more run columns after.columns [] none (within_more run before.columns columns made (names_with before.columns made) within)))
-    (line_put opening h (data_of settings marks n run after.series columns put.roomy) after.columns fs (cells_of before.rollups) (cells_of after.rollups) room put.rooms
+    (line_put opening h (data_of settings marks n run after.series columns put.cells_between) after.columns fs (cells_of before.rollups) (cells_of after.rollups) capacity put.has_cells
     (λ f a. column_new before.columns fs f a) put.facts (st.lawful, subst (λ (m : ℤ). AllByRecursion (MayBeTaken m) fs) mark taken, omega (arith, st.accepted, more, few)))
 
 pub accepted_by : (settings : Settings) (marks : Marks) (n : ℕ) (before after : StoreContent) (run : Option Run) (p : Parts) → IsSoundStore (data_of_parts settings marks n before run) before run → PutsLine settings.rules marks.lows before after p
@@ -238,23 +238,23 @@ accepted_by settings marks n before after run p kept put taken few =
     let old : StoreData = data_of_parts settings marks n before run in
     let others : data_of_parts settings marks (n + length fs) after run ≡ put_facts after.columns (cells_of after.rollups) (length fs) (grown after.series after.columns (cells_of after.rollups) old) =
     ap (λ ws. waits settings marks (n + length fs) run ws after.series after.columns (cells_of after.rollups))
-    (waiting_more run before.columns after.columns made (line_names settings.rules before.columns put.roomy after.columns (cells_of after.rollups) fs put.facts) kept.few) in
-    let roomy : StoreData = grown after.series (with_columns before.columns made) put.roomy old in
+    (waiting_more run before.columns after.columns made (line_names settings.rules before.columns put.cells_between after.columns (cells_of after.rollups) fs put.facts) kept.few) in
+    let cells_between : StoreData = grown after.series (with_columns before.columns made) put.cells_between old in
     record {
       history = λ opening h st. write_stands opening h settings marks n before after run p put taken few kept.few st;
       series = put.series;
-      columns = puts_names settings.rules (with_columns before.columns made) put.roomy after.columns (cells_of after.rollups) fs put.facts;
+      columns = puts_names settings.rules (with_columns before.columns made) put.cells_between after.columns (cells_of after.rollups) fs put.facts;
       cells = put.cells;
       others = others;
-      left = ap (λ (k : StoreData). steps_left (state_of k)) others ∙ left-puts roomy after.columns fs (cells_of after.rollups) (length fs) put.facts ∙ left-grows old after.series (with_columns before.columns made) put.roomy fs put.rooms;
+      left = ap (λ (k : StoreData). steps_left (state_of k)) others ∙ left-puts cells_between after.columns fs (cells_of after.rollups) (length fs) put.facts ∙ left-grows old after.series (with_columns before.columns made) put.cells_between fs put.has_cells;
     }
 
 -- live parts stay those of the raw facts, when room is made
 pub stay_live : (settings : Settings) (marks : Marks) (n : ℕ) (before : StoreContent) (run : Option Run) → IsSoundStore (data_of_parts settings marks n before run) before run → StayLive settings.rules marks.lows before.columns (cells_of before.rollups)
-stay_live settings marks n before run kept = λ facts ms room. lives_grown marks.raw before.columns before.columns refl settings.rules marks.lows facts (cells_of before.rollups) ms kept.sized.lows room kept.sized.rules kept.live
+stay_live settings marks n before run kept = λ facts ms capacity. lives_grown marks.raw before.columns before.columns refl settings.rules marks.lows facts (cells_of before.rollups) ms kept.sized.lows capacity kept.sized.rules kept.live
 
 -- the store is again what it is between two calls
-pub kept_accepted : (settings : Settings) (marks : Marks) (n : ℕ) (before after : StoreContent) (run : Option Run) (p : Parts) → IsSoundStore (data_of_parts settings marks n before run) before run → is_too_many before.series (series_of p) ≡ false → IsNamed (series_of p) → AreKeys (map field_text p.fields) → PutsLine settings.rules marks.lows before after p
+pub kept_accepted : (settings : Settings) (marks : Marks) (n : ℕ) (before after : StoreContent) (run : Option Run) (p : Parts) → IsSoundStore (data_of_parts settings marks n before run) before run → is_too_many before.series (series_of p) ≡ false → IsStatable (series_of p) → AreKeys (map field_text p.fields) → PutsLine settings.rules marks.lows before after p
     → n + length (line_facts p) ≤ 2 ^ 62 → IsSoundStore (data_of_parts settings marks (n + length (line_facts p)) after run) after run
 kept_accepted settings marks n before after run p kept registers named keys put few =
     let fs : List Fact = line_facts p in
@@ -264,19 +264,19 @@ kept_accepted settings marks n before after run p kept registers named keys put 
     let ns : List CellMap = cells_of after.rollups in
     let k : StoreData = data_of_parts settings marks n before run in
     let same : facts_of columns ≡ facts_of before.columns = same_facts before.columns made in
-    let names : map column_of after.columns ≡ map column_of columns = puts_names settings.rules columns put.roomy after.columns ns fs put.facts in
-    let roomy : AreLive columns settings.rules put.roomy = lives_grown marks.raw before.columns columns same settings.rules marks.lows fs ms put.roomy kept.sized.lows put.rooms kept.sized.rules kept.live in
-    let sized : IsSized (grown after.series columns put.roomy k) =
-    sized_grown k after.series columns put.roomy fs (gains_few before.series after.series (series_of p) kept.sized.series registers put.series) (subst AllDistinct names put.known.once) (λ c a. put.known.registered c (subst (Among c) (sym names) a))
-    (gains_named before.series after.series (series_of p) named put.series kept.sized.named) (all_keys p before.columns keys kept.sized.keys) same put.rooms kept.sized in
+    let names : map column_of after.columns ≡ map column_of columns = puts_names settings.rules columns put.cells_between after.columns ns fs put.facts in
+    let cells_between : AreLive columns settings.rules put.cells_between = lives_grown marks.raw before.columns columns same settings.rules marks.lows fs ms put.cells_between kept.sized.lows put.has_cells kept.sized.rules kept.live in
+    let sized : IsSized (grown after.series columns put.cells_between k) =
+    sized_grown k after.series columns put.cells_between fs (gains_few before.series after.series (series_of p) kept.sized.series registers put.series) (subst AllDistinct names put.known.once) (λ c a. put.known.registered c (subst (Among c) (sym names) a))
+    (gains_named before.series after.series (series_of p) named put.series kept.sized.named) (all_keys p before.columns keys kept.sized.keys) same put.has_cells kept.sized in
     record {
       rollups = put.rollups;
-      few = within_more run before.columns after.columns made (line_names settings.rules before.columns put.roomy after.columns ns fs put.facts) kept.few;
-      counts = counts-put n settings.rules columns put.roomy after.columns ns fs put.facts (counts-grown n before.columns columns same fs settings.rules marks.lows ms put.roomy kept.sized.lows put.rooms kept.counts);
-      live = lives_line settings.rules fs columns after.columns put.roomy ns sized.once put.facts roomy;
+      few = within_more run before.columns after.columns made (line_names settings.rules before.columns put.cells_between after.columns ns fs put.facts) kept.few;
+      counts = counts-put n settings.rules columns put.cells_between after.columns ns fs put.facts (counts-grown n before.columns columns same fs settings.rules marks.lows ms put.cells_between kept.sized.lows put.has_cells kept.counts);
+      live = lives_line settings.rules fs columns after.columns put.cells_between ns sized.once put.facts cells_between;
       indices = indices_put fs (taken_valid least_time fs put.taken) settings.rules marks.lows ms ns kept.sized.lows put.cells kept.indices;
       sized = sized_waits settings marks (n + length fs) run (waiting_in run before.columns) (waiting_in run after.columns) after.series after.columns ns
-          (sized_put (grown after.series columns put.roomy k) after.columns fs ms ns put.rooms put.facts few sized);
+          (sized_put (grown after.series columns put.cells_between k) after.columns fs ms ns put.has_cells put.facts few sized);
     }
 
 -- ---- what is told

@@ -12,17 +12,17 @@ use Rattle.ts_core.specs.store.Cells.{Cell, cell_of, is_rolled, is_in_cell, same
 use Rattle.ts_core.specs.lists.Changes.{or_else}
 use Rattle.ts_core.specs.store.StoreStates.{ColumnPoints, CellParts, facts_of}
 use Rattle.ts_core.specs.store.StoreData.{CellMap, no_parts}
-use Rattle.ts_core.specs.moves.StoreMoves.{HasRoom, HaveRoom, put_cell, put_cells, PutsFacts}
+use Rattle.ts_core.specs.moves.StoreMoves.{GainsEmptyCells, GainEmptyCells, put_cell, put_cells, PutsFacts}
 use Rattle.ts_core.proofs.lists.Comparisons.{lt_not}
 use Rattle.ts_core.proofs.moves.Freezing.{frozen_in}
 use Rattle.ts_core.proofs.moves.MovesStand.{key_there, key_not, put_cell-keys, put_frozen, put_else}
 use Rattle.ts_core.proofs.plans.PieceCells.{same_cell-eq, same_cell-refl}
-use Rattle.ts_cells.specs.Grids.{no_lane, cell_at, cell_in}
-use Rattle.ts_cells.proofs.GridMoves.{get-roomy}
+use Rattle.ts_cells.specs.Grids.{no_rollup_series, cell_at, cell_in}
+use Rattle.ts_cells.proofs.GridMoves.{get-inserted_if_absent}
 use Rattle.ts_store.specs.write.LinesPut.{OfEachRule, IsOfFacts, PutsCells, GainsCells}
-use Rattle.ts_store.specs.rollup.Rollups.{RollupState, cells_of, lane_under, IsLaneOf, HaveLanes, AreRollups, with_frozen, roomed_in, lane_at}
-use Rattle.ts_store.specs.write.Rooms.{roomed_for, roomed_from, AreRoomedInPart}
-use Rattle.ts_store.proofs.write.RoomLemmas.{AreAt, lane_known}
+use Rattle.ts_store.specs.rollup.Rollups.{RollupState, cells_of, rollup_series_under, IsRollupSeriesOf, HaveRollupSeries, AreRollups, with_frozen, cell_created_in, rollup_series_at}
+use Rattle.ts_store.specs.write.CellsCreated.{cells_created_for, cells_created_from, AreCreatedInPart}
+use Rattle.ts_store.proofs.write.CellsCreatedLemmas.{AreAt, rollup_series_known}
 
 -- ---- of each rule
 
@@ -43,61 +43,61 @@ module _ (P : Rule → ℤ → CellMap → CellMap → Type 0) where
 
 -- the cell of one of the columns of these numbers, in a bucket
 abbrev IsCellAt : RollupState → ℤ → List ℕ → Cell → Type 0
-IsCellAt s index ns k = (n : ℕ) × Among n ns × (l : ℕ) × (lane_at s n ≡ Some l) × (k ≡ cell_in s.grid.lanes index l)
+IsCellAt s index ns k = (n : ℕ) × Among n ns × (l : ℕ) × (rollup_series_at s n ≡ Some l) × (k ≡ cell_in s.grid.series_list index l)
 
-one_kept : (s : RollupState) (o : Option ℕ) (index : ℤ) (k : Cell) (p : CellParts) → finmap.get s.grid.cells k ≡ Some p → finmap.get (roomed_in s o index) k ≡ Some p
+one_kept : (s : RollupState) (o : Option ℕ) (index : ℤ) (k : Cell) (p : CellParts) → finmap.get s.grid.cells k ≡ Some p → finmap.get (cell_created_in s o index) k ≡ Some p
 one_kept s None index k p e = e
 one_kept s (Some l) index k p e =
     let m : CellMap = s.grid.cells in
-    let c : Cell = cell_in s.grid.lanes index l in
-    get-roomy m c no_parts k
+    let c : Cell = cell_in s.grid.series_list index l in
+    get-inserted_if_absent m c no_parts k
     ∙ elim (same_cell k c) as (λ b. same_cell k c ≡ b → cond b (Some (or_else no_parts (finmap.get m c))) (finmap.get m k) ≡ Some p) [
       | true ↦ λ q. ap (λ o. Some (or_else no_parts o)) (ap (finmap.get m) (sym (same_cell-eq k c q)) ∙ e)
       | false ↦ λ q. e
     ] refl
 
-one_made : (s : RollupState) (o : Option ℕ) (index : ℤ) (k : Cell) (p : CellParts) → finmap.get s.grid.cells k ≡ None → finmap.get (roomed_in s o index) k ≡ Some p
-    → (p ≡ no_parts) × (l : ℕ) × (o ≡ Some l) × (k ≡ cell_in s.grid.lanes index l)
+one_made : (s : RollupState) (o : Option ℕ) (index : ℤ) (k : Cell) (p : CellParts) → finmap.get s.grid.cells k ≡ None → finmap.get (cell_created_in s o index) k ≡ Some p
+    → (p ≡ no_parts) × (l : ℕ) × (o ≡ Some l) × (k ≡ cell_in s.grid.series_list index l)
 one_made s None index k p none some = absurd (none-some p (sym none ∙ some))
 one_made s (Some l) index k p none some =
     let m : CellMap = s.grid.cells in
-    let c : Cell = cell_in s.grid.lanes index l in
-    elim (same_cell k c) as (λ b. same_cell k c ≡ b → cond b (Some (or_else no_parts (finmap.get m c))) (finmap.get m k) ≡ Some p → (p ≡ no_parts) × (j : ℕ) × (Some l ≡ Some j) × (k ≡ cell_in s.grid.lanes index j)) [
+    let c : Cell = cell_in s.grid.series_list index l in
+    elim (same_cell k c) as (λ b. same_cell k c ≡ b → cond b (Some (or_else no_parts (finmap.get m c))) (finmap.get m k) ≡ Some p → (p ≡ no_parts) × (j : ℕ) × (Some l ≡ Some j) × (k ≡ cell_in s.grid.series_list index j)) [
       | true ↦ λ q e.
           let is : k ≡ c = same_cell-eq k c q in
           (sym (same_Some no_parts p (sym (ap (λ o. Some (or_else no_parts o)) (ap (finmap.get m) (sym is) ∙ none)) ∙ e)), l, refl, is)
       | false ↦ λ q e. absurd (none-some p (sym none ∙ e))
-    ] refl (sym (get-roomy m c no_parts k) ∙ some)
+    ] refl (sym (get-inserted_if_absent m c no_parts k) ∙ some)
 
-all_kept : (index : ℤ) (ns : List ℕ) (s : RollupState) (k : Cell) (p : CellParts) → finmap.get s.grid.cells k ≡ Some p → finmap.get (roomed_for index ns s).grid.cells k ≡ Some p
+all_kept : (index : ℤ) (ns : List ℕ) (s : RollupState) (k : Cell) (p : CellParts) → finmap.get s.grid.cells k ≡ Some p → finmap.get (cells_created_for index ns s).grid.cells k ≡ Some p
 all_kept index [] s k p e = e
-all_kept index (n ∷ ns) s k p e = all_kept index ns (with_frozen (roomed_in s (lane_at s n) index) s) k p (one_kept s (lane_at s n) index k p e)
+all_kept index (n ∷ ns) s k p e = all_kept index ns (with_frozen (cell_created_in s (rollup_series_at s n) index) s) k p (one_kept s (rollup_series_at s n) index k p e)
 
-all_made : (index : ℤ) (ns : List ℕ) (s : RollupState) (k : Cell) (p : CellParts) → finmap.get s.grid.cells k ≡ None → finmap.get (roomed_for index ns s).grid.cells k ≡ Some p → (p ≡ no_parts) × IsCellAt s index ns k
+all_made : (index : ℤ) (ns : List ℕ) (s : RollupState) (k : Cell) (p : CellParts) → finmap.get s.grid.cells k ≡ None → finmap.get (cells_created_for index ns s).grid.cells k ≡ Some p → (p ≡ no_parts) × IsCellAt s index ns k
 all_made index [] s k p none some = absurd (none-some p (sym none ∙ some))
 all_made index (n ∷ ns) s k p none some =
-    let t : RollupState = with_frozen (roomed_in s (lane_at s n) index) s in
+    let t : RollupState = with_frozen (cell_created_in s (rollup_series_at s n) index) s in
     elim (finmap.get t.grid.cells k) as (λ o. finmap.get t.grid.cells k ≡ o → (p ≡ no_parts) × IsCellAt s index (n ∷ ns) k) [
       | None ↦ λ e. let later = all_made index ns t k p e some in (later.0, (later.1.0, inr later.1.1, later.1.2, later.1.3, later.1.4))
       | Some x ↦ λ e.
-          let now = one_made s (lane_at s n) index k x none e in
+          let now = one_made s (rollup_series_at s n) index k x none e in
           let same : p ≡ x = same_Some p x (sym some ∙ all_kept index ns t k x e) in
           (same ∙ now.0, (n, inl refl, now.1, now.2, now.3))
     ] refl
 
 -- ---- the cell of a column is that of its fact
 
-cell_in_part : (r : Rule) (cs : List Column) (time : ℤ) (ns : List ℕ) (fs : List Fact) (s : RollupState) → HaveLanes r s.grid.lanes cs s.lanes → AreAt cs time ns fs
-    → (n : ℕ) → Among n ns → (l : ℕ) → lane_at s n ≡ Some l → IsOfFacts fs r (cell_in s.grid.lanes (index_of r time) l)
+cell_in_part : (r : Rule) (cs : List Column) (time : ℤ) (ns : List ℕ) (fs : List Fact) (s : RollupState) → HaveRollupSeries r s.grid.series_list cs s.series_list → AreAt cs time ns fs
+    → (n : ℕ) → Among n ns → (l : ℕ) → rollup_series_at s n ≡ Some l → IsOfFacts fs r (cell_in s.grid.series_list (index_of r time) l)
 cell_in_part r cs time [] fs s h a n k l at = absurd k
 cell_in_part r cs time (x ∷ ns) [] s h a n k l at = absurd a
 cell_in_part r cs time (x ∷ ns) (f ∷ fs) s h a n k l at =
-    ⊎_elim {C = IsOfFacts (f ∷ fs) r (cell_in s.grid.lanes (index_of r time) l)}
+    ⊎_elim {C = IsOfFacts (f ∷ fs) r (cell_in s.grid.series_list (index_of r time) l)}
     (λ e.
-    let lane : IsLaneOf r f.column s.grid.lanes (Some l) = subst (IsLaneOf r f.column s.grid.lanes) (ap (lane_at s) (sym e) ∙ at) (lane_known r s.grid.lanes cs s.lanes x f.column h a.0) in
-    let is : cell_of r f ≡ cell_in s.grid.lanes (index_of r time) l =
-    sym (ap (cell_at (index_of r f.time)) (get_or_from_slice_get s.grid.lanes l (lane_under r f.column) no_lane lane.1)) ∙ ap (λ (z : ℤ). cell_in s.grid.lanes (index_of r z) l) a.1 in
-    (f, inl refl, ap (λ b. b && same_cell (cell_of r f) (cell_in s.grid.lanes (index_of r time) l)) lane.0 ∙ ap (same_cell (cell_of r f)) (sym is) ∙ same_cell-refl (cell_of r f)))
+    let series : IsRollupSeriesOf r f.column s.grid.series_list (Some l) = subst (IsRollupSeriesOf r f.column s.grid.series_list) (ap (rollup_series_at s) (sym e) ∙ at) (rollup_series_known r s.grid.series_list cs s.series_list x f.column h a.0) in
+    let is : cell_of r f ≡ cell_in s.grid.series_list (index_of r time) l =
+    sym (ap (cell_at (index_of r f.time)) (get_or_from_slice_get s.grid.series_list l (rollup_series_under r f.column) no_rollup_series series.1)) ∙ ap (λ (z : ℤ). cell_in s.grid.series_list (index_of r z) l) a.1 in
+    (f, inl refl, ap (λ b. b && same_cell (cell_of r f) (cell_in s.grid.series_list (index_of r time) l)) series.0 ∙ ap (same_cell (cell_of r f)) (sym is) ∙ same_cell-refl (cell_of r f)))
     (λ q. let later = cell_in_part r cs time ns fs s h a.2 n q l at in (later.0, inr later.1, later.2)) k
 
 among_first : (i : ℕ) (ns : List ℕ) (n : ℕ) → Among n (take i ns) → Among n ns
@@ -108,23 +108,23 @@ among_first (suc i) (x ∷ ns) n a = ⊎_elim {C = Among n (x ∷ ns)} (λ e. in
 gains_nothing : (fs : List Fact) (r : Rule) (low : ℤ) (m : CellMap) → GainsCells fs r low m m
 gains_nothing fs r low m = record { stays = λ k p e. e; created = λ k p none some. absurd (none-some p (sym none ∙ some)) }
 
-part_gains : (r : Rule) (low : ℤ) (cs : List Column) (time : ℤ) (ns : List ℕ) (fs : List Fact) (s : RollupState) (i : ℕ) → HaveLanes r s.grid.lanes cs s.lanes → AreAt cs time ns fs
-    → GainsCells fs r low s.grid.cells (roomed_from low (index_of r time) (take i ns) s).grid.cells
+part_gains : (r : Rule) (low : ℤ) (cs : List Column) (time : ℤ) (ns : List ℕ) (fs : List Fact) (s : RollupState) (i : ℕ) → HaveRollupSeries r s.grid.series_list cs s.series_list → AreAt cs time ns fs
+    → GainsCells fs r low s.grid.cells (cells_created_from low (index_of r time) (take i ns) s).grid.cells
 part_gains r low cs time ns fs s i h a =
-    elim (int_lt (index_of r time) low) as (λ b. int_lt (index_of r time) low ≡ b → GainsCells fs r low s.grid.cells (cond b s (roomed_for (index_of r time) (take i ns) s)).grid.cells) [
+    elim (int_lt (index_of r time) low) as (λ b. int_lt (index_of r time) low ≡ b → GainsCells fs r low s.grid.cells (cond b s (cells_created_for (index_of r time) (take i ns) s)).grid.cells) [
       | true ↦ λ e. gains_nothing fs r low s.grid.cells
       | false ↦ λ e. record {
         stays = λ k p here. all_kept (index_of r time) (take i ns) s k p here;
         created = λ k p none some.
             let made = all_made (index_of r time) (take i ns) s k p none some in
             let at = made.1 in
-            let facts : IsOfFacts fs r (cell_in s.grid.lanes (index_of r time) at.2) = cell_in_part r cs time ns fs s h a at.0 (among_first i ns at.0 at.1) at.2 at.3 in
+            let facts : IsOfFacts fs r (cell_in s.grid.series_list (index_of r time) at.2) = cell_in_part r cs time ns fs s h a at.0 (among_first i ns at.0 at.1) at.2 at.3 in
             (made.0, subst (λ (q : Cell). low ≤ℤ q.index) (sym at.4) (lt_not (index_of r time) low e), subst (IsOfFacts fs r) (sym at.4) facts);
       }
     ] refl
 
 -- room for some of a line's cells creates no others
-pub parts_gain : (rs : List Rule) (lows : List ℤ) (cs : List Column) (time : ℤ) (ns : List ℕ) (fs : List Fact) (ss ts : List RollupState) → AreRollups rs cs ss → AreAt cs time ns fs → AreRoomedInPart rs lows time ns ss ts
+pub parts_gain : (rs : List Rule) (lows : List ℤ) (cs : List Column) (time : ℤ) (ns : List ℕ) (fs : List Fact) (ss ts : List RollupState) → AreRollups rs cs ss → AreAt cs time ns fs → AreCreatedInPart rs lows time ns ss ts
     → OfEachRule (GainsCells fs) rs lows (cells_of ss) (cells_of ts)
 parts_gain [] lows cs time ns fs ss ts h a part = subst (λ (us : List RollupState). OfEachRule (GainsCells fs) [] lows (cells_of ss) (cells_of us)) (sym part) (each_same (GainsCells fs) (gains_nothing fs) [] lows (cells_of ss))
 parts_gain (r ∷ rs) [] cs time ns fs ss ts h a part = subst (λ (us : List RollupState). OfEachRule (GainsCells fs) (r ∷ rs) [] (cells_of ss) (cells_of us)) (sym part) (each_same (GainsCells fs) (gains_nothing fs) (r ∷ rs) [] (cells_of ss))
@@ -184,16 +184,16 @@ line_keeps rs (f ∷ fs) before after ms ns p i r m n ar am an =
     keeps_then f fs r m (put_cell r f (facts_of p.0) m) n (put_keeps f (facts_of p.0) r m)
     (line_keeps rs fs p.0 after (put_cells rs f (facts_of p.0) ms) ns p.2 i r (put_cell r f (facts_of p.0) m) n ar (put_at rs f (facts_of p.0) ms i r m ar am) an)
 
-room_at : (rs : List Rule) (lows : List ℤ) (fs : List Fact) (ms ns : List CellMap) → HaveRoom rs lows fs ms ns → (i : ℕ) (r : Rule) (low : ℤ) (m n : CellMap) → IsAt rs i r → IsAt lows i low → IsAt ms i m → IsAt ns i n → HasRoom r low fs m n
-room_at rs lows fs [] ns room i r low m n ar al am an = absurd (none-some m am)
-room_at rs lows fs (x ∷ ms) [] room i r low m n ar al am an = absurd (none-some n an)
-room_at [] lows fs (x ∷ ms) (y ∷ ns) room i r low m n ar al am an = absurd (none-some r ar)
-room_at (q ∷ rs) [] fs (x ∷ ms) (y ∷ ns) room i r low m n ar al am an = absurd (none-some low al)
-room_at (q ∷ rs) (l ∷ lows) fs (x ∷ ms) (y ∷ ns) room zero r low m n ar al am an =
-    subst (HasRoom r low fs m) (same_Some y n an) (subst (λ (z : CellMap). HasRoom r low fs z y) (same_Some x m am) (subst (λ (z : ℤ). HasRoom r z fs x y) (same_Some l low al) (subst (λ (z : Rule). HasRoom z l fs x y) (same_Some q r ar) room.0)))
-room_at (q ∷ rs) (l ∷ lows) fs (x ∷ ms) (y ∷ ns) room (suc i) r low m n ar al am an = room_at rs lows fs ms ns room.1 i r low m n ar al am an
+room_at : (rs : List Rule) (lows : List ℤ) (fs : List Fact) (ms ns : List CellMap) → GainEmptyCells rs lows fs ms ns → (i : ℕ) (r : Rule) (low : ℤ) (m n : CellMap) → IsAt rs i r → IsAt lows i low → IsAt ms i m → IsAt ns i n → GainsEmptyCells r low fs m n
+room_at rs lows fs [] ns capacity i r low m n ar al am an = absurd (none-some m am)
+room_at rs lows fs (x ∷ ms) [] capacity i r low m n ar al am an = absurd (none-some n an)
+room_at [] lows fs (x ∷ ms) (y ∷ ns) capacity i r low m n ar al am an = absurd (none-some r ar)
+room_at (q ∷ rs) [] fs (x ∷ ms) (y ∷ ns) capacity i r low m n ar al am an = absurd (none-some low al)
+room_at (q ∷ rs) (l ∷ lows) fs (x ∷ ms) (y ∷ ns) capacity zero r low m n ar al am an =
+    subst (GainsEmptyCells r low fs m) (same_Some y n an) (subst (λ (z : CellMap). GainsEmptyCells r low fs z y) (same_Some x m am) (subst (λ (z : ℤ). GainsEmptyCells r z fs x y) (same_Some l low al) (subst (λ (z : Rule). GainsEmptyCells z l fs x y) (same_Some q r ar) capacity.0)))
+room_at (q ∷ rs) (l ∷ lows) fs (x ∷ ms) (y ∷ ns) capacity (suc i) r low m n ar al am an = room_at rs lows fs ms ns capacity.1 i r low m n ar al am an
 
-module _ (fs : List Fact) (r : Rule) (low : ℤ) (m o n : CellMap) (gains : GainsCells fs r low m o) (room : HasRoom r low fs m o) (keeps : KeepsKeys fs r o n) where
+module _ (fs : List Fact) (r : Rule) (low : ℤ) (m o n : CellMap) (gains : GainsCells fs r low m o) (capacity : GainsEmptyCells r low fs m o) (keeps : KeepsKeys fs r o n) where
   was_there : (k : Cell) → finmap.get n k ≢ None → finmap.get o k ≢ None
   was_there k some = key_not o k (subst (Among k) keeps.keys (key_there n k some))
 
@@ -221,7 +221,7 @@ module _ (fs : List Fact) (r : Rule) (low : ℤ) (m o n : CellMap) (gains : Gain
       elim (is_rolled r q.0) as (λ b. is_rolled r q.0 ≡ b → b && same_cell (cell_of r q.0) k ≡ true → finmap.get o k ≢ None) [
         | true ↦ λ rolled t.
             let is : cell_of r q.0 ≡ k = same_cell-eq (cell_of r q.0) k t in
-            λ none. room.there q.0 q.1 rolled (subst (λ (x : Cell). low ≤ℤ x.index) (sym is) above) (ap (finmap.get o) is ∙ none)
+            λ none. capacity.there q.0 q.1 rolled (subst (λ (x : Cell). low ≤ℤ x.index) (sym is) above) (ap (finmap.get o) is ∙ none)
         | false ↦ λ rolled t. absurd (true≢false (sym t))
       ] refl q.2
 
@@ -238,17 +238,17 @@ module _ (fs : List Fact) (r : Rule) (low : ℤ) (m o n : CellMap) (gains : Gain
   puts_cells : PutsCells fs r low m n
   puts_cells = record {
     there = λ k. (comes_from k, λ s. still_there k (⊎_elim {C = finmap.get o k ≢ None} (stays_there k) (λ q. cell_there k q.0 q.1) s));
-    frozen = λ k. keeps.frozen k ∙ ap (λ (p : CellParts). p.frozen) (room.parts k);
+    frozen = λ k. keeps.frozen k ∙ ap (λ (p : CellParts). p.frozen) (capacity.parts k);
     others = λ k apart. keeps.others k apart ∙ none_else k apart;
   }
 
 -- a line creates the missing cells of its facts, and puts the facts into cells
-pub line_cells : (rs : List Rule) (lows : List ℤ) (fs : List Fact) (before after : List ColumnPoints) (ms os ns : List CellMap) → OfEachRule (GainsCells fs) rs lows ms os → HaveRoom rs lows fs ms os → PutsFacts rs before os after ns fs
+pub line_cells : (rs : List Rule) (lows : List ℤ) (fs : List Fact) (before after : List ColumnPoints) (ms os ns : List CellMap) → OfEachRule (GainsCells fs) rs lows ms os → GainEmptyCells rs lows fs ms os → PutsFacts rs before os after ns fs
     → OfEachRule (PutsCells fs) rs lows ms ns
-line_cells rs lows fs before after ms os ns gains room puts = (
+line_cells rs lows fs before after ms os ns gains capacity puts = (
   line-length rs fs before after os ns puts ∙ gains.0,
   λ i r low m n ar al am an.
       let o : CellMap = get_or os i finmap.empty in
       let ao : IsAt os i o = slice_get-get_or os i finmap.empty (subst (λ (z : ℕ). i < z) (sym gains.0) (slice_get_within ms i m am)) in
-      puts_cells fs r low m o n (gains.1 i r low m o ar al am ao) (room_at rs lows fs ms os room i r low m o ar al am ao) (line_keeps rs fs before after os ns puts i r o n ar ao an),
+      puts_cells fs r low m o n (gains.1 i r low m o ar al am ao) (room_at rs lows fs ms os capacity i r low m o ar al am ao) (line_keeps rs fs before after os ns puts i r o n ar ao an),
 )

@@ -19,36 +19,36 @@ use Rattle.ts_core.proofs.store.Cuts.{one_fact}
 use Rattle.ts_core.proofs.aggregates.Folds.{fold-count}
 use Rattle.ts_core.proofs.lists.ListSteps.{length-filter}
 use Rattle.ts_core.proofs.moves.PutCells.{add_puts, correct_puts}
-use Rattle.ts_cells.specs.Grids.{no_lane, cell_at, cell_in}
+use Rattle.ts_cells.specs.Grids.{no_rollup_series, cell_at, cell_in}
 use Rattle.ts_raw.specs.Columns.{ColumnState}
 use Rattle.ts_store.specs.store.ColumnStates.{with_points, point_maps}
-use Rattle.ts_store.specs.rollup.LivePoints.{lane_total}
-use Rattle.ts_store.specs.write.LivePuts.{IsOver, WasThere, IsPut}
-use Rattle.ts_store.specs.rollup.Rollups.{RollupState, IsLaneOf, lane_under, lane_at, added_in, corrected_in, live_part}
+use Rattle.ts_store.specs.rollup.LivePoints.{rollup_series_total}
+use Rattle.ts_store.specs.write.LivePuts.{IsOver, WasThere, IsLivePut}
+use Rattle.ts_store.specs.rollup.Rollups.{RollupState, IsRollupSeriesOf, rollup_series_under, rollup_series_at, added_in, corrected_in, live_part}
 use Rattle.ts_store.proofs.rollup.LiveParts.{cell_total}
-use Rattle.ts_store.proofs.write.RoomLemmas.{lane_known}
+use Rattle.ts_store.proofs.write.CellsCreatedLemmas.{rollup_series_known}
 
 -- ---- the cell of a fact under a rule
 
-module _ (r : Rule) (cs : List Column) (states : List ColumnState) (before : List ColumnPoints) (s : RollupState) (column : ℕ) (f : Fact) (old : Option ℤ) (over : IsOver r cs states s) (put : IsPut cs states before column f old) (live : IsLive before r s.grid.cells) where
+module _ (r : Rule) (cs : List Column) (states : List ColumnState) (before : List ColumnPoints) (s : RollupState) (column : ℕ) (f : Fact) (old : Option ℤ) (over : IsOver r cs states s) (put : IsLivePut cs states before column f old) (live : IsLive before r s.grid.cells) where
   abbrev after : List ColumnPoints
   after = with_points cs (point_maps states)
 
-  lane_is : IsLaneOf r f.column s.grid.lanes (lane_at s column)
-  lane_is = lane_known r s.grid.lanes cs s.lanes column f.column over.lanes put.at
+  rollup_series_is : IsRollupSeriesOf r f.column s.grid.series_list (rollup_series_at s column)
+  rollup_series_is = rollup_series_known r s.grid.series_list cs s.series_list column f.column over.series_list put.at
 
   -- a rule that doesn't roll it up
-  pub put_passed : lane_at s column ≡ None → s.grid.cells ≡ put_cell r f (facts_of after) s.grid.cells
+  pub put_passed : rollup_series_at s column ≡ None → s.grid.cells ≡ put_cell r f (facts_of after) s.grid.cells
   put_passed e =
-      let passed : is_rolled r f ≡ false = subst (IsLaneOf r f.column s.grid.lanes) e lane_is in
+      let passed : is_rolled r f ≡ false = subst (IsRollupSeriesOf r f.column s.grid.series_list) e rollup_series_is in
       sym (ap (λ b. cond b (refolded r (cell_of r f) (facts_of after) s.grid.cells) s.grid.cells) passed)
 
-  module _ (l : ℕ) (at : lane_at s column ≡ Some l) (index : ℤ) (at_index : index ≡ index_of r f.time) where
-    is : IsLaneOf r f.column s.grid.lanes (Some l)
-    is = subst (IsLaneOf r f.column s.grid.lanes) at lane_is
+  module _ (l : ℕ) (at : rollup_series_at s column ≡ Some l) (index : ℤ) (at_index : index ≡ index_of r f.time) where
+    is : IsRollupSeriesOf r f.column s.grid.series_list (Some l)
+    is = subst (IsRollupSeriesOf r f.column s.grid.series_list) at rollup_series_is
 
-    key : cell_in s.grid.lanes index l ≡ cell_of r f
-    key = ap (λ i. cell_in s.grid.lanes i l) at_index ∙ ap (cell_at (index_of r f.time)) (get_or_from_slice_get s.grid.lanes l (lane_under r f.column) no_lane is.1)
+    key : cell_in s.grid.series_list index l ≡ cell_of r f
+    key = ap (λ i. cell_in s.grid.series_list i l) at_index ∙ ap (cell_at (index_of r f.time)) (get_or_from_slice_get s.grid.series_list l (rollup_series_under r f.column) no_rollup_series is.1)
 
     put_is : put_cell r f (facts_of after) s.grid.cells ≡ refolded r (cell_of r f) (facts_of after) s.grid.cells
     put_is = ap (λ b. cond b (refolded r (cell_of r f) (facts_of after) s.grid.cells) s.grid.cells) is.0
@@ -67,7 +67,7 @@ module _ (r : Rule) (cs : List Column) (states : List ColumnState) (before : Lis
         omega (arith, count, fewer, few))
 
     -- the cell is missing
-    pub put_missing : option_map live_part (finmap.get s.grid.cells (cell_in s.grid.lanes index l)) ≡ None → s.grid.cells ≡ put_cell r f (facts_of after) s.grid.cells
+    pub put_missing : option_map live_part (finmap.get s.grid.cells (cell_in s.grid.series_list index l)) ≡ None → s.grid.cells ≡ put_cell r f (facts_of after) s.grid.cells
     put_missing none =
         let gone : option_map live_part (finmap.get s.grid.cells (cell_of r f)) ≡ None = ap (λ k. option_map live_part (finmap.get s.grid.cells k)) (sym key) ∙ none in
         sym (put_is ∙ elim (finmap.get s.grid.cells (cell_of r f)) as (λ o. option_map live_part o ≡ None → with_change s.grid.cells (cell_of r f) (with_live (total_of r (cell_of r f) (facts_of after))) o ≡ s.grid.cells) [
@@ -76,7 +76,7 @@ module _ (r : Rule) (cs : List Column) (states : List ColumnState) (before : Lis
         ] gone)
 
     -- in place of a value, where the rest is determined
-    pub put_corrected : (v : ℤ) (a rest new : Aggregate) → old ≡ Some v → option_map live_part (finmap.get s.grid.cells (cell_in s.grid.lanes index l)) ≡ Some a → IsOnlyRest IsSound merged a (aggregate_of_one f.time v) rest
+    pub put_corrected : (v : ℤ) (a rest new : Aggregate) → old ≡ Some v → option_map live_part (finmap.get s.grid.cells (cell_in s.grid.series_list index l)) ≡ Some a → IsOnlyRest IsSound merged a (aggregate_of_one f.time v) rest
         → new ≡ merged (aggregate_of_one f.time f.value) rest → corrected_in s l index new ≡ put_cell r f (facts_of after) s.grid.cells
     put_corrected v a rest new was there determined made =
         let there' : option_map live_part (finmap.get s.grid.cells (cell_of r f)) ≡ Some a = ap (λ k. option_map live_part (finmap.get s.grid.cells k)) (sym key) ∙ there in
@@ -91,9 +91,9 @@ module _ (r : Rule) (cs : List Column) (states : List ColumnState) (before : Lis
         (subst (λ x. IsOnlyRest IsSound merged x (aggregate_of_one f.time v) rest) whole determined)
 
     -- and where it isn't, folded anew
-    pub put_folded : (new : Aggregate) → AllDistinct s.grid.lanes → new ≡ lane_total r s states l index → corrected_in s l index new ≡ put_cell r f (facts_of after) s.grid.cells
+    pub put_folded : (new : Aggregate) → AllDistinct s.grid.series_list → new ≡ rollup_series_total r s states l index → corrected_in s l index new ≡ put_cell r f (facts_of after) s.grid.cells
     put_folded new once made =
-        let total : new ≡ total_of r (cell_of r f) (facts_of after) = made ∙ ap (lane_total r s states l) at_index ∙ cell_total r s (cell_of r f) l cs states once is.1 over.each over.lanes in
+        let total : new ≡ total_of r (cell_of r f) (facts_of after) = made ∙ ap (rollup_series_total r s states l) at_index ∙ cell_total r s (cell_of r f) l cs states once is.1 over.each over.series_list in
         ap (λ k. changed s.grid.cells k (with_live new)) key
         ∙ ap (λ x. changed s.grid.cells (cell_of r f) (with_live x)) total
         ∙ sym put_is

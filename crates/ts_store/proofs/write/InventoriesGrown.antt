@@ -15,7 +15,7 @@ use Rattle.ts_line.specs.Parts.{Parts, line_facts}
 use Rattle.ts_store.specs.store.Inventories.{inventory_of, OfRules, AddsAll, AddsSome, InventoryGrows, GrowsInPart}
 use Rattle.ts_store.specs.write.LinesPut.{OfEachRule, IsOfFacts, PutsCells, GainsCells, Accepts, Leaves}
 use Rattle.ts_store.specs.write.Registered.{new_columns}
-use Rattle.ts_store.proofs.write.ColumnsAside.{names_with}
+use Rattle.ts_store.proofs.write.StagedColumns.{names_with}
 use Rattle.ts_store.proofs.store.InventoriesKept.{all_keys}
 
 -- ---- cells of each rule

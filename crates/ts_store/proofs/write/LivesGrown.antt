@@ -13,7 +13,7 @@ use Rattle.ts_core.specs.store.Cells.{Cell, same_cell, cell_of, is_rolled, is_in
 use Rattle.ts_core.specs.lists.Changes.{or_else}
 use Rattle.ts_core.specs.store.StoreStates.{ColumnPoints, CellParts, facts_of}
 use Rattle.ts_core.specs.store.StoreData.{CellMap, no_parts, rule_cells, rules_of, IsLive, AreLive}
-use Rattle.ts_core.specs.moves.StoreMoves.{HasRoom, HaveRoom}
+use Rattle.ts_core.specs.moves.StoreMoves.{GainsEmptyCells, GainEmptyCells}
 use Rattle.ts_core.proofs.lists.MembersLemmas.{no_members, Among-filter_was, Among-filter_passes}
 use Rattle.ts_core.proofs.plans.PieceCells.{same_cell-eq}
 use Rattle.ts_core.proofs.moves.MovesStand.{key_not}
@@ -27,24 +27,24 @@ none_there mark facts r low m has k l g =
     let at : cell_of r f ≡ k = same_cell-eq (cell_of r f) k t.1 in
     key_not m k (subst (λ x. Among x (finmap.keys m)) at (has.there f (Among-filter_was (is_in_cell r k) f facts a) t.0 (subst (λ (x : Cell). low ≤ℤ x.index) (sym at) l))) g))
 
-live_grown : (mark : ℤ) (before after : List ColumnPoints) → facts_of after ≡ facts_of before → (r : Rule) (low : ℤ) (made : List Fact) (m n : CellMap) → HasRoom r low made m n → IsSizedRule mark (facts_of before) (rule_cells r low m) → IsLive before r m → IsLive after r n
-live_grown mark before after same r low made m n room has a k p s =
-    let parts : or_else no_parts (finmap.get m k) ≡ p = sym (room.parts k) ∙ ap (or_else no_parts) s in
+live_grown : (mark : ℤ) (before after : List ColumnPoints) → facts_of after ≡ facts_of before → (r : Rule) (low : ℤ) (made : List Fact) (m n : CellMap) → GainsEmptyCells r low made m n → IsSizedRule mark (facts_of before) (rule_cells r low m) → IsLive before r m → IsLive after r n
+live_grown mark before after same r low made m n capacity has a k p s =
+    let parts : or_else no_parts (finmap.get m k) ≡ p = sym (capacity.parts k) ∙ ap (or_else no_parts) s in
     let facts_same : total_of r k (facts_of before) ≡ total_of r k (facts_of after) = ap (total_of r k) (sym same) in
     elim (finmap.get m k) as (λ o. finmap.get m k ≡ o → or_else no_parts o ≡ p → p.live ≡ total_of r k (facts_of after)) [
       | None ↦ λ g e.
-          let high : low ≤ℤ k.index = by_lt_z k.index low (λ l. absurd (none-some p (sym (room.above k l ∙ g) ∙ s))) (λ l. l) in
+          let high : low ≤ℤ k.index = by_lt_z k.index low (λ l. absurd (none-some p (sym (capacity.above k l ∙ g) ∙ s))) (λ l. l) in
           ap (λ (x : CellParts). x.live) (sym e) ∙ sym (none_there mark (facts_of before) r low m has k high g) ∙ facts_same
       | Some q ↦ λ g e. ap (λ (x : CellParts). x.live) (sym e) ∙ a k q g ∙ facts_same
     ] refl parts
 
 pub lives_grown : (mark : ℤ) (before after : List ColumnPoints) → facts_of after ≡ facts_of before → (rs : List Rule) (lows : List ℤ) (made : List Fact) (ms ns : List CellMap)
-    → length lows ≡ length rs → HaveRoom rs lows made ms ns → AllByRecursion (IsSizedRule mark (facts_of before)) (rules_of rs lows ms) → AreLive before rs ms → AreLive after rs ns
-lives_grown mark before after same [] lows made ms ns l room has a = tt
-lives_grown mark before after same (r ∷ rs) lows made ms [] l room has a = tt
-lives_grown mark before after same (r ∷ rs) lows made [] (n ∷ ns) l room has a = absurd room
-lives_grown mark before after same (r ∷ rs) [] made (m ∷ ms) (n ∷ ns) l room has a = absurd (omega (arith, l))
-lives_grown mark before after same (r ∷ rs) (low ∷ lows) made (m ∷ ms) (n ∷ ns) l room has a = (
-  live_grown mark before after same r low made m n room.0 has.0 a.0,
-  lives_grown mark before after same rs lows made ms ns (omega (arith, l)) room.1 has.1 a.1,
+    → length lows ≡ length rs → GainEmptyCells rs lows made ms ns → AllByRecursion (IsSizedRule mark (facts_of before)) (rules_of rs lows ms) → AreLive before rs ms → AreLive after rs ns
+lives_grown mark before after same [] lows made ms ns l capacity has a = tt
+lives_grown mark before after same (r ∷ rs) lows made ms [] l capacity has a = tt
+lives_grown mark before after same (r ∷ rs) lows made [] (n ∷ ns) l capacity has a = absurd capacity
+lives_grown mark before after same (r ∷ rs) [] made (m ∷ ms) (n ∷ ns) l capacity has a = absurd (omega (arith, l))
+lives_grown mark before after same (r ∷ rs) (low ∷ lows) made (m ∷ ms) (n ∷ ns) l capacity has a = (
+  live_grown mark before after same r low made m n capacity.0 has.0 a.0,
+  lives_grown mark before after same rs lows made ms ns (omega (arith, l)) capacity.1 has.1 a.1,
 )

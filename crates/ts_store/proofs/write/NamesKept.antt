@@ -6,24 +6,24 @@ use Rattle.ts_core.specs.lists.Numbered.{Gains}
 use Rattle.ts_core.specs.store.RawFacts.{is_waiting}
 use Rattle.ts_core.specs.store.StoreStates.{ColumnPoints, column_of}
 use Rattle.ts_core.proofs.lists.MembersLemmas.{Among-left, Among-append, Among-filter_was}
-use Rattle.ts_line.specs.Names.{IsKey, AreKeys, IsNamed}
+use Rattle.ts_line.specs.Names.{IsKey, AreKeys, IsStatable}
 use Rattle.ts_line.specs.Parts.{LinePart, Parts, fact_of, field_text, line_facts}
 use Rattle.ts_store.specs.write.Registered.{MayGain, new_columns, with_columns, MakesFirst}
-use Rattle.ts_store.proofs.write.ColumnsAside.{names_with}
+use Rattle.ts_store.proofs.write.StagedColumns.{names_with}
 
 abbrev pub AreNamed : List Series → Type 0
-AreNamed series = (s : Series) → Among s series → IsNamed s
+AreNamed series = (s : Series) → Among s series → IsStatable s
 
 abbrev pub HaveKeys : List ColumnPoints → Type 0
 HaveKeys columns = (c : Column) → Among c (map column_of columns) → IsKey c.field
 
-pub gains_named : (before after : List Series) (s : Series) → IsNamed s → Gains before after s → AreNamed before → AreNamed after
+pub gains_named : (before after : List Series) (s : Series) → IsStatable s → Gains before after s → AreNamed before → AreNamed after
 gains_named before after s named gains all =
     ⊎_elim {C = AreNamed after} (λ same. subst AreNamed (sym same.1) all)
     (λ new. subst AreNamed (sym new.1) (λ x a.
-    ⊎_elim {C = IsNamed x} (all x) (λ last. ⊎_elim {C = IsNamed x} (λ e. subst IsNamed (sym e) named) (λ none. absurd none) last) (Among-append x before (s ∷ []) a))) gains
+    ⊎_elim {C = IsStatable x} (all x) (λ last. ⊎_elim {C = IsStatable x} (λ e. subst IsStatable (sym e) named) (λ none. absurd none) last) (Among-append x before (s ∷ []) a))) gains
 
-pub may_gain_named : (before after : List Series) (s : Series) → IsNamed s → MayGain before after s → AreNamed before → AreNamed after
+pub may_gain_named : (before after : List Series) (s : Series) → IsStatable s → MayGain before after s → AreNamed before → AreNamed after
 may_gain_named before after s named gains all =
     ⊎_elim {C = AreNamed after} (λ same. subst AreNamed (sym same) all) (λ more. gains_named before after s named more all) gains
 

@@ -23,17 +23,17 @@ use Rattle.ts_core.proofs.lists.Sorted.{found_among, among_found}
 use Rattle.ts_core.specs.store.Cells.{cell_of, is_rolled, total_of}
 use Rattle.ts_line.specs.Parts.{LinePart, Parts, fact_of}
 use Rattle.ts_raw.specs.Columns.{PointMap, ColumnState}
-use Rattle.ts_store.specs.store.ColumnStates.{facts_in, facts_of_columns, with_points, point_maps, no_column, with_aside, committed, all_committed, AreReady, AreAside}
-use Rattle.ts_store.specs.write.LivePuts.{IsOver, WasThere, IsPut, AreOfFields}
+use Rattle.ts_store.specs.store.ColumnStates.{facts_in, facts_of_columns, with_points, point_maps, no_column, with_staged, committed, all_committed, AreReady, AreStaged}
+use Rattle.ts_store.specs.write.LivePuts.{IsOver, WasThere, IsLivePut, AreOfFields}
 use Rattle.ts_store.specs.read.PointsRead.{number_of_points}
-use Rattle.ts_store.specs.rollup.Rollups.{RollupState, IsLaneOf, AreRollups, lane_at, with_frozen, cells_of}
+use Rattle.ts_store.specs.rollup.Rollups.{RollupState, IsRollupSeriesOf, AreRollups, rollup_series_at, with_frozen, cells_of}
 use Rattle.ts_store.specs.retain.RollupSteps.{with_frozen_all}
-use Rattle.ts_store.proofs.write.ColumnsAside.{points_at, one_committed, aside_others, same_names, ready_others, committed_is}
+use Rattle.ts_store.proofs.write.StagedColumns.{points_at, one_committed, staged_others, same_names, ready_others, committed_is}
 use Rattle.ts_store.proofs.store.ColumnsLemmas.{in_column, column_among, to_column, facts-distinct}
 use Rattle.ts_store.proofs.read.ColumnsReads.{facts-length}
 use Rattle.ts_store.proofs.retain.RollupMoves.{rollups_with}
-use Rattle.ts_store.proofs.rollup.RollupsGrow.{lanes-length}
-use Rattle.ts_store.proofs.write.RoomLemmas.{lane_known}
+use Rattle.ts_store.proofs.rollup.RollupsGrow.{series_list-length}
+use Rattle.ts_store.proofs.write.CellsCreatedLemmas.{rollup_series_known}
 
 -- ---- what was there
 
@@ -83,9 +83,9 @@ was_there cs ms n f (Some v) d l at e = record {
 
 -- ---- how many points there are
 
-aside_more : (m : PointMap) (o : Option (ℤ × ℤ)) → finmap.len (with_aside m o) ≤ finmap.len m + 1
-aside_more m None = omega arith
-aside_more m (Some p) =
+staged_more : (m : PointMap) (o : Option (ℤ × ℤ)) → finmap.len (with_staged m o) ≤ finmap.len m + 1
+staged_more m None = omega arith
+staged_more m (Some p) =
     let e = len-insert int_cmp_total m p.0 p.1 in
     let most : cond (finmap.contains_key m p.0) (finmap.len m) (finmap.len m + 1) ≤ finmap.len m + 1 = elim (finmap.contains_key m p.0) as (λ b. cond b (finmap.len m) (finmap.len m + 1) ≤ finmap.len m + 1) [ true ↦ omega arith | false ↦ omega arith ] in
     omega (arith, e, most)
@@ -95,7 +95,7 @@ committed-more [] n = omega arith
 committed-more (s ∷ ss) zero =
     let a = sum_by-cons (λ (x : ColumnState). finmap.len x.points) s ss in
     let b = sum_by-cons (λ (x : ColumnState). finmap.len x.points) (committed s) ss in
-    let most = aside_more s.points s.aside in
+    let most = staged_more s.points s.staged in
     omega (arith, a, b, most)
 committed-more (s ∷ ss) (suc n) =
     let a = sum_by-cons (λ (x : ColumnState). finmap.len x.points) s ss in
@@ -109,29 +109,29 @@ module _ (ss : List ColumnState) (n m : ℕ) (x : ColumnState) (ready : AreReady
   its_column : x ≡ get_or ss n no_column
   its_column = is ∙ ap (λ k. get_or ss k x) same ∙ get_or_default ss n x no_column ready.0
 
-  pub ready_aside : IsSome x.aside
-  ready_aside = subst (λ (t : ColumnState). IsSome t.aside) (sym its_column) ready.1
+  pub ready_staged : IsSome x.staged
+  ready_staged = subst (λ (t : ColumnState). IsSome t.staged) (sym its_column) ready.1
 
   pub point_found : (o : Option ℤ) (t u : ℤ) → t ≡ u → o ≡ finmap.get x.points t → o ≡ finmap.get (get_or ss n no_column).points u
   point_found o t u e h = h ∙ (λ i. finmap.get (its_column i).points (e i))
 
-  pub now_committed : (t : ColumnState) → IfSome x.aside (λ (p : ℤ × ℤ). t.points ≡ finmap.insert x.points p.0 p.1) → t.aside ≡ None → set ss m t ≡ set ss n (committed (get_or ss n no_column))
-  now_committed t put none = ap₂ (λ k (u : ColumnState). set ss k u) same (committed_is x t put ready_aside none ∙ ap (λ (u : ColumnState). committed u) its_column)
+  pub now_committed : (t : ColumnState) → IfSome x.staged (λ (p : ℤ × ℤ). t.points ≡ finmap.insert x.points p.0 p.1) → t.staged ≡ None → set ss m t ≡ set ss n (committed (get_or ss n no_column))
+  now_committed t put none = ap₂ (λ k (u : ColumnState). set ss k u) same (committed_is x t put ready_staged none ∙ ap (λ (u : ColumnState). committed u) its_column)
 
-module _ (cs : List Column) (ss : List ColumnState) (n : ℕ) (f : Fact) (once : AllDistinct cs) (each : length ss ≡ length cs) (aside : AreAside cs ss (n ∷ []) (f ∷ [])) where
+module _ (cs : List Column) (ss : List ColumnState) (n : ℕ) (f : Fact) (once : AllDistinct cs) (each : length ss ≡ length cs) (staged : AreStaged cs ss (n ∷ []) (f ∷ [])) where
   abbrev next : List ColumnState
   next = set ss n (committed (get_or ss n no_column))
 
   pub puts_one : PutsFact (with_points cs (point_maps ss)) (with_points cs (point_maps next)) f
-  puts_one = (same_names cs ss n (committed (get_or ss n no_column)) each, one_committed cs ss n f once each aside.0 aside.1)
+  puts_one = (same_names cs ss n (committed (get_or ss n no_column)) each, one_committed cs ss n f once each staged.0 staged.1)
 
-  pub is_put : (old : Option ℤ) → number_of_points ss + 1 ≤ 2 ^ 62 → old ≡ finmap.get (get_or ss n no_column).points f.time → IsPut cs next (with_points cs (point_maps ss)) n f old
+  pub is_put : (old : Option ℤ) → number_of_points ss + 1 ≤ 2 ^ 62 → old ≡ finmap.get (get_or ss n no_column).points f.time → IsLivePut cs next (with_points cs (point_maps ss)) n f old
   is_put old few is = record {
-    at = aside.0;
+    at = staged.0;
     distinct = facts-distinct cs (point_maps ss) once;
     put = puts_one;
     few = let e = facts-length cs ss each in omega (arith, e, few);
-    was = was_there cs (point_maps ss) n f old once (length-map ss (λ (s : ColumnState). s.points) ∙ each) aside.0 (is ∙ ap (λ (m : PointMap). finmap.get m f.time) (sym (points_at ss n)));
+    was = was_there cs (point_maps ss) n f old once (length-map ss (λ (s : ColumnState). s.points) ∙ each) staged.0 (is ∙ ap (λ (m : PointMap). finmap.get m f.time) (sym (points_at ss n)));
   }
 
 -- ---- under each rule
@@ -147,31 +147,31 @@ nowhere_put (r ∷ rs) f facts [] e = refl
 nowhere_put (r ∷ rs) f facts (s ∷ ss) e = absurd (omega arith)
 
 -- each has an entry for the column
-pub inside_each : (n m k : ℕ) (ss : List RollupState) → k ≡ n → n < m → AllByRecursion (λ (s : RollupState). length s.lanes ≡ m) ss → AllByRecursion (λ (s : RollupState). k < length s.lanes) ss
+pub inside_each : (n m k : ℕ) (ss : List RollupState) → k ≡ n → n < m → AllByRecursion (λ (s : RollupState). length s.series_list ≡ m) ss → AllByRecursion (λ (s : RollupState). k < length s.series_list) ss
 inside_each n m k [] e l all = tt
 inside_each n m k (s ∷ ss) e l all = (let h = all.0 in omega (arith, e, l, h), inside_each n m k ss e l all.1)
 
 -- where the first rule doesn't roll the column up, the others tell
-pub none_rolls : (n : ℕ) (ss : List RollupState) → length ss ≡ 0 → AllByRecursion (λ (s : RollupState). lane_at s n ≡ None) ss
+pub none_rolls : (n : ℕ) (ss : List RollupState) → length ss ≡ 0 → AllByRecursion (λ (s : RollupState). rollup_series_at s n ≡ None) ss
 none_rolls n [] e = tt
 none_rolls n (s ∷ ss) e = absurd (omega arith)
 
-without_lane : (o : Option ℕ) → is_some o ≡ false → o ≡ None
-without_lane None e = refl
-without_lane (Some l) e = absurd (true≢false e)
+without_rollup_series : (o : Option ℕ) → is_some o ≡ false → o ≡ None
+without_rollup_series None e = refl
+without_rollup_series (Some l) e = absurd (true≢false e)
 
-pub rolls_more : (n : ℕ) (s : RollupState) (ss ss' : List RollupState) (first others : Bool) → ss' ≡ s ∷ ss → first ≡ is_some (lane_at s n) → first ≡ false
-    → OnFalse others (AllByRecursion (λ (t : RollupState). lane_at t n ≡ None) ss) → OnFalse others (AllByRecursion (λ (t : RollupState). lane_at t n ≡ None) ss')
+pub rolls_more : (n : ℕ) (s : RollupState) (ss ss' : List RollupState) (first others : Bool) → ss' ≡ s ∷ ss → first ≡ is_some (rollup_series_at s n) → first ≡ false
+    → OnFalse others (AllByRecursion (λ (t : RollupState). rollup_series_at t n ≡ None) ss) → OnFalse others (AllByRecursion (λ (t : RollupState). rollup_series_at t n ≡ None) ss')
 rolls_more n s ss ss' first true e is passed h = tt
-rolls_more n s ss ss' first false e is passed h = subst (AllByRecursion (λ (t : RollupState). lane_at t n ≡ None)) (sym e) (without_lane (lane_at s n) (sym is ∙ passed), h)
+rolls_more n s ss ss' first false e is passed h = subst (AllByRecursion (λ (t : RollupState). rollup_series_at t n ≡ None)) (sym e) (without_rollup_series (rollup_series_at s n) (sym is ∙ passed), h)
 
 -- where no rule rolls the column up
-pub unrolled_put : (rs : List Rule) (cs : List Column) (ss : List RollupState) (n : ℕ) (f : Fact) (facts : List Fact) → AreRollups rs cs ss → slice_get cs n ≡ Some f.column → AllByRecursion (λ (s : RollupState). lane_at s n ≡ None) ss
+pub unrolled_put : (rs : List Rule) (cs : List Column) (ss : List RollupState) (n : ℕ) (f : Fact) (facts : List Fact) → AreRollups rs cs ss → slice_get cs n ≡ Some f.column → AllByRecursion (λ (s : RollupState). rollup_series_at s n ≡ None) ss
     → cells_of ss ≡ put_cells rs f facts (cells_of ss)
 unrolled_put [] cs ss n f facts a at none = refl
 unrolled_put (r ∷ rs) cs [] n f facts a at none = refl
 unrolled_put (r ∷ rs) cs (s ∷ ss) n f facts a at none =
-    let passed : is_rolled r f ≡ false = subst (IsLaneOf r f.column s.grid.lanes) none.0 (lane_known r s.grid.lanes cs s.lanes n f.column a.0 at) in
+    let passed : is_rolled r f ≡ false = subst (IsRollupSeriesOf r f.column s.grid.series_list) none.0 (rollup_series_known r s.grid.series_list cs s.series_list n f.column a.0 at) in
     ap₂ (λ (m : CellMap) (ms : List CellMap). m ∷ ms) (sym (ap (λ b. cond b (refolded r (cell_of r f) facts s.grid.cells) s.grid.cells) passed)) (unrolled_put rs cs ss n f facts a.1 at none.1)
 
 -- the first rule, and the others
@@ -183,39 +183,39 @@ pub all_put-more : (r : Rule) (rs rs' : List Rule) (cs : List Column) (states : 
 all_put-more r rs rs' cs states before f facts s t ss ts ss' d e a live each once one others =
     let a' : AreRollups (r ∷ rs) cs (s ∷ ss) = subst (λ (us : List RollupState). AreRollups (r ∷ rs) cs us) e (subst (λ (qs : List Rule). AreRollups qs cs ss') d a) in
     let live' : AreLive before (r ∷ rs) (cells_of (s ∷ ss)) = subst (λ (us : List RollupState). AreLive before (r ∷ rs) (cells_of us)) e (subst (λ (qs : List Rule). AreLive before qs (cells_of ss')) d live) in
-    ap₂ (λ (m : CellMap) (ms : List CellMap). m ∷ ms) (one (record { each = each; once = once; lanes = a'.0 }) (live'.0, tt)) (others a'.1 live'.1)
+    ap₂ (λ (m : CellMap) (ms : List CellMap). m ∷ ms) (one (record { each = each; once = once; series_list = a'.0 }) (live'.0, tt)) (others a'.1 live'.1)
     ∙ sym (ap₂ (λ (qs : List Rule) (us : List RollupState). put_cells qs f facts (cells_of us)) d e)
 
-pub lanes_more : (s t : RollupState) (ss ts ss' : List RollupState) → ss' ≡ s ∷ ss → t ≡ with_frozen t.grid.cells s → ts ≡ with_frozen_all (cells_of ts) ss → t ∷ ts ≡ with_frozen_all (cells_of (t ∷ ts)) ss'
-lanes_more s t ss ts ss' e one others = ap₂ (λ (u : RollupState) (us : List RollupState). u ∷ us) one others ∙ sym (ap (with_frozen_all (cells_of (t ∷ ts))) e)
+pub series_list_more : (s t : RollupState) (ss ts ss' : List RollupState) → ss' ≡ s ∷ ss → t ≡ with_frozen t.grid.cells s → ts ≡ with_frozen_all (cells_of ts) ss → t ∷ ts ≡ with_frozen_all (cells_of (t ∷ ts)) ss'
+series_list_more s t ss ts ss' e one others = ap₂ (λ (u : RollupState) (us : List RollupState). u ∷ us) one others ∙ sym (ap (with_frozen_all (cells_of (t ∷ ts))) e)
 
-pub lanes_then : (ss ts us : List RollupState) → ts ≡ with_frozen_all (cells_of ts) ss → us ≡ with_frozen_all (cells_of us) ts → us ≡ with_frozen_all (cells_of us) ss
-lanes_then [] ts us e f = f ∙ ap (with_frozen_all (cells_of us)) e
-lanes_then (s ∷ ss) [] us e f = absurd (let n : 0 ≡ length (s ∷ ss) = ap (λ (xs : List RollupState). length xs) e in omega (arith, n))
-lanes_then (s ∷ ss) (t ∷ ts) [] e f = absurd (let n : 0 ≡ length (t ∷ ts) = ap (λ (xs : List RollupState). length xs) f in omega (arith, n))
-lanes_then (s ∷ ss) (t ∷ ts) (u ∷ us) e f =
+pub series_list_then : (ss ts us : List RollupState) → ts ≡ with_frozen_all (cells_of ts) ss → us ≡ with_frozen_all (cells_of us) ts → us ≡ with_frozen_all (cells_of us) ss
+series_list_then [] ts us e f = f ∙ ap (with_frozen_all (cells_of us)) e
+series_list_then (s ∷ ss) [] us e f = absurd (let n : 0 ≡ length (s ∷ ss) = ap (λ (xs : List RollupState). length xs) e in omega (arith, n))
+series_list_then (s ∷ ss) (t ∷ ts) [] e f = absurd (let n : 0 ≡ length (t ∷ ts) = ap (λ (xs : List RollupState). length xs) f in omega (arith, n))
+series_list_then (s ∷ ss) (t ∷ ts) (u ∷ us) e f =
     let head : (xs : List RollupState) → RollupState = λ xs. get_or xs 0 s in
     let one : t ≡ with_frozen t.grid.cells s = ap head e in
     let two : u ≡ with_frozen u.grid.cells t = ap head f in
-    ap₂ (λ (x : RollupState) (xs : List RollupState). x ∷ xs) (two ∙ ap (with_frozen u.grid.cells) one) (lanes_then ss ts us (ap (λ (xs : List RollupState). drop 1 xs) e) (ap (λ (xs : List RollupState). drop 1 xs) f))
+    ap₂ (λ (x : RollupState) (xs : List RollupState). x ∷ xs) (two ∙ ap (with_frozen u.grid.cells) one) (series_list_then ss ts us (ap (λ (xs : List RollupState). drop 1 xs) e) (ap (λ (xs : List RollupState). drop 1 xs) f))
 
-wide_with : (n : ℕ) (ms : List CellMap) (ss : List RollupState) → AllByRecursion (λ (s : RollupState). length s.lanes ≡ n) ss → AllByRecursion (λ (s : RollupState). length s.lanes ≡ n) (with_frozen_all ms ss)
+wide_with : (n : ℕ) (ms : List CellMap) (ss : List RollupState) → AllByRecursion (λ (s : RollupState). length s.series_list ≡ n) ss → AllByRecursion (λ (s : RollupState). length s.series_list ≡ n) (with_frozen_all ms ss)
 wide_with n ms [] all = tt
 wide_with n [] (s ∷ ss) all = all
 wide_with n (m ∷ ms) (s ∷ ss) all = (all.0, wide_with n ms ss all.1)
 
 -- each has as many columns as before
-pub wide_still : (n : ℕ) (ss ts : List RollupState) → ts ≡ with_frozen_all (cells_of ts) ss → AllByRecursion (λ (s : RollupState). length s.lanes ≡ n) ss → AllByRecursion (λ (s : RollupState). length s.lanes ≡ n) ts
-wide_still n ss ts e all = subst (AllByRecursion (λ (s : RollupState). length s.lanes ≡ n)) (sym e) (wide_with n (cells_of ts) ss all)
+pub wide_still : (n : ℕ) (ss ts : List RollupState) → ts ≡ with_frozen_all (cells_of ts) ss → AllByRecursion (λ (s : RollupState). length s.series_list ≡ n) ss → AllByRecursion (λ (s : RollupState). length s.series_list ≡ n) ts
+wide_still n ss ts e all = subst (AllByRecursion (λ (s : RollupState). length s.series_list ≡ n)) (sym e) (wide_with n (cells_of ts) ss all)
 
 -- ---- one after another
 
-pub puts_more : (rs : List Rule) (cs : List Column) (ss ss' : List ColumnState) (n : ℕ) (f : Fact) (fs : List Fact) (after : List ColumnPoints) (ms ms' ns : List CellMap) → AllDistinct cs → length ss ≡ length cs → AreAside cs ss (n ∷ []) (f ∷ [])
+pub puts_more : (rs : List Rule) (cs : List Column) (ss ss' : List ColumnState) (n : ℕ) (f : Fact) (fs : List Fact) (after : List ColumnPoints) (ms ms' ns : List CellMap) → AllDistinct cs → length ss ≡ length cs → AreStaged cs ss (n ∷ []) (f ∷ [])
     → ss' ≡ set ss n (committed (get_or ss n no_column)) → ms' ≡ put_cells rs f (facts_of (with_points cs (point_maps ss'))) ms → AreLive (with_points cs (point_maps ss)) rs ms
     → (AreLive (with_points cs (point_maps ss')) rs ms' → PutsFacts rs (with_points cs (point_maps ss')) ms' after ns fs)
     → PutsFacts rs (with_points cs (point_maps ss)) ms after ns (f ∷ fs)
-puts_more rs cs ss ss' n f fs after ms ms' ns once each aside is made live rest =
-    let put : PutsFact (with_points cs (point_maps ss)) (with_points cs (point_maps ss')) f = subst (λ (xs : List ColumnState). PutsFact (with_points cs (point_maps ss)) (with_points cs (point_maps xs)) f) (sym is) (puts_one cs ss n f once each aside) in
+puts_more rs cs ss ss' n f fs after ms ms' ns once each staged is made live rest =
+    let put : PutsFact (with_points cs (point_maps ss)) (with_points cs (point_maps ss')) f = subst (λ (xs : List ColumnState). PutsFact (with_points cs (point_maps ss)) (with_points cs (point_maps xs)) f) (sym is) (puts_one cs ss n f once each staged) in
     let lives : AreLive (with_points cs (point_maps ss')) rs ms' =
     lives_line rs (f ∷ []) (with_points cs (point_maps ss)) (with_points cs (point_maps ss')) ms ms' (facts-distinct cs (point_maps ss) once) (with_points cs (point_maps ss'), put, (refl, made)) live in
     (with_points cs (point_maps ss'), put, subst (λ (xs : List CellMap). PutsFacts rs (with_points cs (point_maps ss')) xs after ns fs) made (rest lives))
@@ -237,27 +237,27 @@ next_ready ss ss' n ns ns' e is ready few =
 
 line_puts : (rs : List Rule) (cs : List Column) (ss ss' : List ColumnState) (n : ℕ) (ns ns' : List ℕ) (x : LinePart × ℤ) (xs xs' : List (LinePart × ℤ)) (time value : ℤ) (after : List ColumnPoints) (us us' : List RollupState) (ends : List CellMap) (fs : List Fact)
     → ns' ≡ n ∷ ns → xs' ≡ x ∷ xs → value ≡ x.1 → ss' ≡ set ss n (committed (get_or ss n no_column)) → us' ≡ with_frozen_all (cells_of us') us → (Among n ns → ⊥)
-    → AreOfFields time xs' fs → length ss ≡ length cs → AllDistinct cs → AreRollups rs cs us → AreAside cs ss ns' fs → AreLive (with_points cs (point_maps ss)) rs (cells_of us)
-    → ((f : Fact) → f.time ≡ time → f.value ≡ value → AreAside cs ss (n ∷ []) (f ∷ []) → cells_of us' ≡ put_cells rs f (facts_of (with_points cs (point_maps ss'))) (cells_of us))
-    → ((gs : List Fact) → AreOfFields time xs gs → length ss' ≡ length cs → AreRollups rs cs us' → AreAside cs ss' ns gs → AreLive (with_points cs (point_maps ss')) rs (cells_of us') → PutsFacts rs (with_points cs (point_maps ss')) (cells_of us') after ends gs)
+    → AreOfFields time xs' fs → length ss ≡ length cs → AllDistinct cs → AreRollups rs cs us → AreStaged cs ss ns' fs → AreLive (with_points cs (point_maps ss)) rs (cells_of us)
+    → ((f : Fact) → f.time ≡ time → f.value ≡ value → AreStaged cs ss (n ∷ []) (f ∷ []) → cells_of us' ≡ put_cells rs f (facts_of (with_points cs (point_maps ss'))) (cells_of us))
+    → ((gs : List Fact) → AreOfFields time xs gs → length ss' ≡ length cs → AreRollups rs cs us' → AreStaged cs ss' ns gs → AreLive (with_points cs (point_maps ss')) rs (cells_of us') → PutsFacts rs (with_points cs (point_maps ss')) (cells_of us') after ends gs)
     → PutsFacts rs (with_points cs (point_maps ss)) (cells_of us) after ends fs
-line_puts rs cs ss ss' n ns ns' x xs xs' time value after us us' ends [] e d v is lanes away fields each once have aside live one others = absurd (subst (λ (ys : List (LinePart × ℤ)). AreOfFields time ys []) d fields)
-line_puts rs cs ss ss' n ns ns' x xs xs' time value after us us' ends (f ∷ fs) e d v is lanes away fields each once have aside live one others =
+line_puts rs cs ss ss' n ns ns' x xs xs' time value after us us' ends [] e d v is series_list away fields each once have staged live one others = absurd (subst (λ (ys : List (LinePart × ℤ)). AreOfFields time ys []) d fields)
+line_puts rs cs ss ss' n ns ns' x xs xs' time value after us us' ends (f ∷ fs) e d v is series_list away fields each once have staged live one others =
     let s : ColumnState = committed (get_or ss n no_column) in
     let of : AreOfFields time (x ∷ xs) (f ∷ fs) = subst (λ (ys : List (LinePart × ℤ)). AreOfFields time ys (f ∷ fs)) d fields in
-    let put : AreAside cs ss (n ∷ ns) (f ∷ fs) = subst (λ (ms : List ℕ). AreAside cs ss ms (f ∷ fs)) e aside in
-    let first : AreAside cs ss (n ∷ []) (f ∷ []) = (put.0, put.1, tt) in
+    let put : AreStaged cs ss (n ∷ ns) (f ∷ fs) = subst (λ (ms : List ℕ). AreStaged cs ss ms (f ∷ fs)) e staged in
+    let first : AreStaged cs ss (n ∷ []) (f ∷ []) = (put.0, put.1, tt) in
     puts_more rs cs ss ss' n f fs after (cells_of us) (cells_of us') ends once each first is (one f of.0 (of.1 ∙ sym v) first) live
-    (λ lives. others fs of.2 (ap length is ∙ length-set ss n s ∙ each) (subst (AreRollups rs cs) (sym lanes) (rollups_with rs cs (cells_of us') us have))
-    (subst (λ (ys : List ColumnState). AreAside cs ys ns fs) (sym is) (aside_others cs ss ns fs n s away put.2)) lives)
+    (λ lives. others fs of.2 (ap length is ∙ length-set ss n s ∙ each) (subst (AreRollups rs cs) (sym series_list) (rollups_with rs cs (cells_of us') us have))
+    (subst (λ (ys : List ColumnState). AreStaged cs ys ns fs) (sym is) (staged_others cs ss ns fs n s away put.2)) lives)
 
 -- the facts of columns and fields, which are aside, bring columns and cells to an end
 abbrev pub PutsRest : List Rule → ℤ → List ℕ → List (LinePart × ℤ) → List Column → List ColumnState → List RollupState → List ColumnPoints → List CellMap → Type 0
-PutsRest rs time ns xs cs ss us after ends = (gs : List Fact) → AreOfFields time xs gs → length ss ≡ length cs → AreRollups rs cs us → AreAside cs ss ns gs → AreLive (with_points cs (point_maps ss)) rs (cells_of us)
+PutsRest rs time ns xs cs ss us after ends = (gs : List Fact) → AreOfFields time xs gs → length ss ≡ length cs → AreRollups rs cs us → AreStaged cs ss ns gs → AreLive (with_points cs (point_maps ss)) rs (cells_of us)
     → PutsFacts rs (with_points cs (point_maps ss)) (cells_of us) after ends gs
 
 -- nothing is aside
-none_puts : (rs : List Rule) (cs : List Column) (ss : List ColumnState) (ns : List ℕ) (columns : List ColumnPoints) (ms : List CellMap) (fs : List Fact) → length ns ≡ 0 → AreAside cs ss ns fs → PutsFacts rs columns ms columns ms fs
+none_puts : (rs : List Rule) (cs : List Column) (ss : List ColumnState) (ns : List ℕ) (columns : List ColumnPoints) (ms : List CellMap) (fs : List Fact) → length ns ≡ 0 → AreStaged cs ss ns fs → PutsFacts rs columns ms columns ms fs
 none_puts rs cs ss [] columns ms [] e a = (refl, refl)
 none_puts rs cs ss [] columns ms (f ∷ fs) e a = absurd a
 none_puts rs cs ss (n ∷ ns) columns ms fs e a = absurd (let z : ⊥ = omega arith in z)
@@ -265,10 +265,10 @@ none_puts rs cs ss (n ∷ ns) columns ms fs e a = absurd (let z : ⊥ = omega ar
 -- the next of them is put, and then the others
 pub rest_put : (rs : List Rule) (time : ℤ) (cs : List Column) (ss ss' : List ColumnState) (us us' : List RollupState) (n : ℕ) (ns ns' : List ℕ) (x : LinePart × ℤ) (xs xs' : List (LinePart × ℤ)) (value : ℤ) (after : List ColumnPoints) (ends : List CellMap)
     → ns' ≡ n ∷ ns → xs' ≡ x ∷ xs → value ≡ x.1 → ss' ≡ set ss n (committed (get_or ss n no_column)) → us' ≡ with_frozen_all (cells_of us') us → (Among n ns → ⊥) → AllDistinct cs
-    → ((f : Fact) → f.time ≡ time → f.value ≡ value → length ss ≡ length cs → AreRollups rs cs us → AreAside cs ss (n ∷ []) (f ∷ []) → AreLive (with_points cs (point_maps ss)) rs (cells_of us) → cells_of us' ≡ put_cells rs f (facts_of (with_points cs (point_maps ss'))) (cells_of us))
+    → ((f : Fact) → f.time ≡ time → f.value ≡ value → length ss ≡ length cs → AreRollups rs cs us → AreStaged cs ss (n ∷ []) (f ∷ []) → AreLive (with_points cs (point_maps ss)) rs (cells_of us) → cells_of us' ≡ put_cells rs f (facts_of (with_points cs (point_maps ss'))) (cells_of us))
     → PutsRest rs time ns xs cs ss' us' after ends → PutsRest rs time ns' xs' cs ss us after ends
-rest_put rs time cs ss ss' us us' n ns ns' x xs xs' value after ends e d v is lanes away once one others = λ gs fields each have aside live.
-    line_puts rs cs ss ss' n ns ns' x xs xs' time value after us us' ends gs e d v is lanes away fields each once have aside live (λ f at of first. one f at of each have first live) others
+rest_put rs time cs ss ss' us us' n ns ns' x xs xs' value after ends e d v is series_list away once one others = λ gs fields each have staged live.
+    line_puts rs cs ss ss' n ns ns' x xs xs' time value after us us' ends gs e d v is series_list away fields each once have staged live (λ f at of first. one f at of each have first live) others
 
 -- none are left
 pub none_left : {X Y : Type 0} (xs : List X) (ys : List Y) → length ys ≡ length xs → (xs ≡ []) ⊎ (ys ≡ []) → length xs ≡ 0
@@ -276,7 +276,7 @@ none_left xs ys same (inl e) = ap length e
 none_left xs ys same (inr e) = sym same ∙ ap length e
 
 pub rest_done : (rs : List Rule) (time : ℤ) (ns : List ℕ) (xs : List (LinePart × ℤ)) (cs : List Column) (ss : List ColumnState) (us : List RollupState) → length ns ≡ 0 → PutsRest rs time ns xs cs ss us (with_points cs (point_maps ss)) (cells_of us)
-rest_done rs time ns xs cs ss us e = λ gs fields each have aside live. none_puts rs cs ss ns (with_points cs (point_maps ss)) (cells_of us) gs e aside
+rest_done rs time ns xs cs ss us e = λ gs fields each have staged live. none_puts rs cs ss ns (with_points cs (point_maps ss)) (cells_of us) gs e staged
 
 pub none_committed : (ss : List ColumnState) (ns : List ℕ) → length ns ≡ 0 → ss ≡ all_committed ss ns
 none_committed ss [] e = refl
@@ -288,17 +288,17 @@ pub of_fields : (p : Parts) (time : ℤ) → p.time ≡ time → (xs : List (Lin
 of_fields p time e [] = tt
 of_fields p time e (x ∷ xs) = (e, refl, of_fields p time e xs)
 
-pub aside_length : (cs : List Column) (ss : List ColumnState) (ns : List ℕ) (fs : List Fact) → AreAside cs ss ns fs → length ns ≡ length fs
-aside_length cs ss [] [] a = refl
-aside_length cs ss [] (f ∷ fs) a = absurd a
-aside_length cs ss (n ∷ ns) [] a = absurd a
-aside_length cs ss (n ∷ ns) (f ∷ fs) a = ap suc (aside_length cs ss ns fs a.2)
+pub staged_length : (cs : List Column) (ss : List ColumnState) (ns : List ℕ) (fs : List Fact) → AreStaged cs ss ns fs → length ns ≡ length fs
+staged_length cs ss [] [] a = refl
+staged_length cs ss [] (f ∷ fs) a = absurd a
+staged_length cs ss (n ∷ ns) [] a = absurd a
+staged_length cs ss (n ∷ ns) (f ∷ fs) a = ap suc (staged_length cs ss ns fs a.2)
 
-pub wide_of : (rs : List Rule) (cs : List Column) (n : ℕ) (ss : List RollupState) → AreRollups rs cs ss → n ≡ length cs → AllByRecursion (λ (s : RollupState). length s.lanes ≡ n) ss
+pub wide_of : (rs : List Rule) (cs : List Column) (n : ℕ) (ss : List RollupState) → AreRollups rs cs ss → n ≡ length cs → AllByRecursion (λ (s : RollupState). length s.series_list ≡ n) ss
 wide_of [] cs n [] a e = tt
 wide_of [] cs n (s ∷ ss) a e = absurd a
 wide_of (r ∷ rs) cs n [] a e = absurd a
-wide_of (r ∷ rs) cs n (s ∷ ss) a e = (lanes-length r s.grid.lanes cs s.lanes a.0 ∙ sym e, wide_of rs cs n ss a.1 e)
+wide_of (r ∷ rs) cs n (s ∷ ss) a e = (series_list-length r s.grid.series_list cs s.series_list a.0 ∙ sym e, wide_of rs cs n ss a.1 e)
 
 pub live_same : (before after : List ColumnPoints) → facts_of before ≡ facts_of after → (rs : List Rule) (ms : List CellMap) → AreLive before rs ms → AreLive after rs ms
 live_same before after e [] ms a = tt

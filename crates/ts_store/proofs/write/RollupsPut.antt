@@ -7,16 +7,16 @@ use Rattle.ts_core.specs.facts.Facts.{Column, Fact}
 use Rattle.ts_core.specs.settings.Settings.{Rule}
 use Rattle.ts_core.specs.store.StoreStates.{column_of}
 use Rattle.ts_core.specs.store.StoreData.{CellMap}
-use Rattle.ts_core.specs.moves.StoreMoves.{HaveRoom}
+use Rattle.ts_core.specs.moves.StoreMoves.{GainEmptyCells}
 use Rattle.ts_line.specs.Parts.{LinePart, Parts, fact_of, line_facts}
 use Rattle.ts_raw.specs.Columns.{ColumnState}
 use Rattle.ts_raw.specs.Indexed.{Indexed}
-use Rattle.ts_store.specs.store.ColumnStates.{columns_in, AreAside}
+use Rattle.ts_store.specs.store.ColumnStates.{columns_in, AreStaged}
 use Rattle.ts_store.specs.rollup.Rollups.{RollupState, AreRollups, cells_of}
-use Rattle.ts_store.specs.write.Rooms.{roomed_under, AreRoomedInPart}
+use Rattle.ts_store.specs.write.CellsCreated.{cells_created_under, AreCreatedInPart}
 use Rattle.ts_store.specs.write.LinesPut.{OfEachRule, GainsCells}
 use Rattle.ts_store.proofs.store.ColumnsLemmas.{names_held}
-use Rattle.ts_store.proofs.write.RoomLemmas.{AreAt, rooms_made, all_now}
+use Rattle.ts_store.proofs.write.CellsCreatedLemmas.{AreAt, rooms_made, all_now}
 use Rattle.ts_store.proofs.write.CellsMade.{parts_gain}
 
 -- the names of an index's columns are those of its columns with their points
@@ -24,10 +24,10 @@ pub rollups_held : (rs : List Rule) (index : Indexed) (ss : List ColumnState) (u
 rollups_held rs index ss us each h = subst (λ (cs : List Column). AreRollups rs cs us) (sym (names_held index ss each)) h
 
 -- the columns in which points are aside are there
-pub aside_inside : (cs : List Column) (ss : List ColumnState) (ns : List ℕ) (fs : List Fact) → AreAside cs ss ns fs → AllByRecursion (λ n. n < length cs) ns
-aside_inside cs ss [] fs a = tt
-aside_inside cs ss (n ∷ ns) [] a = absurd a
-aside_inside cs ss (n ∷ ns) (f ∷ fs) a = (slice_get_within cs n f.column a.0, aside_inside cs ss ns fs a.2)
+pub staged_inside : (cs : List Column) (ss : List ColumnState) (ns : List ℕ) (fs : List Fact) → AreStaged cs ss ns fs → AllByRecursion (λ n. n < length cs) ns
+staged_inside cs ss [] fs a = tt
+staged_inside cs ss (n ∷ ns) [] a = absurd a
+staged_inside cs ss (n ∷ ns) (f ∷ fs) a = (slice_get_within cs n f.column a.0, staged_inside cs ss ns fs a.2)
 
 -- ---- the facts of a line
 
@@ -35,29 +35,29 @@ line_time : (p : Parts) (fields : List (LinePart × ℤ)) (f : Fact) → Among f
 line_time p [] f a = absurd a
 line_time p (x ∷ fields) f a = ⊎_elim {C = f.time ≡ p.time} (λ e. ap (λ (g : Fact). g.time) e) (λ k. line_time p fields f k) a
 
-aside_at : (cs : List Column) (ss : List ColumnState) (time : ℤ) (ns : List ℕ) (fs : List Fact) → ((f : Fact) → Among f fs → f.time ≡ time) → AreAside cs ss ns fs → AreAt cs time ns fs
-aside_at cs ss time [] [] same a = tt
-aside_at cs ss time [] (f ∷ fs) same a = absurd a
-aside_at cs ss time (n ∷ ns) [] same a = absurd a
-aside_at cs ss time (n ∷ ns) (f ∷ fs) same a = (a.0, same f (inl refl), aside_at cs ss time ns fs (λ g k. same g (inr k)) a.2)
+staged_at : (cs : List Column) (ss : List ColumnState) (time : ℤ) (ns : List ℕ) (fs : List Fact) → ((f : Fact) → Among f fs → f.time ≡ time) → AreStaged cs ss ns fs → AreAt cs time ns fs
+staged_at cs ss time [] [] same a = tt
+staged_at cs ss time [] (f ∷ fs) same a = absurd a
+staged_at cs ss time (n ∷ ns) [] same a = absurd a
+staged_at cs ss time (n ∷ ns) (f ∷ fs) same a = (a.0, same f (inl refl), staged_at cs ss time ns fs (λ g k. same g (inr k)) a.2)
 
 -- room is made for those that are aside
-pub line_rooms : (rs : List Rule) (lows : List ℤ) (cs : List Column) (ss : List ColumnState) (p : Parts) (time : ℤ) (ns : List ℕ) (old : List CellMap) (us ts : List RollupState) → AreRollups rs cs us → AreAside cs ss ns (line_facts p) → time ≡ p.time
-    → cells_of us ≡ old → ts ≡ roomed_under rs lows time ns us → HaveRoom rs lows (line_facts p) old (cells_of ts)
+pub line_rooms : (rs : List Rule) (lows : List ℤ) (cs : List Column) (ss : List ColumnState) (p : Parts) (time : ℤ) (ns : List ℕ) (old : List CellMap) (us ts : List RollupState) → AreRollups rs cs us → AreStaged cs ss ns (line_facts p) → time ≡ p.time
+    → cells_of us ≡ old → ts ≡ cells_created_under rs lows time ns us → GainEmptyCells rs lows (line_facts p) old (cells_of ts)
 line_rooms rs lows cs ss p time ns old us ts h a at same made =
     let fs : List Fact = line_facts p in
-    let rooms : HaveRoom rs lows fs (cells_of us) (cells_of (roomed_under rs lows p.time ns us)) = rooms_made rs lows cs p.time ns fs us h (aside_at cs ss p.time ns fs (line_time p p.fields) a) in
-    subst (λ (ms : List CellMap). HaveRoom rs lows fs ms (cells_of ts)) same
-    (subst (λ (xs : List RollupState). HaveRoom rs lows fs (cells_of us) (cells_of xs)) (sym (made ∙ ap (λ (t : ℤ). roomed_under rs lows t ns us) at)) rooms)
+    let has_cells : GainEmptyCells rs lows fs (cells_of us) (cells_of (cells_created_under rs lows p.time ns us)) = rooms_made rs lows cs p.time ns fs us h (staged_at cs ss p.time ns fs (line_time p p.fields) a) in
+    subst (λ (ms : List CellMap). GainEmptyCells rs lows fs ms (cells_of ts)) same
+    (subst (λ (xs : List RollupState). GainEmptyCells rs lows fs (cells_of us) (cells_of xs)) (sym (made ∙ ap (λ (t : ℤ). cells_created_under rs lows t ns us) at)) has_cells)
 
 -- and no other cell is created, even if room is made for some of them only
-pub line_gains : (rs : List Rule) (lows : List ℤ) (cs : List Column) (ss : List ColumnState) (p : Parts) (time : ℤ) (ns : List ℕ) (old : List CellMap) (us ts : List RollupState) → AreRollups rs cs us → AreAside cs ss ns (line_facts p) → time ≡ p.time
-    → cells_of us ≡ old → AreRoomedInPart rs lows time ns us ts → OfEachRule (GainsCells (line_facts p)) rs lows old (cells_of ts)
+pub line_gains : (rs : List Rule) (lows : List ℤ) (cs : List Column) (ss : List ColumnState) (p : Parts) (time : ℤ) (ns : List ℕ) (old : List CellMap) (us ts : List RollupState) → AreRollups rs cs us → AreStaged cs ss ns (line_facts p) → time ≡ p.time
+    → cells_of us ≡ old → AreCreatedInPart rs lows time ns us ts → OfEachRule (GainsCells (line_facts p)) rs lows old (cells_of ts)
 line_gains rs lows cs ss p time ns old us ts h a at same part =
     let fs : List Fact = line_facts p in
     subst (λ (ms : List CellMap). OfEachRule (GainsCells fs) rs lows ms (cells_of ts)) same
-    (parts_gain rs lows cs p.time ns fs us ts h (aside_at cs ss p.time ns fs (line_time p p.fields) a) (subst (λ (t : ℤ). AreRoomedInPart rs lows t ns us ts) at part))
+    (parts_gain rs lows cs p.time ns fs us ts h (staged_at cs ss p.time ns fs (line_time p p.fields) a) (subst (λ (t : ℤ). AreCreatedInPart rs lows t ns us ts) at part))
 
 -- for all of them
-pub all_gained : (rs : List Rule) (lows : List ℤ) (time : ℤ) (ns : List ℕ) (us ts : List RollupState) → ts ≡ roomed_under rs lows time ns us → AreRoomedInPart rs lows time ns us ts
-all_gained rs lows time ns us ts made = subst (AreRoomedInPart rs lows time ns us) (sym made) (all_now rs lows time ns us)
+pub all_gained : (rs : List Rule) (lows : List ℤ) (time : ℤ) (ns : List ℕ) (us ts : List RollupState) → ts ≡ cells_created_under rs lows time ns us → AreCreatedInPart rs lows time ns us ts
+all_gained rs lows time ns us ts made = subst (AreCreatedInPart rs lows time ns us) (sym made) (all_now rs lows time ns us)

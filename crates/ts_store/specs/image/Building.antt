@@ -138,7 +138,7 @@ pub record IsBuiltFrom (b : Built) (k : StoreData) : Type 0 where
   pub columns : k.columns ≡ b.columns
   pub waiting : k.waiting ≡ waiting_of b.columns b.waits
   pub cells : OfEachRule (PutsCells (facts_of b.columns)) b.settings.rules b.marks.lows b.cells k.cells
-  pub rooms : HaveCells b.settings.rules b.marks.lows (facts_of b.columns) k.cells
+  pub has_cells : HaveCells b.settings.rules b.marks.lows (facts_of b.columns) k.cells
   pub live : AreLive b.columns b.settings.rules k.cells
 
 -- ---- codes

@@ -10,7 +10,7 @@ use Rattle.ts_core.specs.aggregates.Aggregates.{empty_aggregate, merged}
 use Rattle.ts_core.specs.store.Cells.{Cell, cell_of, is_rolled, total_of}
 use Rattle.ts_core.specs.store.StoreStates.{CellParts, column_of, facts_of}
 use Rattle.ts_core.specs.store.StoreData.{CellMap, AreLive}
-use Rattle.ts_line.specs.Names.{IsKey, IsNamed}
+use Rattle.ts_line.specs.Names.{IsKey, IsStatable}
 use Rattle.ts_store.specs.image.Building.{Built, HaveCells}
 use Rattle.ts_store.specs.store.CellIndices.{HasIndices, HaveIndices}
 use Rattle.ts_store.specs.store.ColumnStates.{StoreContent, AreKnown}
@@ -44,7 +44,7 @@ pub record IsInOrder (settings : Settings) (held : StoreContent) (passed : List 
   pub each : length passed ≡ length held.columns
   pub idle : AreIdle (cells_of held.rollups)
   pub few : length held.series ≤ 1000000
-  pub named : (s : Series) → Among s held.series → IsNamed s
+  pub named : (s : Series) → Among s held.series → IsStatable s
   pub keys : (c : Column) → Among c (map column_of held.columns) → IsKey c.field
 
 -- ---- cells of raw facts
@@ -79,12 +79,12 @@ AreFilledBut left all [] ms = Unit {0}
 AreFilledBut left all (r ∷ rs) [] = Unit {0}
 AreFilledBut left all (r ∷ rs) (m ∷ ms) = IsFilledBut left all r m × AreFilledBut left all rs ms
 
--- the missing cells of raw facts are created, and the facts are added to empty live parts; series, columns and lanes
--- stay
+-- the missing cells of raw facts are created, and the facts are added to empty live parts; series, columns and rollup
+-- series stay
 pub record FillsCells (rules : List Rule) (lows : List ℤ) (old new : StoreContent) : Type 0 where
   pub others : new ≡ content_with_cells (cells_of new.rollups) old
   pub cells : OfEachRule (PutsCells (facts_of old.columns)) rules lows (cells_of old.rollups) (cells_of new.rollups)
-  pub rooms : HaveCells rules lows (facts_of old.columns) (cells_of new.rollups)
+  pub has_cells : HaveCells rules lows (facts_of old.columns) (cells_of new.rollups)
   pub live : AreLive old.columns rules (cells_of new.rollups)
   pub indices : HaveIndices rules (cells_of old.rollups) → HaveIndices rules (cells_of new.rollups)
   pub known : AreKnown new

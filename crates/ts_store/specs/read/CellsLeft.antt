@@ -6,4 +6,4 @@ use Rattle.ts_store.specs.declared.read.cell_walk.CellsSource.TheVariants as var
 
 abbrev pub cells_left : {A : Type 0} → declared.CellsSource A → List SeenCell
 cells_left (variants.Rollup cells) = cells
-cells_left (variants.Lent cells) = cells
+cells_left (variants.Borrowed cells) = cells

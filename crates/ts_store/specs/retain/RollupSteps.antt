@@ -11,7 +11,7 @@ use Rattle.ts_raw.specs.Columns.{ColumnState}
 use Rattle.ts_store.specs.store.ColumnStates.{StoreContent, with_points, point_maps}
 use Rattle.ts_store.specs.rollup.Rollups.{RollupState, with_frozen, cells_of}
 
--- other cells for each rule, under the same lanes
+-- other cells for each rule, under the same rollup series
 abbrev pub with_frozen_all : List CellMap → List RollupState → List RollupState
 with_frozen_all ms [] = []
 with_frozen_all [] (s ∷ ss) = s ∷ ss

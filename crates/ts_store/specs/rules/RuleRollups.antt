@@ -9,17 +9,17 @@ use Rattle.ts_core.specs.moves.RuleMoves.{IsFresh}
 use Rattle.ts_store.specs.store.CellIndices.{HasIndices}
 use Rattle.ts_store.specs.store.ColumnStates.{StoreContent}
 use Rattle.ts_store.specs.store.Inventories.{AreFilled}
-use Rattle.ts_store.specs.rollup.Rollups.{RollupState, HaveLanes}
+use Rattle.ts_store.specs.rollup.Rollups.{RollupState, HaveRollupSeries}
 
--- the first of these columns have their lanes, and there are no cells yet
-pub record HasFirstLanes (r : Rule) (columns : List Column) (n : ℕ) (s : RollupState) : Type 0 where
-  pub lanes : HaveLanes r s.grid.lanes (take n columns) s.lanes
-  pub many : length s.lanes ≡ n
+-- the first of these columns have their rollup series, and there are no cells yet
+pub record HasFirstRollupSeries (r : Rule) (columns : List Column) (n : ℕ) (s : RollupState) : Type 0 where
+  pub series_list : HaveRollupSeries r s.grid.series_list (take n columns) s.series_list
+  pub many : length s.series_list ≡ n
   pub cells : s.grid.cells ≡ finmap.empty
 
--- each column has its lane, and the rollup has exactly the cells of the raw facts from the low index on
+-- each column has its rollup series, and the rollup has exactly the cells of the raw facts from the low index on
 pub record IsRollupOf (held : StoreContent) (r : Rule) (low : ℤ) (s : RollupState) : Type 0 where
-  pub lanes : HaveLanes r s.grid.lanes (map column_of held.columns) s.lanes
+  pub series_list : HaveRollupSeries r s.grid.series_list (map column_of held.columns) s.series_list
   pub fresh : IsFresh r low (facts_of held.columns) s.grid.cells
   pub filled : AreFilled (facts_of held.columns) r low (finmap.keys s.grid.cells)
   pub indices : HasIndices r s.grid.cells

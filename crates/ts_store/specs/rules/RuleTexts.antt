@@ -12,7 +12,7 @@ use Rattle.ts_core.specs.declared.settings.settings_fault.SettingsFault.TheVaria
 use Rattle.ts_core.specs.store.History.{AddRule, DropRule, settings_of, raw_mark}
 use Rattle.ts_core.specs.store.Marks.{first_from}
 use Rattle.ts_core.specs.store.StoreData.{StoreData}
-use Rattle.ts_store.specs.write.LineTexts.{State}
+use Rattle.ts_store.specs.write.LineTexts.{LineState}
 use Rattle.ts_store.specs.rules.RulesChanged.{RuleComes}
 use Rattle.ts_store.specs.declared.rules.rule_text.AddedRule.{AddedRule}
 
@@ -31,19 +31,19 @@ rule_for s text = rule_or_fault s (rule_read text)
 
 -- ---- the state of a store
 
-abbrev pub settings_in : State → Settings
+abbrev pub settings_in : LineState → Settings
 settings_in s = settings_of s.opening s.history
 
 -- the index that a rule starts with if it is added: that of the first bucket at or above the raw mark
-abbrev pub low_in : State → Rule → ℤ
+abbrev pub low_in : LineState → Rule → ℤ
 low_in s r = first_from r (raw_mark s.opening s.history)
 
 -- a rule is added
-abbrev pub with_rule_added : Rule → State → State
+abbrev pub with_rule_added : Rule → LineState → LineState
 with_rule_added r s = record s { history = AddRule r ∷ s.history }
 
 -- the rule with this name is dropped
-abbrev pub with_rule_dropped : Text → State → State
+abbrev pub with_rule_dropped : Text → LineState → LineState
 with_rule_dropped name s = record s { history = DropRule name ∷ s.history }
 
 -- ---- the call that adds the rule of a text

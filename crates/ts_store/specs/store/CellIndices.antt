@@ -10,12 +10,12 @@ use Rattle.ts_core.specs.store.Cells.{Cell}
 use Rattle.ts_core.specs.store.StoreData.{CellMap}
 
 -- some valid time is in the bucket
-abbrev pub IsIndex : Rule → ℤ → Type 0
-IsIndex r i = (t : ℤ) × IsTime t × (index_of r t ≡ i)
+abbrev pub IsBucketIndex : Rule → ℤ → Type 0
+IsBucketIndex r i = (t : ℤ) × IsTime t × (index_of r t ≡ i)
 
 -- the bucket of each cell of a rule contains a valid time
 abbrev pub HasIndices : Rule → CellMap → Type 0
-HasIndices r m = (k : Cell) → Among k (finmap.keys m) → IsIndex r k.index
+HasIndices r m = (k : Cell) → Among k (finmap.keys m) → IsBucketIndex r k.index
 
 -- the same for each rule
 abbrev pub HaveIndices : List Rule → List CellMap → Type 0

@@ -32,7 +32,7 @@ abbrev pub facts_of_columns : List Column → List PointMap → List Fact
 facts_of_columns cs ms = facts_of (with_points cs ms)
 
 abbrev pub no_column : ColumnState
-no_column = record { points = finmap.empty; aside = None }
+no_column = record { points = finmap.empty; staged = None }
 
 -- the column was there, or it is appended without points
 abbrev pub MayGrow : Column → List Column → List ColumnState → List Column → List ColumnState → Type 0
@@ -50,16 +50,16 @@ pub record IsColumnFor {E : Type 0} (c : Column) (before : Indexed) (states : Li
 
 -- ---- staged points
 
-abbrev pub with_point_aside : ColumnState → ℤ → ℤ → ColumnState
-with_point_aside s time value = record { points = s.points; aside = Some (time, value) }
+abbrev pub with_point_staged : ColumnState → ℤ → ℤ → ColumnState
+with_point_staged s time value = record { points = s.points; staged = Some (time, value) }
 
 -- inserts the staged point
-abbrev pub with_aside : PointMap → Option (ℤ × ℤ) → PointMap
-with_aside points None = points
-with_aside points (Some p) = finmap.insert points p.0 p.1
+abbrev pub with_staged : PointMap → Option (ℤ × ℤ) → PointMap
+with_staged points None = points
+with_staged points (Some p) = finmap.insert points p.0 p.1
 
 abbrev pub committed : ColumnState → ColumnState
-committed s = record { points = with_aside s.points s.aside; aside = None }
+committed s = record { points = with_staged s.points s.staged; staged = None }
 
 -- commits the staged point of each of these columns
 abbrev pub all_committed : List ColumnState → List ℕ → List ColumnState
@@ -69,15 +69,15 @@ all_committed states (n ∷ ns) = all_committed (set states n (committed (get_or
 -- each of these columns exists and has a staged point; the indices are distinct
 abbrev pub AreReady : List ColumnState → List ℕ → Type 0
 AreReady states [] = Unit {0}
-AreReady states (n ∷ ns) = (n < length states) × IsSome (get_or states n no_column).aside × (Among n ns → ⊥) × AreReady states ns
+AreReady states (n ∷ ns) = (n < length states) × IsSome (get_or states n no_column).staged × (Among n ns → ⊥) × AreReady states ns
 
 -- the facts are staged, each in its column; the columns are those with these indices
-abbrev pub AreAside : List Column → List ColumnState → List ℕ → List Fact → Type 0
-AreAside columns states [] [] = Unit {0}
-AreAside columns states [] (f ∷ fs) = ⊥
-AreAside columns states (n ∷ ns) [] = ⊥
-AreAside columns states (n ∷ ns) (f ∷ fs) =
-    (slice_get columns n ≡ Some f.column) × ((get_or states n no_column).aside ≡ Some (f.time, f.value)) × AreAside columns states ns fs
+abbrev pub AreStaged : List Column → List ColumnState → List ℕ → List Fact → Type 0
+AreStaged columns states [] [] = Unit {0}
+AreStaged columns states [] (f ∷ fs) = ⊥
+AreStaged columns states (n ∷ ns) [] = ⊥
+AreStaged columns states (n ∷ ns) (f ∷ fs) =
+    (slice_get columns n ≡ Some f.column) × ((get_or states n no_column).staged ≡ Some (f.time, f.value)) × AreStaged columns states ns fs
 
 -- ---- an index with the points of its columns, and with rollups
 

@@ -10,7 +10,7 @@ use Rattle.ts_core.specs.store.Marks.{index_of}
 use Rattle.ts_core.specs.store.Cells.{cell_of, is_rolled}
 use Rattle.ts_core.specs.store.StoreStates.{RuleCells, column_of, facts_of}
 use Rattle.ts_core.specs.store.StoreData.{StoreData, rules_of}
-use Rattle.ts_line.specs.Names.{IsKey, IsNamed}
+use Rattle.ts_line.specs.Names.{IsKey, IsStatable}
 
 -- The low index of a rule is at least that of the least time, and at most one more than that of the raw mark. From its
 -- low index on, the rule has the cell of each of these raw facts that it rolls up.
@@ -27,7 +27,7 @@ pub record IsSized (k : StoreData) : Type 0 where
   pub accepted : k.accepted ≤ 2 ^ 62
   pub facts : length (facts_of k.columns) ≤ k.accepted
   pub series : length k.series ≤ 1000000
-  pub named : (s : Series) → Among s k.series → IsNamed s
+  pub named : (s : Series) → Among s k.series → IsStatable s
   pub columns : AllDistinct (map column_of k.columns)
   pub registered : (c : Column) → Among c (map column_of k.columns) → Among c.series k.series
   pub keys : (c : Column) → Among c (map column_of k.columns) → IsKey c.field

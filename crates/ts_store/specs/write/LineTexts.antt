@@ -26,30 +26,30 @@ use Rattle.ts_store.specs.declared.write.write_text.LineRefusal.{LineRefusal}
 use Rattle.ts_store.specs.declared.write.write_text.LineRefusal.TheVariants.{Parse, Write}
 
 -- the settings that a store opened with, the events since, and its registered series
-pub record State : Type 0 where
+pub record LineState : Type 0 where
   pub opening : Settings
   pub history : History
   pub series : List Series
 
 -- the state of a new store with these settings
-abbrev pub opened : Settings → State
+abbrev pub opened : Settings → LineState
 opened settings = record { opening = settings; history = []; series = [] }
 
 -- a store is in this state
-pub record IsIn (s : State) (k : StoreData) : Type 0 where
+pub record IsIn (s : LineState) (k : StoreData) : Type 0 where
   pub stands : StandsFor s.opening s.history (state_of k)
   pub series : k.series ≡ s.series
 
 -- accepts a line's facts, and registers these series
-abbrev pub with_line : Parts → List Series → State → State
+abbrev pub with_line : Parts → List Series → LineState → LineState
 with_line parts series s = record s { history = Line (line_facts parts) ∷ s.history; series = series }
 
 -- registers these series
-abbrev pub with_series : List Series → State → State
+abbrev pub with_series : List Series → LineState → LineState
 with_series series s = record s { series = series }
 
 -- the error of a refused line
-abbrev pub refusal_in : State → Parts → Option WriteFault
+abbrev pub refusal_in : LineState → Parts → Option WriteFault
 refusal_in s parts = write_fault (marks_of s.opening s.history).raw s.series (length (accepted s.history)) parts
 
 -- ---- outcomes
@@ -77,7 +77,7 @@ module _ (precision : TimeUnit) (now : ℤ) where
   parts_in text = line_of (nanoseconds_of precision) now text
 
   -- From `old`, a text may have this outcome and lead to that state.
-  pub data WritesText (old : State) (text : Text) : LineOutcome → State → Type 0 where
+  pub data WritesText (old : LineState) (text : Text) : LineOutcome → LineState → Type 0 where
     -- its series is registered if needed, and its facts are accepted
     accepts : (parts : Parts) (series : List Series) → parts_in text ≡ Ok (Some parts) → refusal_in old parts ≡ None → Gains old.series series (series_of parts) → WritesText old text Accepted (with_line parts series old)
     -- a comment or a blank line
@@ -87,17 +87,17 @@ module _ (precision : TimeUnit) (now : ℤ) where
 
   -- From `old`, a text that runs out of memory may lead to that state: its series may be registered. A comment, a blank
   -- line or a text that is too long needs no memory.
-  pub data RunsOutOfMemory (old : State) (text : Text) : State → Type 0 where
+  pub data RunsOutOfMemory (old : LineState) (text : Text) : LineState → Type 0 where
     in_parsing : NeedsMemory (nanoseconds_of precision) now text → RunsOutOfMemory old text old
     in_writing : (parts : Parts) (series : List Series) → parts_in text ≡ Ok (Some parts) → refusal_in old parts ≡ None → MayGain old.series series (series_of parts) → RunsOutOfMemory old text (with_series series old)
 
   -- the effect of a call on a store that was in this state
-  abbrev pub WritesFrom : State → Text → {E : Type 0} → Result LineOutcome E → StoreData → Type 0
-  WritesFrom old text (Ok outcome) k = (new : State) × WritesText old text outcome new × IsIn new k
-  WritesFrom old text (Err e) k = (new : State) × RunsOutOfMemory old text new × IsIn new k
+  abbrev pub WritesFrom : LineState → Text → {E : Type 0} → Result LineOutcome E → StoreData → Type 0
+  WritesFrom old text (Ok outcome) k = (new : LineState) × WritesText old text outcome new × IsIn new k
+  WritesFrom old text (Err e) k = (new : LineState) × RunsOutOfMemory old text new × IsIn new k
 
 -- the effect of a call with the parts of a text on a store that was in this state
-abbrev pub WritesParts : State → Parts → {E : Type 0} → Result LineOutcome E → StoreData → Type 0
+abbrev pub WritesParts : LineState → Parts → {E : Type 0} → Result LineOutcome E → StoreData → Type 0
 WritesParts s parts (Ok Accepted) k = (refusal_in s parts ≡ None) × ((series : List Series) × Gains s.series series (series_of parts) × IsIn (with_line parts series s) k)
 WritesParts s parts (Ok NoLine) k = ⊥
 WritesParts s parts (Ok (Refused (Parse fault))) k = ⊥

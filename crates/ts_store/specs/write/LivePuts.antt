@@ -6,17 +6,17 @@ use Rattle.ts_core.specs.settings.Settings.{Rule}
 use Rattle.ts_core.specs.store.StoreStates.{ColumnPoints, facts_of}
 use Rattle.ts_core.specs.moves.StoreLaws.{IsOldOf}
 use Rattle.ts_core.specs.store.StoreData.{CellMap, AreLive}
-use Rattle.ts_core.specs.moves.StoreMoves.{PutsFact, HaveRoom}
+use Rattle.ts_core.specs.moves.StoreMoves.{PutsFact, GainEmptyCells}
 use Rattle.ts_line.specs.Parts.{LinePart}
 use Rattle.ts_raw.specs.Columns.{ColumnState}
 use Rattle.ts_store.specs.store.ColumnStates.{with_points, point_maps}
-use Rattle.ts_store.specs.rollup.Rollups.{RollupState, HaveLanes}
+use Rattle.ts_store.specs.rollup.Rollups.{RollupState, HaveRollupSeries}
 
--- the columns of these names have these points, and a lane each
+-- the columns of these names have these points, and a rollup series each
 pub record IsOver (r : Rule) (cs : List Column) (states : List ColumnState) (s : RollupState) : Type 0 where
   pub each : length states ≡ length cs
   pub once : AllDistinct cs
-  pub lanes : HaveLanes r s.grid.lanes cs s.lanes
+  pub series_list : HaveRollupSeries r s.grid.series_list cs s.series_list
 
 -- the id of the fact had this value, or none
 abbrev pub WasThere : List ColumnPoints → Fact → Option ℤ → Type 0
@@ -24,7 +24,7 @@ WasThere before f None = (g : Fact) → Among g (facts_of before) → same_id (i
 WasThere before f (Some v) = IsOldOf before f (record { column = f.column; time = f.time; value = v })
 
 -- the fact was inserted into the column with this index, whose value there was this, or none
-pub record IsPut (cs : List Column) (states : List ColumnState) (before : List ColumnPoints) (n : ℕ) (f : Fact) (old : Option ℤ) : Type 0 where
+pub record IsLivePut (cs : List Column) (states : List ColumnState) (before : List ColumnPoints) (n : ℕ) (f : Fact) (old : Option ℤ) : Type 0 where
   pub at : slice_get cs n ≡ Some f.column
   pub distinct : AllDistinct (facts_of before)
   pub put : PutsFact before (with_points cs (point_maps states)) f
@@ -40,4 +40,4 @@ AreOfFields time (x ∷ xs) (f ∷ fs) = (f.time ≡ time) × (f.value ≡ x.1) 
 
 -- with more cells created, the live part of each existing cell is still that of its raw facts
 abbrev pub StayLive : List Rule → List ℤ → List ColumnPoints → List CellMap → Type 0
-StayLive rs lows columns ms = (facts : List Fact) (ns : List CellMap) → HaveRoom rs lows facts ms ns → AreLive columns rs ns
+StayLive rs lows columns ms = (facts : List Fact) (ns : List CellMap) → GainEmptyCells rs lows facts ms ns → AreLive columns rs ns

@@ -8,7 +8,7 @@ ghost use Rattle.ts_core.specs.lists.Members.{Among};
 ghost use Rattle.ts_core.specs.lists.Numbered.{IsAt};
 ghost use Rattle.ts_core.specs.settings.Settings.{Rule as RuleValue};
 ghost use Rattle.ts_core.specs.store.StoreStates.{column_of};
-ghost use Rattle.ts_cells.specs.Grids.{cell_at, lane_named};
+ghost use Rattle.ts_cells.specs.Grids.{cell_at, rollup_series_named};
 ghost use Rattle.ts_raw.specs.Columns.{AreTimed};
 ghost use Rattle.ts_raw.specs.PlainColumns.{IsRising};
 ghost use Rattle.ts_store.specs.image.Building.{cell_map_at};
@@ -78,11 +78,11 @@ impl<A: Allocator + Copy> ColumnFacts<A> {
         frozen: Agg,
     ) -> Result<(), AllocError>
         requires rule { rule < length self.old.rollups }
-        requires absent { finmap.get (cell_map_at (cells_of self.old.rollups) rule) (cell_at index.now (lane_named field.now group.now)) ≡ None }
+        requires absent { finmap.get (cell_map_at (cells_of self.old.rollups) rule) (cell_at index.now (rollup_series_named field.now group.now)) ≡ None }
         ensures columns { self.new.columns ≡ self.old.columns }
         ensures series { self.new.series ≡ self.old.series }
         ensures rollups { (rules : List RuleValue) → AreRollups rules (map column_of self.old.columns) self.old.rollups → AreRollups rules (map column_of self.old.columns) self.new.rollups }
-        ensures ok { OnOk result (cells_of self.new.rollups ≡ set (cells_of self.old.rollups) rule (finmap.insert (cell_map_at (cells_of self.old.rollups) rule) (cell_at index.now (lane_named field.now group.now)) (record { frozen = frozen; live = empty_aggregate }))) }
+        ensures ok { OnOk result (cells_of self.new.rollups ≡ set (cells_of self.old.rollups) rule (finmap.insert (cell_map_at (cells_of self.old.rollups) rule) (cell_at index.now (rollup_series_named field.now group.now)) (record { frozen = frozen; live = empty_aggregate }))) }
         ensures err { OnErr result (cells_of self.new.rollups ≡ cells_of self.old.rollups) }
     {
         self.rollups[rule].add_cell(index, field, group, frozen)

@@ -133,7 +133,7 @@ impl<'a, A: Allocator> Model for SliceCells<'a, A> {
 #[derive(Drop)]
 enum CellsSource<'a, A: Allocator> {
     Rollup(RollupCells<'a, A>),
-    Lent(SliceCells<'a, A>),
+    Borrowed(SliceCells<'a, A>),
 }
 
 /// Iterator over the cells of a rule. Its model is the list of those that remain.
@@ -154,11 +154,11 @@ impl<'a, A: Allocator> Model for CellWalk<'a, A> {
 
 impl<'a, A: Allocator> CellWalk<'a, A> {
     /// Creates an iterator over these cells, for views that aren't stores.
-    pub fn lent(cells: &'a [ViewCell<'a, A>]) -> CellWalk<'a, A>
+    pub fn from_slice(cells: &'a [ViewCell<'a, A>]) -> CellWalk<'a, A>
         ensures { result ≡ cells.now }
     {
         CellWalk {
-            left: CellsSource::Lent(SliceCells { cells, given: 0 }),
+            left: CellsSource::Borrowed(SliceCells { cells, given: 0 }),
         }
     }
 }
@@ -230,7 +230,7 @@ impl<'a, A: Allocator + Copy> Iterator for CellWalk<'a, A> {
     fn next(&mut self) -> Option<ViewCell<'a, A>> {
         match &mut self.left {
             CellsSource::Rollup(cells) => cells.next(),
-            CellsSource::Lent(cells) => cells.next(),
+            CellsSource::Borrowed(cells) => cells.next(),
         }
     }
 }

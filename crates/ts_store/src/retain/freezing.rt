@@ -5,7 +5,7 @@ ghost use Rattle.std.specs.List.{AllByRecursion};
 ghost use Rattle.ts_core.specs.facts.Facts.{Column};
 ghost use Rattle.ts_core.specs.moves.StoreMoves.{frozen_points, refolded_points, moved_cells, all_moved, points_below};
 ghost use Rattle.ts_core.specs.lists.Numbered.{IsAt};
-ghost use Rattle.ts_store.specs.rollup.Rollups.{IsLaneOf, AreRollups, lane_at, with_frozen, cells_of};
+ghost use Rattle.ts_store.specs.rollup.Rollups.{IsRollupSeriesOf, AreRollups, rollup_series_at, with_frozen, cells_of};
 ghost use Rattle.ts_core.specs.lists.Members.{AllDistinct};
 ghost use Rattle.ts_store.specs.store.ColumnStates.{no_column};
 ghost use Rattle.ts_store.specs.write.LivePuts.{IsOver};
@@ -14,7 +14,7 @@ ghost use Rattle.ts_store.specs.retain.RollupSteps.{FreezesFit, FreezeFit, facts
 
 use crate::retain::points_below::PointsBelow;
 use crate::rollup::Rollup;
-use crate::rollup::live_parts::lane_left;
+use crate::rollup::live_parts::rollup_series_left;
 use crate::store::column_facts::StoredColumn;
 use std::alloc::Allocator;
 use ts_core::{Agg, Partial, Rule, Time, index_of};
@@ -28,10 +28,10 @@ fn freeze_points<A: Allocator + Copy>(
     points: PointsBelow<'_>,
 )
     requires interval { pos 1 ≤ℤ rule.now.interval }
-    requires column { column < length rollup.old.lanes }
+    requires column { column < length rollup.old.series_list }
     requires few { length points ≤ 2 ^ 62 }
-    ensures lanes { rollup.new ≡ with_frozen rollup.new.grid.cells rollup.old }
-    ensures cells { (c : Column) (l : ℕ) → lane_at rollup.old column ≡ Some l → IsLaneOf rule.now c rollup.old.grid.lanes (Some l) → FreezesFit rule.now c points.entry rollup.old.grid.cells → rollup.new.grid.cells ≡ frozen_points rule.now c points.entry rollup.old.grid.cells }
+    ensures series_list { rollup.new ≡ with_frozen rollup.new.grid.cells rollup.old }
+    ensures cells { (c : Column) (l : ℕ) → rollup_series_at rollup.old column ≡ Some l → IsRollupSeriesOf rule.now c rollup.old.grid.series_list (Some l) → FreezesFit rule.now c points.entry rollup.old.grid.cells → rollup.new.grid.cells ≡ frozen_points rule.now c points.entry rollup.old.grid.cells }
 {
     let mut bucket = 0;
     let mut folded = Agg::empty();
@@ -67,20 +67,20 @@ fn refold_points<A: Allocator + Copy>(
 )
     requires interval { pos 1 ≤ℤ rule.now.interval }
     requires column { column < length columns.now }
-    requires each { length rollup.old.lanes ≡ length columns.now }
+    requires each { length rollup.old.series_list ≡ length columns.now }
     requires few { number_of_points columns.now ≤ 2 ^ 62 }
-    ensures lanes { rollup.new ≡ with_frozen rollup.new.grid.cells rollup.old }
-    ensures cells { (cs : List Column) (c : Column) (l : ℕ) → lane_at rollup.old column ≡ Some l → IsOver rule.now cs columns.now rollup.old → IsAt cs column c → rollup.new.grid.cells ≡ refolded_points rule.now c (points_below mark (finmap.entries (get_or columns.now column no_column).points)) (facts_left mark c cs columns.now) rollup.old.grid.cells }
+    ensures series_list { rollup.new ≡ with_frozen rollup.new.grid.cells rollup.old }
+    ensures cells { (cs : List Column) (c : Column) (l : ℕ) → rollup_series_at rollup.old column ≡ Some l → IsOver rule.now cs columns.now rollup.old → IsAt cs column c → rollup.new.grid.cells ≡ refolded_points rule.now c (points_below mark (finmap.entries (get_or columns.now column no_column).points)) (facts_left mark c cs columns.now) rollup.old.grid.cells }
 {
-    let Some(lane) = rollup.lane_of(column) else {
+    let Some(series) = rollup.rollup_series_of(column) else {
         return;
     };
     let mut last = None;
     for (time, _) in PointsBelow::of(&columns[column], mark) {
         let index = index_of(rule, i128::from(time.nanos()));
         if !is_last(&last, &index) {
-            let live = lane_left(rule, rollup, columns, lane, &index, column, mark);
-            rollup.correct(&index, lane, live);
+            let live = rollup_series_left(rule, rollup, columns, series, &index, column, mark);
+            rollup.correct(&index, series, live);
             last = Some(index);
         }
     }
@@ -97,7 +97,7 @@ fn move_points<A: Allocator + Copy>(
 )
     requires interval { pos 1 ≤ℤ rule.now.interval }
     requires column { column < length columns.now }
-    requires each { length rollup.old.lanes ≡ length columns.now }
+    requires each { length rollup.old.series_list ≡ length columns.now }
     requires few { number_of_points columns.now ≤ 2 ^ 62 }
     ensures { (cs : List Column) (c : Column) → IsOver rule.now cs columns.now rollup.old → IsAt cs column c → FreezesFit rule.now c (points_below mark (finmap.entries (get_or columns.now column no_column).points)) rollup.old.grid.cells → rollup.new ≡ with_frozen (moved_cells rule.now c (points_below mark (finmap.entries (get_or columns.now column no_column).points)) (facts_left mark c cs columns.now) rollup.old.grid.cells) rollup.old }
 {
@@ -123,7 +123,7 @@ pub(crate) fn move_all<A: Allocator + Copy>(
 )
     requires intervals { AllByRecursion (λ r. pos 1 ≤ℤ r.interval) rules.now }
     requires column { column < length columns.now }
-    requires each { AllByRecursion (λ s. length s.lanes ≡ length columns.now) rollups.old }
+    requires each { AllByRecursion (λ s. length s.series_list ≡ length columns.now) rollups.old }
     requires few { number_of_points columns.now ≤ 2 ^ 62 }
     ensures { (cs : List Column) (c : Column) → length columns.now ≡ length cs → AllDistinct cs → AreRollups rules.now cs rollups.old → IsAt cs column c → FreezeFit rules.now c (points_below mark (finmap.entries (get_or columns.now column no_column).points)) (cells_of rollups.old) → rollups.new ≡ with_frozen_all (all_moved rules.now c (points_below mark (finmap.entries (get_or columns.now column no_column).points)) (facts_left mark c cs columns.now) (cells_of rollups.old)) rollups.old }
 {

@@ -11,7 +11,7 @@ ghost use Rattle.ts_store.specs.store.ColumnStates.{with_points, point_maps};
 ghost use Rattle.ts_store.specs.write.LinesPut.{OfEachRule};
 ghost use Rattle.ts_store.specs.read.PointsRead.{number_of_points};
 ghost use Rattle.ts_store.specs.retain.RollupSteps.{with_frozen_all};
-ghost use Rattle.ts_store.specs.rollup.Rollups.{AreRollups, IsLaneOf, cells_of, lane_at, with_frozen};
+ghost use Rattle.ts_store.specs.rollup.Rollups.{AreRollups, IsRollupSeriesOf, cells_of, rollup_series_at, with_frozen};
 
 use crate::retain::freezing::is_last;
 use crate::rollup::Rollup;
@@ -37,18 +37,18 @@ fn make_cells<A: Allocator + Copy>(
     points: Points<'_>,
 ) -> Result<(), AllocError>
     requires interval { pos 1 ≤ℤ rule.now.interval }
-    requires column { column < length rollup.old.lanes }
-    ensures lanes { rollup.new ≡ with_frozen rollup.new.grid.cells rollup.old }
-    ensures cells { (c : Column) → IsLaneOf rule.now c rollup.old.grid.lanes (lane_at rollup.old column) → OnOk result (MakesCells (facts_at c points.entry) rule.now low.now rollup.old.grid.cells rollup.new.grid.cells) }
+    requires column { column < length rollup.old.series_list }
+    ensures series_list { rollup.new ≡ with_frozen rollup.new.grid.cells rollup.old }
+    ensures cells { (c : Column) → IsRollupSeriesOf rule.now c rollup.old.grid.series_list (rollup_series_at rollup.old column) → OnOk result (MakesCells (facts_at c points.entry) rule.now low.now rollup.old.grid.cells rollup.new.grid.cells) }
 {
-    let Some(lane) = rollup.lane_of(column) else {
+    let Some(series) = rollup.rollup_series_of(column) else {
         return Ok(());
     };
     let mut last = None;
     for (time, _) in points {
         let index = index_of(rule, i128::from(time.nanos()));
         if is_needed(&index, low, &last) {
-            rollup.make_room_in(lane, &index)?;
+            rollup.make_room_in(series, &index)?;
             last = Some(index);
         }
     }
@@ -64,8 +64,8 @@ fn make_under_all<A: Allocator + Copy>(
     column: &StoredColumn<A>,
 ) -> Result<(), AllocError>
     requires intervals { AllByRecursion (λ r. pos 1 ≤ℤ r.interval) rules.now }
-    requires inside { AllByRecursion (λ s. number < length s.lanes) rollups.old }
-    ensures lanes { rollups.new ≡ with_frozen_all (cells_of rollups.new) rollups.old }
+    requires inside { AllByRecursion (λ s. number < length s.series_list) rollups.old }
+    ensures series_list { rollups.new ≡ with_frozen_all (cells_of rollups.new) rollups.old }
     ensures cells { (cs : List Column) (c : Column) → IsAt cs number c → AreRollups rules.now cs rollups.old → OnOk result (OfEachRule (MakesCells (facts_at c (finmap.entries column.now.points))) rules.now lows.now (cells_of rollups.old) (cells_of rollups.new)) }
 {
     let Some((rule, rules)) = rules.split_first() else {
@@ -89,8 +89,8 @@ pub(crate) fn make_all_cells<A: Allocator + Copy>(
     columns: &[StoredColumn<A>],
 ) -> Result<(), AllocError>
     requires intervals { AllByRecursion (λ r. pos 1 ≤ℤ r.interval) rules.now }
-    requires each { AllByRecursion (λ s. length s.lanes ≡ length columns.now) rollups.old }
-    ensures lanes { rollups.new ≡ with_frozen_all (cells_of rollups.new) rollups.old }
+    requires each { AllByRecursion (λ s. length s.series_list ≡ length columns.now) rollups.old }
+    ensures series_list { rollups.new ≡ with_frozen_all (cells_of rollups.new) rollups.old }
     ensures cells { (cs : List Column) → length columns.now ≡ length cs → AreRollups rules.now cs rollups.old → OnOk result (OfEachRule (MakesCells (facts_of (with_points cs (point_maps columns.now)))) rules.now lows.now (cells_of rollups.old) (cells_of rollups.new)) }
 {
     for number in 0..columns.len() {
@@ -108,13 +108,13 @@ fn add_points<A: Allocator + Copy>(
     points: Points<'_>,
 )
     requires interval { pos 1 ≤ℤ rule.now.interval }
-    requires column { column < length rollup.old.lanes }
+    requires column { column < length rollup.old.series_list }
     requires few { length points ≤ 2 ^ 62 }
-    ensures lanes { rollup.new ≡ with_frozen rollup.new.grid.cells rollup.old }
+    ensures series_list { rollup.new ≡ with_frozen rollup.new.grid.cells rollup.old }
     ensures frozen { KeepsFrozen rollup.old.grid.cells rollup.new.grid.cells }
-    ensures live { (c : Column) (left all : List Fact) → IsLaneOf rule.now c rollup.old.grid.lanes (lane_at rollup.old column) → length all ≤ 2 ^ 62 → IsFilledBut (facts_at c points.entry ++ left) all rule.now rollup.old.grid.cells → IsFilledBut left all rule.now rollup.new.grid.cells }
+    ensures live { (c : Column) (left all : List Fact) → IsRollupSeriesOf rule.now c rollup.old.grid.series_list (rollup_series_at rollup.old column) → length all ≤ 2 ^ 62 → IsFilledBut (facts_at c points.entry ++ left) all rule.now rollup.old.grid.cells → IsFilledBut left all rule.now rollup.new.grid.cells }
 {
-    let Some(lane) = rollup.lane_of(column) else {
+    let Some(series) = rollup.rollup_series_of(column) else {
         return;
     };
     let mut bucket = 0;
@@ -122,13 +122,13 @@ fn add_points<A: Allocator + Copy>(
     for (time, value) in points {
         let index = index_of(rule, i128::from(time.nanos()));
         if index != bucket {
-            rollup.add(&bucket, lane, folded);
+            rollup.add(&bucket, series, folded);
             bucket = index;
             folded = Agg::empty();
         }
         folded = folded.merge(Agg::single(time, value));
     }
-    rollup.add(&bucket, lane, folded);
+    rollup.add(&bucket, series, folded);
 }
 
 /// Does the same under each rule.
@@ -139,9 +139,9 @@ fn add_under_all<A: Allocator + Copy>(
     column: &StoredColumn<A>,
 )
     requires intervals { AllByRecursion (λ r. pos 1 ≤ℤ r.interval) rules.now }
-    requires inside { AllByRecursion (λ s. number < length s.lanes) rollups.old }
+    requires inside { AllByRecursion (λ s. number < length s.series_list) rollups.old }
     requires few { finmap.len column.now.points ≤ 2 ^ 62 }
-    ensures lanes { rollups.new ≡ with_frozen_all (cells_of rollups.new) rollups.old }
+    ensures series_list { rollups.new ≡ with_frozen_all (cells_of rollups.new) rollups.old }
     ensures frozen { KeepFrozen (cells_of rollups.old) (cells_of rollups.new) }
     ensures live { (cs : List Column) (c : Column) (left all : List Fact) → IsAt cs number c → AreRollups rules.now cs rollups.old → length all ≤ 2 ^ 62 → AreFilledBut (facts_at c (finmap.entries column.now.points) ++ left) all rules.now (cells_of rollups.old) → AreFilledBut left all rules.now (cells_of rollups.new) }
 {
@@ -160,9 +160,9 @@ pub(crate) fn add_all_points<A: Allocator + Copy>(
     columns: &[StoredColumn<A>],
 )
     requires intervals { AllByRecursion (λ r. pos 1 ≤ℤ r.interval) rules.now }
-    requires each { AllByRecursion (λ s. length s.lanes ≡ length columns.now) rollups.old }
+    requires each { AllByRecursion (λ s. length s.series_list ≡ length columns.now) rollups.old }
     requires few { number_of_points columns.now ≤ 2 ^ 62 }
-    ensures lanes { rollups.new ≡ with_frozen_all (cells_of rollups.new) rollups.old }
+    ensures series_list { rollups.new ≡ with_frozen_all (cells_of rollups.new) rollups.old }
     ensures frozen { KeepFrozen (cells_of rollups.old) (cells_of rollups.new) }
     ensures live { (cs : List Column) → length columns.now ≡ length cs → AreRollups rules.now cs rollups.old → AreIdle (cells_of rollups.old) → AreLive (with_points cs (point_maps columns.now)) rules.now (cells_of rollups.new) }
 {

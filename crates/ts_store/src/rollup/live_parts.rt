@@ -2,13 +2,13 @@
 ghost use Rattle.std.specs.Prelude.{◌≡◌, ◌+◌, ◌<◌, ◌≤◌, ◌^◌, pos, ◌≤ℤ◌, length};
 ghost use Rattle.ts_core.specs.aggregates.Aggregates.{merged, aggregate_of_points};
 ghost use Rattle.ts_core.specs.lists.Members.{AllDistinct};
-ghost use Rattle.ts_store.specs.rollup.LivePoints.{points_since, left_states, lane_total as total_in};
+ghost use Rattle.ts_store.specs.rollup.LivePoints.{points_since, left_states, rollup_series_total as total_in};
 ghost use Rattle.ts_store.specs.read.PointsRead.{number_of_points};
 
 use crate::rollup::Rollup;
 use crate::store::column_facts::StoredColumn;
 use std::alloc::Allocator;
-use ts_cells::LaneId;
+use ts_cells::RollupSeriesId;
 use ts_core::{Agg, Partial, Rule, Time};
 use ts_raw::{Column, Points};
 
@@ -38,23 +38,23 @@ fn with_points_since(total: Agg, points: Points<'_>, mark: Time) -> Agg
     all
 }
 
-/// Returns the aggregate of a bucket's points in the columns of a lane.
-pub(crate) fn lane_total<A: Allocator + Copy>(
+/// Returns the aggregate of a bucket's points in the columns of a rollup series.
+pub(crate) fn rollup_series_total<A: Allocator + Copy>(
     rule: &Rule<A>,
     rollup: &Rollup<A>,
     columns: &[StoredColumn<A>],
-    lane: LaneId,
+    series: RollupSeriesId,
     index: &i128,
 ) -> Agg
     requires interval { pos 1 ≤ℤ rule.now.interval }
-    requires lane { lane < length rollup.now.grid.lanes }
-    requires each { length rollup.now.lanes ≡ length columns.now }
+    requires series { series < length rollup.now.grid.series_list }
+    requires each { length rollup.now.series_list ≡ length columns.now }
     requires few { number_of_points columns.now ≤ 2 ^ 62 }
-    ensures total { result ≡ total_in rule.now rollup.now columns.now lane index.now }
-    ensures once { AllDistinct rollup.now.grid.lanes }
+    ensures total { result ≡ total_in rule.now rollup.now columns.now series index.now }
+    ensures once { AllDistinct rollup.now.grid.series_list }
 {
     let mut total = Agg::empty();
-    for column in rollup.columns_of(lane) {
+    for column in rollup.columns_of(series) {
         let points = columns[column.number()].bucket(index, rule.interval(), rule.offset());
         total = with_points(total, points);
     }
@@ -62,25 +62,25 @@ pub(crate) fn lane_total<A: Allocator + Copy>(
 }
 
 /// Does the same, but leaves out the points of one column below a mark.
-pub(crate) fn lane_left<A: Allocator + Copy>(
+pub(crate) fn rollup_series_left<A: Allocator + Copy>(
     rule: &Rule<A>,
     rollup: &Rollup<A>,
     columns: &[StoredColumn<A>],
-    lane: LaneId,
+    series: RollupSeriesId,
     index: &i128,
     moved: usize,
     mark: Time,
 ) -> Agg
     requires interval { pos 1 ≤ℤ rule.now.interval }
-    requires lane { lane < length rollup.now.grid.lanes }
-    requires each { length rollup.now.lanes ≡ length columns.now }
+    requires series { series < length rollup.now.grid.series_list }
+    requires each { length rollup.now.series_list ≡ length columns.now }
     requires few { number_of_points columns.now ≤ 2 ^ 62 }
     requires moved { moved < length columns.now }
-    ensures total { result ≡ total_in rule.now rollup.now (left_states mark moved columns.now) lane index.now }
-    ensures once { AllDistinct rollup.now.grid.lanes }
+    ensures total { result ≡ total_in rule.now rollup.now (left_states mark moved columns.now) series index.now }
+    ensures once { AllDistinct rollup.now.grid.series_list }
 {
     let mut total = Agg::empty();
-    for column in rollup.columns_of(lane) {
+    for column in rollup.columns_of(series) {
         let points = columns[column.number()].bucket(index, rule.interval(), rule.offset());
         total = if column.number() == moved {
             with_points_since(total, points, mark)

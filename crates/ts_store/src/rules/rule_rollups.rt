@@ -1,7 +1,7 @@
 //! Rollups of rules that are added to a store, or dropped.
 ghost use Rattle.std.specs.Prelude.{◌≡◌, ◌<◌, ◌≤◌, ◌^◌, pos, ◌≤ℤ◌, [], ◌∷◌, length, IfOk, OnOk, OnErr};
 ghost use Rattle.ts_core.specs.store.StoreStates.{facts_of};
-ghost use Rattle.ts_store.specs.rules.RuleRollups.{HasFirstLanes, IsRollupOf, with_rollup, without_rollup};
+ghost use Rattle.ts_store.specs.rules.RuleRollups.{HasFirstRollupSeries, IsRollupOf, with_rollup, without_rollup};
 
 use crate::rollup::Rollup;
 use crate::rollup::cells_filled::{add_all_points, make_all_cells};
@@ -11,13 +11,13 @@ use std::slice;
 use ts_core::Rule;
 use ts_raw::{ColumnId, Index};
 
-/// Creates the rollup of a rule with a lane for each column of its measurement, without cells.
+/// Creates the rollup of a rule with a rollup series for each column of its measurement, without cells.
 fn rollup_over<A: Allocator + Copy>(
     alloc: A,
     rule: &Rule<A>,
     index: &Index<A>,
 ) -> Result<Rollup<A>, AllocError>
-    ensures { IfOk result (HasFirstLanes rule.now index.now.columns (length index.now.columns)) }
+    ensures { IfOk result (HasFirstRollupSeries rule.now index.now.columns (length index.now.columns)) }
 {
     let mut rollup = Rollup::new(alloc);
     for number in 0..index.column_count() {
@@ -52,7 +52,7 @@ impl<A: Allocator + Copy> ColumnFacts<A> {
         ensures { IfOk result (IsRollupOf self.now rule.now low.now) }
     {
         let alloc = self.allocator();
-        let rules = vec_of(alloc, rule.copied(alloc)?)?;
+        let rules = vec_of(alloc, rule.try_clone(alloc)?)?;
         let mut rollups = vec_of(alloc, rollup_over(alloc, rule, &self.index)?)?;
         let columns = self.columns.as_slice();
         make_all_cells(

@@ -5,8 +5,8 @@ ghost use Rattle.ts_core.specs.facts.Facts.{Series};
 ghost use Rattle.ts_core.specs.lists.Members.{Among};
 ghost use Rattle.ts_core.specs.lists.Numbered.{IsAt};
 ghost use Rattle.ts_core.specs.store.StoreStates.{column_of};
-ghost use Rattle.ts_line.specs.Names.{IsKey, IsNamed};
-ghost use Rattle.ts_cells.specs.Grids.{cell_at, lane_named};
+ghost use Rattle.ts_line.specs.Names.{IsKey, IsStatable};
+ghost use Rattle.ts_cells.specs.Grids.{cell_at, rollup_series_named};
 ghost use Rattle.ts_raw.specs.Columns.{AreTimed};
 ghost use Rattle.ts_raw.specs.PlainColumns.{IsRising};
 ghost use Rattle.ts_store.specs.image.Building.{new_built, with_series, with_column, with_cell, cell_map_at, IsBuildable, IsBuiltFrom};
@@ -70,7 +70,7 @@ impl<A: Allocator + Copy> StoreBuilder<A> {
     pub fn add_series(&mut self, key: &KeyRef<'_>) -> Result<SeriesId, AllocError>
         requires absent { Among key.now self.old.series → ⊥ }
         requires few { length self.old.series < 1000000 }
-        requires named { IsNamed key.now }
+        requires named { IsStatable key.now }
         ensures number { IfOk result (λ n. IsAt self.new.series n key.now) }
         ensures ok { OnOk result (self.new ≡ with_series key.now self.old) }
         ensures err { OnErr result (self.new ≡ self.old) }
@@ -113,8 +113,8 @@ impl<A: Allocator + Copy> StoreBuilder<A> {
         frozen: Agg,
     ) -> Result<(), AllocError>
         requires rule { rule < length self.old.settings.rules }
-        requires absent { finmap.get (cell_map_at self.old.cells rule) (cell_at index.now (lane_named field.now group.now)) ≡ None }
-        ensures ok { OnOk result (self.new ≡ with_cell rule (cell_at index.now (lane_named field.now group.now)) frozen self.old) }
+        requires absent { finmap.get (cell_map_at self.old.cells rule) (cell_at index.now (rollup_series_named field.now group.now)) ≡ None }
+        ensures ok { OnOk result (self.new ≡ with_cell rule (cell_at index.now (rollup_series_named field.now group.now)) frozen self.old) }
         ensures err { OnErr result (self.new ≡ self.old) }
     {
         self.facts.add_cell(rule, index, field, group, frozen)

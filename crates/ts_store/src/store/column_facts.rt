@@ -16,16 +16,16 @@ ghost use Rattle.ts_core.specs.store.StoreStates.{column_of};
 use crate::read::Columns;
 use crate::rollup::{Rollup, new_rollups};
 use crate::write::columns::prepare_line;
+use crate::write::creating::create_cells;
 use crate::write::putting::put_points;
-use crate::write::rooms::make_rooms;
 use std::alloc::{AllocError, Allocator};
 use std::marker::Model;
 use ts_core::{KeyRef, Rule};
 use ts_line::Line;
 use ts_raw::{BufferedColumn, Column as _, ColumnId, Index, Points, SERIES_LIMIT};
 
-/// Type of a store's columns: coded blocks behind a buffer of the latest points. Storing them in another way is a change
-/// of this line.
+/// Type of a store's columns: coded blocks behind a buffer of the latest points. Storing them in another way is a
+/// change of this line.
 pub(crate) type StoredColumn<A> = BufferedColumn<A>;
 
 /// Index, one column per series and field, one rollup per rule, and a scratch list of the columns that the current line
@@ -105,7 +105,7 @@ impl<A: Allocator + Copy> ColumnFacts<A> {
             series,
             line,
         )?;
-        make_rooms(
+        create_cells(
             rules,
             lows,
             self.rollups.as_mut_slice(),

@@ -46,9 +46,9 @@ impl<A: Allocator + Copy> Store<A> {
     {
         let rollup = self.facts.rollup_of(&rule, &low)?;
         let alloc = self.facts.allocator();
-        let mut marks = self.marks.copied(alloc)?;
+        let mut marks = self.marks.try_clone(alloc)?;
         marks.push(low)?;
-        let mut settings = self.settings.copied(alloc)?;
+        let mut settings = self.settings.try_clone(alloc)?;
         settings.add_rule(rule)?;
         // The last call that may fail: nothing has changed before it.
         self.facts.add_rollup(rollup)?;

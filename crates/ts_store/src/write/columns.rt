@@ -4,8 +4,8 @@ ghost use Rattle.std.specs.List.{AllByRecursion};
 ghost use Rattle.ts_line.specs.Parts.{series_of};
 ghost use Rattle.ts_raw.specs.Indexed.{column_in};
 ghost use Rattle.ts_core.specs.lists.Numbered.{IsAt};
-ghost use Rattle.ts_store.specs.store.ColumnStates.{no_column, point_maps, with_point_aside, IsColumnFor, IsSoundContent};
-ghost use Rattle.ts_store.specs.write.LinesInColumns.{SetsAside};
+ghost use Rattle.ts_store.specs.store.ColumnStates.{no_column, point_maps, with_point_staged, IsColumnFor, IsSoundContent};
+ghost use Rattle.ts_store.specs.write.LinesInColumns.{StagesPoint};
 ghost use Rattle.ts_store.specs.rollup.Rollups.{AreRollups, KeepCells, HaveNext, with_next, cells_of};
 ghost use Rattle.ts_core.specs.lists.Members.{Among};
 
@@ -17,7 +17,7 @@ use ts_core::{Key, Rule, Time, reserve_eighth};
 use ts_line::Line;
 use ts_raw::{Column, ColumnId, Index, SeriesId};
 
-/// Finds the lane of a new column under each rule, and allocates everything that the column needs there.
+/// Finds the rollup series of a new column under each rule, and allocates everything that the column needs there.
 fn prepare_rollups<A: Allocator + Copy>(
     rules: &[Rule<A>],
     rollups: &mut [Rollup<A>],
@@ -40,9 +40,9 @@ fn prepare_rollups<A: Allocator + Copy>(
     }
 }
 
-/// Assigns the new column, under each rule, the lane that `prepare_rollups` found. Does not allocate.
+/// Assigns the new column, under each rule, the rollup series that `prepare_rollups` found. Does not allocate.
 fn commit_rollups<A: Allocator + Copy>(rollups: &mut [Rollup<A>], column: ColumnId)
-    requires { AllByRecursion (λ s. IsSome s.next × (column ≡ length s.lanes)) rollups.old }
+    requires { AllByRecursion (λ s. IsSome s.next × (column ≡ length s.series_list)) rollups.old }
     ensures { rollups.new ≡ map with_next rollups.old }
 {
     if let Some((rollup, rollups)) = rollups.split_first_mut() {
@@ -51,7 +51,7 @@ fn commit_rollups<A: Allocator + Copy>(rollups: &mut [Rollup<A>], column: Column
     }
 }
 
-/// Creates the column of a series and a field, without points, with its lane under each rule.
+/// Creates the column of a series and a field, without points, with its rollup series under each rule.
 #[cold]
 pub(crate) fn make_column<A: Allocator + Copy>(
     index: &mut Index<A>,
@@ -110,7 +110,7 @@ fn prepare_at<A: Allocator + Copy>(
     value: i64,
 ) -> Result<(), AllocError>
     requires { column < length columns.old.items }
-    ensures ok { OnOk result (columns.new.items ≡ set columns.old.items column (with_point_aside (get_or columns.old.items column no_column) time value)) }
+    ensures ok { OnOk result (columns.new.items ≡ set columns.old.items column (with_point_staged (get_or columns.old.items column no_column) time value)) }
     ensures touched { OnOk result (touched.new.items ≡ touched.old.items ++ column ∷ []) }
     ensures len { length columns.new.items ≡ length columns.old.items }
     ensures unchanged { point_maps columns.new.items ≡ point_maps columns.old.items }
@@ -134,7 +134,7 @@ pub(crate) fn prepare_line<A: Allocator + Copy, L: Allocator>(
     requires rollups { AreRollups rules.now index.old.columns rollups.old }
     requires series { IsAt index.old.series series (series_of line.now) }
     requires none { touched.old.items ≡ [] }
-    ensures line { SetsAside line.now index.old columns.old.items index.new columns.new.items touched.new.items result }
+    ensures line { StagesPoint line.now index.old columns.old.items index.new columns.new.items touched.new.items result }
     ensures rollups { AreRollups rules.now index.new.columns rollups.new }
     ensures cells { cells_of rollups.new ≡ cells_of rollups.old }
 {

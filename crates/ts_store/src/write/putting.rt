@@ -7,14 +7,14 @@ ghost use Rattle.ts_core.specs.lists.Members.{AllDistinct};
 ghost use Rattle.ts_core.specs.store.StoreData.{IsLive, AreLive};
 ghost use Rattle.ts_core.specs.moves.StoreMoves.{put_cell, put_cells, PutsFacts};
 ghost use Rattle.ts_core.specs.store.StoreStates.{ColumnPoints, facts_of};
-ghost use Rattle.ts_store.specs.store.ColumnStates.{no_column, with_points, point_maps, committed, all_committed, AreReady, AreAside};
-ghost use Rattle.ts_store.specs.write.LivePuts.{IsOver, IsPut, AreOfFields};
+ghost use Rattle.ts_store.specs.store.ColumnStates.{no_column, with_points, point_maps, committed, all_committed, AreReady, AreStaged};
+ghost use Rattle.ts_store.specs.write.LivePuts.{IsOver, IsLivePut, AreOfFields};
 ghost use Rattle.ts_store.specs.read.PointsRead.{number_of_points};
-ghost use Rattle.ts_store.specs.rollup.Rollups.{AreRollups, lane_at, with_frozen, cells_of};
+ghost use Rattle.ts_store.specs.rollup.Rollups.{AreRollups, rollup_series_at, with_frozen, cells_of};
 ghost use Rattle.ts_store.specs.retain.RollupSteps.{with_frozen_all};
 
 use crate::rollup::Rollup;
-use crate::rollup::live_parts::lane_total;
+use crate::rollup::live_parts::rollup_series_total;
 use crate::store::column_facts::StoredColumn;
 use std::alloc::Allocator;
 use ts_core::{Agg, Partial, Remainder, Rule, Time, index_of};
@@ -23,8 +23,8 @@ use ts_raw::{Column as _, ColumnId};
 
 /// Returns true if one of the rules rolls a column up.
 fn is_rolled<A: Allocator + Copy>(rollups: &[Rollup<A>], column: usize) -> bool
-    requires { AllByRecursion (λ s. column < length s.lanes) rollups.now }
-    ensures { OnFalse result (AllByRecursion (λ s. lane_at s column ≡ None) rollups.now) }
+    requires { AllByRecursion (λ s. column < length s.series_list) rollups.now }
+    ensures { OnFalse result (AllByRecursion (λ s. rollup_series_at s column ≡ None) rollups.now) }
 {
     match rollups.split_first() {
         Some((rollup, rollups)) => rollup.rolls(column) || is_rolled(rollups, column),
@@ -45,27 +45,27 @@ fn put_under<A: Allocator + Copy>(
 )
     requires interval { pos 1 ≤ℤ rule.now.interval }
     requires column { column < length columns.now }
-    requires each { length rollup.old.lanes ≡ length columns.now }
+    requires each { length rollup.old.series_list ≡ length columns.now }
     requires few { number_of_points columns.now ≤ 2 ^ 62 }
-    ensures lanes { rollup.new ≡ with_frozen rollup.new.grid.cells rollup.old }
-    ensures cells { (cs : List Column) (before : List ColumnPoints) (f : Fact) → f.time ≡ time → f.value ≡ value → IsOver rule.now cs columns.now rollup.old → IsPut cs columns.now before column f old → IsLive before rule.now rollup.old.grid.cells → rollup.new.grid.cells ≡ put_cell rule.now f (facts_of (with_points cs (point_maps columns.now))) rollup.old.grid.cells }
+    ensures series_list { rollup.new ≡ with_frozen rollup.new.grid.cells rollup.old }
+    ensures cells { (cs : List Column) (before : List ColumnPoints) (f : Fact) → f.time ≡ time → f.value ≡ value → IsOver rule.now cs columns.now rollup.old → IsLivePut cs columns.now before column f old → IsLive before rule.now rollup.old.grid.cells → rollup.new.grid.cells ≡ put_cell rule.now f (facts_of (with_points cs (point_maps columns.now))) rollup.old.grid.cells }
 {
-    let Some(lane) = rollup.lane_of(column.number()) else {
+    let Some(series) = rollup.rollup_series_of(column.number()) else {
         return;
     };
     let index = index_of(rule, i128::from(time.nanos()));
     let Some(old) = old else {
-        rollup.add(&index, lane, Agg::single(time, value));
+        rollup.add(&index, series, Agg::single(time, value));
         return;
     };
-    let Some(live) = rollup.live(&index, lane) else {
+    let Some(live) = rollup.live(&index, series) else {
         return;
     };
     let live = match live.without(Agg::single(time, old)) {
         Some(rest) => Agg::single(time, value).merge(rest),
-        None => lane_total(rule, rollup, columns, lane, &index),
+        None => rollup_series_total(rule, rollup, columns, series, &index),
     };
-    rollup.correct(&index, lane, live);
+    rollup.correct(&index, series, live);
 }
 
 /// Does the same under each rule.
@@ -80,10 +80,10 @@ fn put_under_all<A: Allocator + Copy>(
 )
     requires intervals { AllByRecursion (λ r. pos 1 ≤ℤ r.interval) rules.now }
     requires column { column < length columns.now }
-    requires each { AllByRecursion (λ s. length s.lanes ≡ length columns.now) rollups.old }
+    requires each { AllByRecursion (λ s. length s.series_list ≡ length columns.now) rollups.old }
     requires few { number_of_points columns.now ≤ 2 ^ 62 }
-    ensures lanes { rollups.new ≡ with_frozen_all (cells_of rollups.new) rollups.old }
-    ensures cells { (cs : List Column) (before : List ColumnPoints) (f : Fact) → f.time ≡ time → f.value ≡ value → length columns.now ≡ length cs → AllDistinct cs → AreRollups rules.now cs rollups.old → IsPut cs columns.now before column f old → AreLive before rules.now (cells_of rollups.old) → cells_of rollups.new ≡ put_cells rules.now f (facts_of (with_points cs (point_maps columns.now))) (cells_of rollups.old) }
+    ensures series_list { rollups.new ≡ with_frozen_all (cells_of rollups.new) rollups.old }
+    ensures cells { (cs : List Column) (before : List ColumnPoints) (f : Fact) → f.time ≡ time → f.value ≡ value → length columns.now ≡ length cs → AllDistinct cs → AreRollups rules.now cs rollups.old → IsLivePut cs columns.now before column f old → AreLive before rules.now (cells_of rollups.old) → cells_of rollups.new ≡ put_cells rules.now f (facts_of (with_points cs (point_maps columns.now))) (cells_of rollups.old) }
 {
     if let Some((rule, rules)) = rules.split_first() {
         if let Some((rollup, rollups)) = rollups.split_first_mut() {
@@ -104,11 +104,11 @@ fn put_rolled<A: Allocator + Copy>(
 )
     requires intervals { AllByRecursion (λ r. pos 1 ≤ℤ r.interval) rules.now }
     requires ready { AreReady columns.old.items (column ∷ []) }
-    requires each { AllByRecursion (λ s. length s.lanes ≡ length columns.old.items) rollups.old }
+    requires each { AllByRecursion (λ s. length s.series_list ≡ length columns.old.items) rollups.old }
     requires few { number_of_points columns.old.items + 1 ≤ 2 ^ 62 }
     ensures columns { columns.new.items ≡ set columns.old.items column (committed (get_or columns.old.items column no_column)) }
-    ensures lanes { rollups.new ≡ with_frozen_all (cells_of rollups.new) rollups.old }
-    ensures cells { (cs : List Column) (f : Fact) → f.time ≡ time → f.value ≡ value → length columns.old.items ≡ length cs → AllDistinct cs → AreRollups rules.now cs rollups.old → AreAside cs columns.old.items (column ∷ []) (f ∷ []) → AreLive (with_points cs (point_maps columns.old.items)) rules.now (cells_of rollups.old) → cells_of rollups.new ≡ put_cells rules.now f (facts_of (with_points cs (point_maps columns.new.items))) (cells_of rollups.old) }
+    ensures series_list { rollups.new ≡ with_frozen_all (cells_of rollups.new) rollups.old }
+    ensures cells { (cs : List Column) (f : Fact) → f.time ≡ time → f.value ≡ value → length columns.old.items ≡ length cs → AllDistinct cs → AreRollups rules.now cs rollups.old → AreStaged cs columns.old.items (column ∷ []) (f ∷ []) → AreLive (with_points cs (point_maps columns.old.items)) rules.now (cells_of rollups.old) → cells_of rollups.new ≡ put_cells rules.now f (facts_of (with_points cs (point_maps columns.new.items))) (cells_of rollups.old) }
 {
     let old = columns[column.number()].value_at(time);
     columns[column.number()].commit();
@@ -127,11 +127,11 @@ fn put_point<A: Allocator + Copy>(
 )
     requires intervals { AllByRecursion (λ r. pos 1 ≤ℤ r.interval) rules.now }
     requires ready { AreReady columns.old.items (column ∷ []) }
-    requires each { AllByRecursion (λ s. length s.lanes ≡ length columns.old.items) rollups.old }
+    requires each { AllByRecursion (λ s. length s.series_list ≡ length columns.old.items) rollups.old }
     requires few { number_of_points columns.old.items + 1 ≤ 2 ^ 62 }
     ensures columns { columns.new.items ≡ set columns.old.items column (committed (get_or columns.old.items column no_column)) }
-    ensures lanes { rollups.new ≡ with_frozen_all (cells_of rollups.new) rollups.old }
-    ensures cells { (cs : List Column) (f : Fact) → f.time ≡ time → f.value ≡ value → length columns.old.items ≡ length cs → AllDistinct cs → AreRollups rules.now cs rollups.old → AreAside cs columns.old.items (column ∷ []) (f ∷ []) → AreLive (with_points cs (point_maps columns.old.items)) rules.now (cells_of rollups.old) → cells_of rollups.new ≡ put_cells rules.now f (facts_of (with_points cs (point_maps columns.new.items))) (cells_of rollups.old) }
+    ensures series_list { rollups.new ≡ with_frozen_all (cells_of rollups.new) rollups.old }
+    ensures cells { (cs : List Column) (f : Fact) → f.time ≡ time → f.value ≡ value → length columns.old.items ≡ length cs → AllDistinct cs → AreRollups rules.now cs rollups.old → AreStaged cs columns.old.items (column ∷ []) (f ∷ []) → AreLive (with_points cs (point_maps columns.old.items)) rules.now (cells_of rollups.old) → cells_of rollups.new ≡ put_cells rules.now f (facts_of (with_points cs (point_maps columns.new.items))) (cells_of rollups.old) }
 {
     if is_rolled(rollups, column.number()) {
         put_rolled(columns, rules, rollups, column, time, value);
@@ -153,11 +153,11 @@ pub(crate) fn put_points<A: Allocator + Copy, L: Allocator>(
     requires intervals { AllByRecursion (λ r. pos 1 ≤ℤ r.interval) rules.now }
     requires ready { AreReady columns.old.items numbers.now }
     requires fields { length fields.now ≡ length numbers.now }
-    requires each { AllByRecursion (λ s. length s.lanes ≡ length columns.old.items) rollups.old }
+    requires each { AllByRecursion (λ s. length s.series_list ≡ length columns.old.items) rollups.old }
     requires few { number_of_points columns.old.items + length numbers.now ≤ 2 ^ 62 }
     ensures columns { columns.new.items ≡ all_committed columns.old.items numbers.now }
-    ensures lanes { rollups.new ≡ with_frozen_all (cells_of rollups.new) rollups.old }
-    ensures cells { (cs : List Column) (fs : List Fact) → AreOfFields time fields.now fs → length columns.old.items ≡ length cs → AllDistinct cs → AreRollups rules.now cs rollups.old → AreAside cs columns.old.items numbers.now fs → AreLive (with_points cs (point_maps columns.old.items)) rules.now (cells_of rollups.old) → PutsFacts rules.now (with_points cs (point_maps columns.old.items)) (cells_of rollups.old) (with_points cs (point_maps columns.new.items)) (cells_of rollups.new) fs }
+    ensures series_list { rollups.new ≡ with_frozen_all (cells_of rollups.new) rollups.old }
+    ensures cells { (cs : List Column) (fs : List Fact) → AreOfFields time fields.now fs → length columns.old.items ≡ length cs → AllDistinct cs → AreRollups rules.now cs rollups.old → AreStaged cs columns.old.items numbers.now fs → AreLive (with_points cs (point_maps columns.old.items)) rules.now (cells_of rollups.old) → PutsFacts rules.now (with_points cs (point_maps columns.old.items)) (cells_of rollups.old) (with_points cs (point_maps columns.new.items)) (cells_of rollups.new) fs }
 {
     for (number, field) in numbers.iter().zip(fields) {
         put_point(columns, rules, rollups, *number, time, field.value());

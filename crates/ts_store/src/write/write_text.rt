@@ -3,7 +3,7 @@ ghost use Rattle.std.specs.Prelude.{◌≡◌, ◌≢◌, ◌≤◌, length, IfO
 ghost use Rattle.ts_core.specs.text.FaultTexts.{IsAppended};
 ghost use Rattle.ts_line.specs.Parts.{line_facts};
 ghost use Rattle.ts_store.specs.store.Inventories.{inventory_of, facts_of_text, GrowsAfter};
-ghost use Rattle.ts_store.specs.write.LineTexts.{State, IsIn, WritesFrom, WritesParts, parts_in, refusal_of, line_refusal_text};
+ghost use Rattle.ts_store.specs.write.LineTexts.{LineState, IsIn, WritesFrom, WritesParts, parts_in, refusal_of, line_refusal_text};
 
 use crate::store::Store;
 use crate::write::WriteFault;
@@ -59,20 +59,20 @@ impl LineOutcome {
 
 impl<A: Allocator + Copy> Store<A> {
     /// Parses the text of a line, and writes it. A timestamp counts units of `precision`; without one, the time is
-    /// `now`. `room` allocates the line's parts, which are dropped. When out of memory, no fact is accepted, but the
+    /// `now`. `arena` allocates the line's parts, which are dropped. When out of memory, no fact is accepted, but the
     /// line's series may be registered. A comment, a blank line or a text that is too long needs no memory.
     pub fn write_text<L: Allocator + Copy>(
         &mut self,
-        room: L,
+        arena: L,
         text: &str,
         precision: TimeUnit,
         now: Time,
     ) -> Result<LineOutcome, AllocError>
-        ensures written { (s : State) → IsIn s self.old → WritesFrom precision now s text.now result self.new }
+        ensures written { (s : LineState) → IsIn s self.old → WritesFrom precision now s text.now result self.new }
         ensures inventory { GrowsAfter self.old.settings.rules self.old.marks.lows (facts_of_text (parts_in precision now text.now)) result (inventory_of self.old) (inventory_of self.new) }
         ensures unchanged { IfOk result (λ outcome. outcome ≢ LineOutcome.Accepted → self.new ≡ self.old) }
     {
-        match read_line(room, text, precision, now) {
+        match read_line(arena, text, precision, now) {
             Ok(Some(line)) => self.write_parts(&line),
             Ok(None) => Ok(LineOutcome::NoLine),
             Err(ReadLineError::Fault(fault)) => Ok(LineOutcome::Refused(LineRefusal::Parse(fault))),
@@ -82,7 +82,7 @@ impl<A: Allocator + Copy> Store<A> {
 
     /// Writes a line; returns the outcome of its text.
     fn write_parts<L: Allocator>(&mut self, line: &Line<'_, L>) -> Result<LineOutcome, AllocError>
-        ensures written { (s : State) → IsIn s self.old → WritesParts s line.now result self.new }
+        ensures written { (s : LineState) → IsIn s self.old → WritesParts s line.now result self.new }
         ensures inventory { GrowsAfter self.old.settings.rules self.old.marks.lows (line_facts line.now) result (inventory_of self.old) (inventory_of self.new) }
         ensures unchanged { IfOk result (λ outcome. outcome ≢ LineOutcome.Accepted → self.new ≡ self.old) }
     {

@@ -16,28 +16,28 @@ row : (g : Over) (c : goal.In_ok-insert-in-Err g) → RowPut c.args.rows.now.ite
 row g c =
     let rows : List (RowOf g.row.P.Denot) = c.args.rows.now.items in
     let bound = rw c.as_slice.ensures.value at c.in-Err.ensures.bound in
-    let place = rw c.as_slice.ensures.value at c.in-Err.ensures.place in
-    subst (λ rs. RowPut rows rs c.args.index.now []) (sym (items g c)) (row_new rows c.args.index.now c.in-Err.at [] c.requires bound place)
+    let slot = rw c.as_slice.ensures.value at c.in-Err.ensures.slot in
+    subst (λ rs. RowPut rows rs c.args.index.now []) (sym (items g c)) (row_new rows c.args.index.now c.in-Err.at [] c.requires bound slot)
 
 pub returns-in_ok-insert-in-Err-clause-rows : goal.returns-in_ok-insert-in-Err-clause-rows
 returns-in_ok-insert-in-Err-clause-rows g c =
     let rows : List (RowOf g.row.P.Denot) = c.args.rows.now.items in
     let bound = rw c.as_slice.ensures.value at c.in-Err.ensures.bound in
-    let place = rw c.as_slice.ensures.value at c.in-Err.ensures.place in
+    let slot = rw c.as_slice.ensures.value at c.in-Err.ensures.slot in
     record {
       rising = (row g c).rising;
-      cells = row_unseen rows c.insert.new.self.items c.args.index.now (cells_missing rows c.args.index.now c.in-Err.at bound place) (row g c);
+      cells = row_unseen rows c.insert.new.self.items c.args.index.now (cells_missing rows c.args.index.now c.in-Err.at bound slot) (row g c);
       narrow = λ n a. subst (AllByRecursion (λ (r : RowOf g.row.P.Denot). length r.1 ≤ n)) (sym (items g c)) (all_insert (λ (r : RowOf g.row.P.Denot). length r.1 ≤ n) rows c.in-Err.at (c.args.index.now, []) bound a (omega arith));
     }
 
-pub returns-in_ok-insert-in-Err-clause-place : goal.returns-in_ok-insert-in-Err-clause-place
-returns-in_ok-insert-in-Err-clause-place g c =
+pub returns-in_ok-insert-in-Err-clause-slot : goal.returns-in_ok-insert-in-Err-clause-slot
+returns-in_ok-insert-in-Err-clause-slot g c =
     let rows : List (RowOf g.row.P.Denot) = c.args.rows.now.items in
     let bound : c.in-Err.at ≤ length rows = rw c.as_slice.ensures.value at c.in-Err.ensures.bound in
     let long : length c.insert.new.self.items ≡ length rows + 1 = ap length (items g c) ∙ length-insert rows c.in-Err.at (c.args.index.now, []) bound in
     record {
       inside = omega arith;
-      place = λ d.
+      slot = λ d.
           ap (λ (rs : List (RowOf g.row.P.Denot)). int_cmp (get_or rs c.in-Err.at d).0 c.args.index.now) (items g c)
           ∙ ap (λ (r : RowOf g.row.P.Denot). int_cmp r.0 c.args.index.now) (get_or-insert_at rows c.in-Err.at (c.args.index.now, []) d bound) ∙ tied_itself int_cmp_total c.args.index.now;
     }
@@ -45,11 +45,11 @@ returns-in_ok-insert-in-Err-clause-place g c =
 pub returns-in_err-reserve_eighth-in-Err-clause-known : goal.returns-in_err-reserve_eighth-in-Err-clause-known
 returns-in_err-reserve_eighth-in-Err-clause-known g c = λ some.
     let bound = rw c.as_slice.ensures.value at c.in-Err.ensures.bound in
-    let place = rw c.as_slice.ensures.value at c.in-Err.ensures.place in
-    absurd (some (cells_missing c.args.rows.now.items c.args.index.now c.in-Err.at bound place))
+    let slot = rw c.as_slice.ensures.value at c.in-Err.ensures.slot in
+    absurd (some (cells_missing c.args.rows.now.items c.args.index.now c.in-Err.at bound slot))
 
 pub returns-in_err-insert-in-Err-clause-known : goal.returns-in_err-insert-in-Err-clause-known
 returns-in_err-insert-in-Err-clause-known g c = λ some.
     let bound = rw c.as_slice.ensures.value at c.in-Err.ensures.bound in
-    let place = rw c.as_slice.ensures.value at c.in-Err.ensures.place in
-    absurd (some (cells_missing c.args.rows.now.items c.args.index.now c.in-Err.at bound place))
+    let slot = rw c.as_slice.ensures.value at c.in-Err.ensures.slot in
+    absurd (some (cells_missing c.args.rows.now.items c.args.index.now c.in-Err.at bound slot))

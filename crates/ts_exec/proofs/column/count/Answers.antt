@@ -4,7 +4,7 @@ use Rattle.ts_core.specs.aggregates.Aggregates.{Aggregate}
 use Rattle.ts_core.specs.store.StoreStates.{ColumnPoints}
 use Rattle.ts_store.specs.read.PointsRead.{points_between}
 use Rattle.ts_store.specs.read.ViewResults.{no_points}
-use Rattle.ts_exec.specs.declared.kept.Kept.TheVariants.{CountAlone}
+use Rattle.ts_exec.specs.declared.aggregate_parts.AggregateParts.TheVariants.{CountAlone}
 use Rattle.ts_exec.specs.RowParts.{BucketGrid, with_point_parts}
 use Rattle.ts_exec.proofs.Counted.{counted-none, counted-parts}
 use Rattle.ts_exec.proofs.column.count.Goals as goal

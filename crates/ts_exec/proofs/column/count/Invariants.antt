@@ -1,6 +1,6 @@
 use Rattle.std.proofs.Common.{◌≡◌, ◌-ℤ◌, unsigned_abs}
 use Rattle.ts_store.specs.read.ViewResults.{points_at}
-use Rattle.ts_exec.specs.declared.kept.Kept.TheVariants.{CountAlone}
+use Rattle.ts_exec.specs.declared.aggregate_parts.AggregateParts.TheVariants.{CountAlone}
 use Rattle.ts_exec.specs.RowParts.{with_point_parts}
 use Rattle.ts_exec.proofs.column.count.Given as goal
 

@@ -5,12 +5,12 @@ use Rattle.ts_core.specs.store.Views.{ViewState}
 use Rattle.ts_core.specs.queries.Queries.{Query}
 use Rattle.ts_exec.specs.Answered.{HasRows}
 use Rattle.ts_exec.specs.GroupTables.{with_pieces, width}
-use Rattle.ts_exec.proofs.KeptParts.{pieces-rows}
+use Rattle.ts_exec.proofs.PartsTaken.{pieces-rows}
 use Rattle.ts_exec.proofs.executor.groups_given.Goals as goal
 
 pub returns-clause-rows : goal.returns-clause-rows
 returns-clause-rows g c =
     let q : Query = c.args.query.now.query in
     let seen : ViewState = g.V.View.seen c.args.view.now in
-    let put : c.add_pieces.new.groups ≡ with_pieces c.args.kept seen q c.args.pieces.now [] = search rules in
-    IfOk-weaker c.into_groups.result _ _ (λ v e. subst (AllByRecursion (HasRows (width q))) (sym (e ∙ put)) (pieces-rows c.args.kept seen q c.args.pieces.now)) c.into_groups.ensures
+    let put : c.add_pieces.new.groups ≡ with_pieces c.args.parts seen q c.args.pieces.now [] = search rules in
+    IfOk-weaker c.into_groups.result _ _ (λ v e. subst (AllByRecursion (HasRows (width q))) (sym (e ∙ put)) (pieces-rows c.args.parts seen q c.args.pieces.now)) c.into_groups.ensures

@@ -5,19 +5,19 @@ use Rattle.std.proofs.lemmas.Result.{IfOk-weaker}
 use Rattle.ts_core.specs.queries.Fills.{filled}
 use Rattle.ts_core.specs.store.Views.{ViewState}
 use Rattle.ts_ql.specs.Selects.{Projection, Select}
-use Rattle.ts_exec.specs.declared.kept.Kept.{Kept}
+use Rattle.ts_exec.specs.declared.aggregate_parts.AggregateParts.{AggregateParts}
 use Rattle.ts_exec.specs.Fillings.{functions_of}
 use Rattle.ts_exec.specs.GroupTables.{Table, group_with}
-use Rattle.ts_exec.specs.Selections.{keeps}
-use Rattle.ts_exec.proofs.KeptParts.{selected-values}
+use Rattle.ts_exec.specs.Selections.{suffice}
+use Rattle.ts_exec.proofs.PartsTaken.{selected-values}
 use Rattle.ts_exec.proofs.executor.groups_selected.Goals as goal
 
 pub returns-clause-values : goal.returns-clause-values
 returns-clause-values g c =
     let seen : ViewState = g.V.View.seen c.args.view.now in
     let s : Select = c.args.query.now in
-    let kept : Kept = c.kept_for-kept.result in
-    let each : list_all (λ (x : Projection). keeps kept x.function) s.columns ≡ true = search rules in
-    let enough : list_all (keeps kept) (functions_of s.columns) ≡ true = list_all-map (keeps kept) (λ (x : Projection). x.function) s.columns ∙ each in
+    let parts : AggregateParts = c.parts_for-parts.result in
+    let each : list_all (λ (x : Projection). suffice parts x.function) s.columns ≡ true = search rules in
+    let enough : list_all (suffice parts) (functions_of s.columns) ≡ true = list_all-map (suffice parts) (λ (x : Projection). x.function) s.columns ∙ each in
     IfOk-weaker c.groups_given.result _ _ (λ v e fill.
-    ap (λ (t : Table). filled fill (functions_of s.columns) (map (group_with s.query) t)) e ∙ selected-values kept (functions_of s.columns) enough seen s.query c.args.pieces.now fill) c.groups_given.ensures.given
+    ap (λ (t : Table). filled fill (functions_of s.columns) (map (group_with s.query) t)) e ∙ selected-values parts (functions_of s.columns) enough seen s.query c.args.pieces.now fill) c.groups_given.ensures.given

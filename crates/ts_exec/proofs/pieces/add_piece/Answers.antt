@@ -29,7 +29,7 @@ returns-in-Some-clause-value g c =
     let source = own_name ∙ ap Rollup (sym c.as_str.ensures.value) in
     let s = found-shown c.as_str.result.now seen.rules c.in-Some.number c.in-Some.rule.now e in
     let put = found-put q c.args.piece.now.from c.args.piece.now.to c.args.groups.now c.as_str.result.now seen.rules c.in-Some.number c.in-Some.rule.now s in
-    let all = put ∙ sym (ap (λ (z : Source). with_source c.args.kept seen q z c.args.piece.now.from c.args.piece.now.to c.args.groups.now) source) in
+    let all = put ∙ sym (ap (λ (z : Source). with_source c.args.parts seen q z c.args.piece.now.from c.args.piece.now.to c.args.groups.now) source) in
     subst (λ (t : Table). OnOk c.add_cells.result (c.add_cells.new.groups ≡ t)) all (search rules)
 
 pub returns-in-None-clause-value : goal.returns-in-None-clause-value
@@ -39,5 +39,5 @@ returns-in-None-clause-value g c =
     let e : rule_from c.as_str.result.now 0 (map rule_of seen.rules) ≡ None = search rules in
     let own_name : c.args.piece.now.source ≡ Rollup c.in-Rollup.name = search rules in
     let source = own_name ∙ ap Rollup (sym c.as_str.ensures.value) in
-    sym (ap (λ (z : Source). with_source c.args.kept seen q z c.args.piece.now.from c.args.piece.now.to c.args.groups.now) source
+    sym (ap (λ (z : Source). with_source c.args.parts seen q z c.args.piece.now.from c.args.piece.now.to c.args.groups.now) source
     ∙ ap (λ o. with_rule q c.args.piece.now.from c.args.piece.now.to o c.args.groups.now) (none-shown c.as_str.result.now seen.rules 0 e))

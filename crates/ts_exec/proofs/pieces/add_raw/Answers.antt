@@ -22,7 +22,7 @@ loop-column-init g c =
     let chosen : c.deref-column-items.result.now ≡ selected_column_refs q.conditions all =
     c.deref-column-items.ensures.value
     ∙ subst (λ (x : Query). c.in_ok-columns.columns.items ≡ selected_column_refs x.conditions (column_refs_where (is_of x.measurement x.field) cs)) c.scan.view_is c.in_ok-columns.ensures in (
-      ap₂ (λ (ss : List ColumnRef) (t : Table). with_column_refs c.args.kept q cs a b ss t) chosen c.expect_groups.ensures ∙ selected_give c.args.kept q cs a b all c.args.groups.now,
+      ap₂ (λ (ss : List ColumnRef) (t : Table). with_column_refs c.args.parts q cs a b ss t) chosen c.expect_groups.ensures ∙ selected_give c.args.parts q cs a b all c.args.groups.now,
       subst (AllByRecursion (IsSelected (length cs) q.conditions)) (sym chosen) (all_selected (length cs) q.conditions all (column_refs-there (is_of q.measurement q.field) cs)),
       c.scan.view_is,
       c.scan.invariant,
@@ -42,10 +42,10 @@ loop-column-preserved g c =
     let next : drop i items ≡ s ∷ rest = drop_more items i _ c.loop-column-test.true ∙ ap (λ (x : ColumnRef). x ∷ rest) (sym c.column-item.is) in
     let here : AllByRecursion (IsSelected (length cs) q.conditions) (s ∷ rest) = subst (AllByRecursion (IsSelected (length cs) q.conditions)) next c.loop-column.invariant.1 in
     let met : list_all (meets s.series) q.conditions ≡ true = here.0.1 in
-    let given : Table = with_column_parts c.args.kept (bucket_grid q) (width q) (tag_values q.group_tags s.series) (points_at cs s.number a b) groups in
+    let given : Table = with_column_parts c.args.parts (bucket_grid q) (width q) (tag_values q.group_tags s.series) (points_at cs s.number a b) groups in
     let added : c.add_points.new.self ≡ given = search rules in (
-      ap (λ (t : Table). with_column_refs c.args.kept q cs a b rest t) (added ∙ ap (λ (v : Bool). cond v given groups) (sym met))
-          ∙ ap (λ (ss : List ColumnRef). with_column_refs c.args.kept q cs a b ss groups) (sym next)
+      ap (λ (t : Table). with_column_refs c.args.parts q cs a b rest t) (added ∙ ap (λ (v : Bool). cond v given groups) (sym met))
+          ∙ ap (λ (ss : List ColumnRef). with_column_refs c.args.parts q cs a b ss groups) (sym next)
           ∙ c.loop-column.invariant.0,
       here.1,
       c.loop-column.invariant.2,

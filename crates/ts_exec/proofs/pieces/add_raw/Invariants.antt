@@ -10,6 +10,6 @@ abbrev pub invariant-loop-column : goal.invariant-loop-column
 invariant-loop-column g l =
     let q = l.fn.scan in
     let cs = (g.V.View.seen l.view).columns in
-    (with_column_refs l.kept q cs l.from l.to (drop l.column-index l.column-items) l.groups ≡ with_column_refs l.kept q cs l.from l.to (column_refs_where (is_of q.measurement q.field) cs) l.fn.groups)
+    (with_column_refs l.parts q cs l.from l.to (drop l.column-index l.column-items) l.groups ≡ with_column_refs l.parts q cs l.from l.to (column_refs_where (is_of q.measurement q.field) cs) l.fn.groups)
     × AllByRecursion (IsSelected (length cs) q.conditions) (drop l.column-index l.column-items)
     × (l.scan-inside.query.now.query ≡ q) × AreBucketsOf l.scan-inside.query.now.query l.scan-inside.width l.scan-inside.buckets

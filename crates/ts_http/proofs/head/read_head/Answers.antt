@@ -11,13 +11,13 @@ returns-then-more-eq0 g c =
     let r = c.in_ok-more.ensures in
     let count = c.loop-count.count in
     let none = c.if-more-eq0.true in
-    let same : take count c.read_behind.new.room ≡ take count c.loop-count.room = r.kept in
+    let same : take count c.read_behind.new.buffer ≡ take count c.loop-count.buffer = r.kept in
     record {
       within = omega (arith, i.within, r.size);
-      bytes = none_came _ _ _ count c.in_ok-more.more c.loop-count.room c.read_behind.new.room none i.came r.came;
-      head = end_told (take count c.read_behind.new.room) count c.read_behind.new.source c.loop-count.spans c.at_end.result (length-take-le count c.read_behind.new.room (omega (arith, i.within, r.size))) (omega (arith, c.loop-count-test.true, i.room)) (λ some. subst IsUnfinishedHead (sym same) (i.unfinished some)) (r.end none) c.at_end.ensures.none c.at_end.ensures.some;
+      bytes = none_came _ _ _ count c.in_ok-more.more c.loop-count.buffer c.read_behind.new.buffer none i.came r.came;
+      head = end_told (take count c.read_behind.new.buffer) count c.read_behind.new.source c.loop-count.spans c.at_end.result (length-take-le count c.read_behind.new.buffer (omega (arith, i.within, r.size))) (omega (arith, c.loop-count-test.true, i.buffer)) (λ some. subst IsUnfinishedHead (sym same) (i.unfinished some)) (r.end none) c.at_end.ensures.none c.at_end.ensures.some;
       failures = search rules;
-      turns = omega (arith, r.turns, i.turns, c.loop-count-test.true, i.room);
+      turns = omega (arith, r.turns, i.turns, c.loop-count-test.true, i.buffer);
     }
 
 pub returns-in-Some : goal.returns-in-Some
@@ -25,25 +25,25 @@ returns-in-Some g c =
     let i = c.loop-count.invariant in
     let r = c.in_ok-more.ensures in
     let count = c.loop-count.count + c.in_ok-more.more in
-    let came = take count c.read_behind.new.room in
+    let came = take count c.read_behind.new.buffer in
     let some : 0 < c.in_ok-more.more = omega (arith, c.if-more-eq0.false) in
     record {
       within = omega (arith, r.within, r.size);
-      bytes = more_came _ _ _ c.loop-count.count c.in_ok-more.more c.loop-count.room c.read_behind.new.room i.came r.came;
-      head = front_told came (unwrap_or c.read_behind.new.source.remaining []) c.look.new.spans c.in-Some.head (omega (arith, length-take-le count c.read_behind.new.room (omega (arith, r.within, r.size)), r.within, i.room)) (c.look.ensures.spans ∙ i.spans) c.in-Some.ensures.front;
+      bytes = more_came _ _ _ c.loop-count.count c.in_ok-more.more c.loop-count.buffer c.read_behind.new.buffer i.came r.came;
+      head = front_told came (unwrap_or c.read_behind.new.source.remaining []) c.look.new.spans c.in-Some.head (omega (arith, length-take-le count c.read_behind.new.buffer (omega (arith, r.within, r.size)), r.within, i.buffer)) (c.look.ensures.spans ∙ i.spans) c.in-Some.ensures.front;
       failures = omega (arith, r.failures, i.failures);
-      turns = omega (arith, r.turns, i.turns, r.within, i.room, some);
+      turns = omega (arith, r.turns, i.turns, r.within, i.buffer, some);
     }
 
 pub returns : goal.returns
 returns g c =
     let i = c.loop-count.invariant in
     let count = c.loop-count.count in
-    let size : length (take count c.loop-count.room) ≡ head_limit = length-take-le count c.loop-count.room i.within ∙ omega (arith, i.room, c.loop-count-test.false, i.within) in
+    let size : length (take count c.loop-count.buffer) ≡ head_limit = length-take-le count c.loop-count.buffer i.within ∙ omega (arith, i.buffer, c.loop-count-test.false, i.within) in
     record {
       within = i.within;
       bytes = i.came;
-      head = too_long_told (take count c.loop-count.room) (unwrap_or c.loop-count.source.remaining []) c.loop-count.spans size (i.unfinished (omega (arith, i.room, c.loop-count-test.false)));
+      head = too_long_told (take count c.loop-count.buffer) (unwrap_or c.loop-count.source.remaining []) c.loop-count.spans size (i.unfinished (omega (arith, i.buffer, c.loop-count-test.false)));
       failures = omega (arith, i.failures);
-      turns = omega (arith, i.turns, i.room, i.within);
+      turns = omega (arith, i.turns, i.buffer, i.within);
     }

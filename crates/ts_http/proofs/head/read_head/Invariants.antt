@@ -5,14 +5,14 @@ use Rattle.ts_http.proofs.head.read_head.Given as goal
 
 abbrev pub invariant-loop-count : goal.invariant-loop-count
 invariant-loop-count g l = record {
-  within : l.count ≤ length l.room;
-  room : length l.room ≡ head_limit;
+  within : l.count ≤ length l.buffer;
+  buffer : length l.buffer ≡ head_limit;
   spans : length l.spans ≡ field_limit;
-  came : Consumes l.initial.source.remaining l.source.remaining (take l.count l.room);
-  unfinished : 0 < l.count → IsUnfinishedHead (take l.count l.room);
+  came : Consumes l.initial.source.remaining l.source.remaining (take l.count l.buffer);
+  unfinished : 0 < l.count → IsUnfinishedHead (take l.count l.buffer);
   failures : l.source.failures ≡ l.initial.source.failures;
   turns : l.source.turns ≤ l.initial.source.turns + l.count;
 }
 
 abbrev pub decreases-loop-count : goal.decreases-loop-count
-decreases-loop-count g l = length l.initial.room - l.count
+decreases-loop-count g l = length l.initial.buffer - l.count

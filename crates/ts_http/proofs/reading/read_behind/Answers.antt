@@ -6,18 +6,18 @@ use Rattle.ts_http.proofs.reading.read_behind.Goals as goal
 
 pub returns-in-Ok : goal.returns-in-Ok
 returns-in-Ok g c =
-    let room = c.args.room.now in
+    let buffer = c.args.buffer.now in
     let buf = c.read.new.buf in
     let count = c.args.count in
     let n = c.in-Ok.n in
-    let there : count ≤ length room = omega (arith, c.requires) in
-    let size : length buf ≡ length room - count = search rules in
+    let there : count ≤ length buffer = omega (arith, c.requires) in
+    let size : length buf ≡ length buffer - count = search rules in
     let some : n ≤ length buf = c.in-Ok.ensures.bound.0 in
     record {
-      size = same_size room buf count there size;
-      kept = take-put_mid_below count (length room - count) room buf count (omega arith) there;
+      size = same_size buffer buf count there size;
+      kept = take-put_mid_below count (length buffer - count) buffer buf count (omega arith) there;
       within = omega (arith, some, size, there);
-      came = (take n buf, stands_behind room buf count n there size some, length-take-le n buf some, c.in-Ok.ensures.bytes.0);
+      came = (take n buf, stands_behind buffer buf count n there size some, length-take-le n buf some, c.in-Ok.ensures.bytes.0);
       end = λ none. c.in-Ok.ensures.bytes.1 none (omega (arith, size, c.requires));
       failures = search rules;
       turns = search rules;

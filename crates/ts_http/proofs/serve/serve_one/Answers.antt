@@ -20,7 +20,7 @@ returns-in_err-count g c =
 
 pub body_len-requires : goal.body_len-requires
 body_len-requires g c =
-    let came = take c.in_ok-count.count c.read_head.new.room in
+    let came = take c.in_ok-count.count c.read_head.new.buffer in
     let told = subst (TellsHead (request_of came c.read_head.new.source) came c.read_head.new.spans) c.in-Whole.is c.in_ok-count.ensures.head in
     spans_within came c.read_head.new.spans c.in-Whole.found told.0
 
@@ -34,14 +34,14 @@ returns-in_err-outcome-in-Ok g c =
 pub returns-in-Nothing : goal.returns-in-Nothing
 returns-in-Nothing g c =
     let h = c.in_ok-count.ensures in
-    let came = take c.in_ok-count.count c.read_head.new.room in
+    let came = take c.in_ok-count.count c.read_head.new.buffer in
     let told = subst (TellsHead (request_of came c.read_head.new.source) came c.read_head.new.spans) c.in-Nothing.is h.head in
     nothing_served c.args.now c.args.store.now c.args.source.now c.read_head.new.source c.args.sink.now came h.bytes told (omega (arith, h.failures)) (omega (arith, h.turns))
 
 pub returns-in-Fault : goal.returns-in-Fault
 returns-in-Fault g c =
     let h = c.in_ok-count.ensures in
-    let came = take c.in_ok-count.count c.read_head.new.room in
+    let came = take c.in_ok-count.count c.read_head.new.buffer in
     let told = subst (TellsHead (request_of came c.read_head.new.source) came c.read_head.new.spans) c.in-Fault.is h.head in
     sent_told c.args.now c.args.store.now c.args.store.now c.args.source.now c.read_head.new.source c.args.sink.now c.reply.new.sink (outcomes.Refused (refusals.Head c.in-Fault.fault)) to.Other _ came c.reply.result c.reply.ensures h.bytes
     (λ s i. (s, Serves.refuses (refusals.Head c.in-Fault.fault) to.Other _ (Asks.no_head c.in-Fault.fault told), i)) (omega (arith, h.failures)) (omega (arith, h.turns))
@@ -49,7 +49,7 @@ returns-in-Fault g c =
 pub returns-in-Err : goal.returns-in-Err
 returns-in-Err g c =
     let h = c.in_ok-count.ensures in
-    let came = take c.in_ok-count.count c.read_head.new.room in
+    let came = take c.in_ok-count.count c.read_head.new.buffer in
     let spans = c.read_head.new.spans in
     let bytes = request_of came c.read_head.new.source in
     let found = c.in-Whole.found in
@@ -63,7 +63,7 @@ pub returns-in_ok-outcome-in-Ok : goal.returns-in_ok-outcome-in-Ok
 returns-in_ok-outcome-in-Ok g c =
     let h = c.in_ok-count.ensures in
     let a = c.in_ok-outcome-in-Ok.ensures in
-    let came = take c.in_ok-count.count c.read_head.new.room in
+    let came = take c.in_ok-count.count c.read_head.new.buffer in
     let spans = c.read_head.new.spans in
     let found = c.in-Whole.found in
     let q = c.head_parts_of-head in

@@ -1,9 +1,9 @@
 use Rattle.std.proofs.Common.{rules, ◌≡◌, ℕ, ℤ, SFits, to_z, of_z, to_z-of_z, refl, w64}
 use Rattle.std.specs.Int.{w128}
 use Rattle.std.proofs.lemmas.Result.{err_from_is_err_and}
-use Rattle.ts_image.specs.Formats.{number, signed, also}
+use Rattle.ts_image.specs.Formats.{number, signed_number, also}
 use Rattle.ts_image.specs.Images.{image_cell_key, image_extremes}
-use Rattle.ts_image.specs.RuleParts.{rule_of}
+use Rattle.ts_image.specs.RuleParts.{rule_from_parts}
 use Rattle.ts_image.specs.CellParts.{cell_key_of, extremes_of_parts, cell_of_parts}
 use Rattle.ts_image.proofs.Together.{both, also_reads, iso_reads, also_stops, iso_stops}
 use Rattle.ts_image.proofs.cell_reading.read_cell.Goals as goal
@@ -20,9 +20,9 @@ returns g c =
     let e : to_z w128 (of_z w128 c.in_ok-sum.sum) ≡ c.in_ok-sum.sum = to_z-of_z f in
     rw e
     (iso_reads _ _ _ _ cell_of_parts c.args.reader.now c.read_extremes.new.reader c.args.source.now c.read_extremes.new.source _ _ refl
-    (also_reads (image_cell_key (rule_of c.args.rule.now)) (also (number w64) (also (signed w128) image_extremes)) cell_key_of _ _ _ _ _ _ _ c.in_ok-key.key _ c.in_ok-key.ensures
-    (also_reads (number w64) (also (signed w128) image_extremes) so_many _ _ _ _ _ _ _ c.in_ok-count.count _ c.in_ok-count.ensures
-    (also_reads (signed w128) image_extremes as_it_is extremes_of_parts _ _ _ _ _ _ c.in_ok-sum.sum c.in_ok-extremes.extremes c.in_ok-sum.ensures c.in_ok-extremes.ensures))))
+    (also_reads (image_cell_key (rule_from_parts c.args.rule.now)) (also (number w64) (also (signed_number w128) image_extremes)) cell_key_of _ _ _ _ _ _ _ c.in_ok-key.key _ c.in_ok-key.ensures
+    (also_reads (number w64) (also (signed_number w128) image_extremes) so_many _ _ _ _ _ _ _ c.in_ok-count.count _ c.in_ok-count.ensures
+    (also_reads (signed_number w128) image_extremes as_it_is extremes_of_parts _ _ _ _ _ _ c.in_ok-sum.sum c.in_ok-extremes.extremes c.in_ok-sum.ensures c.in_ok-extremes.ensures))))
 
 pub returns-in_err-extremes : goal.returns-in_err-extremes
 returns-in_err-extremes g c =
@@ -30,7 +30,7 @@ returns-in_err-extremes g c =
     let f : SFits w128 c.in_ok-sum.sum = search rules in
     let e = c.in_err-extremes.field-0.0 in
     rw (p.1, p.2)
-    (iso_stops _ _ _ (both (image_cell_key (rule_of c.args.rule.now)) (also (number w64) (also (signed w128) image_extremes)) (cell_key_of {A = g.row.A.Denot}) (both (number w64) (also (signed w128) image_extremes) so_many (both (signed w128) image_extremes as_it_is extremes_of_parts))) cell_of_parts c.args.reader.now c.read_extremes.new.reader c.args.source.now c.read_extremes.new.source e
-    (also_stops (image_cell_key (rule_of c.args.rule.now)) (also (number w64) (also (signed w128) image_extremes)) (cell_key_of {A = g.row.A.Denot}) (both (number w64) (also (signed w128) image_extremes) so_many (both (signed w128) image_extremes as_it_is extremes_of_parts)) _ _ _ _ _ _ _ c.in_ok-key.key e c.in_ok-key.ensures
-    (also_stops (number w64) (also (signed w128) image_extremes) so_many (both (signed w128) image_extremes as_it_is extremes_of_parts) _ _ _ _ _ _ _ c.in_ok-count.count e c.in_ok-count.ensures
-    (also_stops (signed w128) image_extremes as_it_is extremes_of_parts _ _ _ _ _ _ _ c.in_ok-sum.sum e c.in_ok-sum.ensures c.in_err-extremes.ensures))))
+    (iso_stops _ _ _ (both (image_cell_key (rule_from_parts c.args.rule.now)) (also (number w64) (also (signed_number w128) image_extremes)) (cell_key_of {A = g.row.A.Denot}) (both (number w64) (also (signed_number w128) image_extremes) so_many (both (signed_number w128) image_extremes as_it_is extremes_of_parts))) cell_of_parts c.args.reader.now c.read_extremes.new.reader c.args.source.now c.read_extremes.new.source e
+    (also_stops (image_cell_key (rule_from_parts c.args.rule.now)) (also (number w64) (also (signed_number w128) image_extremes)) (cell_key_of {A = g.row.A.Denot}) (both (number w64) (also (signed_number w128) image_extremes) so_many (both (signed_number w128) image_extremes as_it_is extremes_of_parts)) _ _ _ _ _ _ _ c.in_ok-key.key e c.in_ok-key.ensures
+    (also_stops (number w64) (also (signed_number w128) image_extremes) so_many (both (signed_number w128) image_extremes as_it_is extremes_of_parts) _ _ _ _ _ _ _ c.in_ok-count.count e c.in_ok-count.ensures
+    (also_stops (signed_number w128) image_extremes as_it_is extremes_of_parts _ _ _ _ _ _ _ c.in_ok-sum.sum e c.in_ok-sum.ensures c.in_err-extremes.ensures))))

@@ -1,7 +1,7 @@
 use Rattle.std.proofs.Common.{rules, ◌≡◌, ℤ, SFits, to_z, of_z, to_z-of_z, refl, w64}
 use Rattle.std.specs.Prelude.{string_bytes}
 use Rattle.ts_core.specs.facts.Facts.{Text}
-use Rattle.ts_image.specs.Formats.{signed, text, also, along}
+use Rattle.ts_image.specs.Formats.{signed_number, text, also, along}
 use Rattle.ts_image.specs.RuleParts.{texts_of}
 use Rattle.ts_image.specs.CellParts.{cell_key_of}
 use Rattle.ts_image.proofs.Together.{also_reads, iso_reads}
@@ -17,5 +17,5 @@ returns g c =
     let tags = texts_of c.args.rule.now.kept_tags in
     rw e
     (iso_reads _ _ _ _ cell_key_of c.args.reader.now c.read_group.new.reader c.args.source.now c.read_group.new.source _ _ refl
-    (also_reads (signed w64) (also text (along (λ (tag : Text). text) tags)) as_it_is _ _ _ _ _ _ _ c.in_ok-index.index _ c.in_ok-index.ensures
+    (also_reads (signed_number w64) (also text (along (λ (tag : Text). text) tags)) as_it_is _ _ _ _ _ _ _ c.in_ok-index.index _ c.in_ok-index.ensures
     (also_reads text (along (λ (tag : Text). text) tags) string_bytes texts_of _ _ _ _ _ _ c.in_ok-field.field c.in_ok-group.group c.in_ok-field.ensures c.in_ok-group.ensures)))

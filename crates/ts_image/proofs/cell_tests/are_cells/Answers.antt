@@ -1,7 +1,7 @@
 use Rattle.std.proofs.Common.{refl, sym, subst}
 use Rattle.ts_core.specs.store.Cells.{cell_cmp}
 use Rattle.ts_image.specs.Images.{ImageCell}
-use Rattle.ts_image.specs.ImageTests.{AreRising}
+use Rattle.ts_store.specs.image.SavedContent.{AreRising}
 use Rattle.ts_image.specs.CellParts.{cell_of_parts}
 use Rattle.ts_image.proofs.Testing.{mapped}
 use Rattle.ts_image.proofs.cell_tests.are_cells.Goals as goal

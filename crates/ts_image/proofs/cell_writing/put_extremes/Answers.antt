@@ -1,14 +1,14 @@
 use Rattle.std.specs.Int.{w64}
 use Rattle.ts_image.specs.Images.{image_point}
 use Rattle.std.proofs.lemmas.Result.{err_from_is_err_and}
-use Rattle.ts_image.specs.Formats.{signed, also}
+use Rattle.ts_image.specs.Formats.{signed_number, also}
 use Rattle.ts_image.proofs.Putting.{also_puts, also_stops, iso_puts}
 use Rattle.ts_image.proofs.cell_writing.put_extremes.Goals as goal
 
 pub returns-in_err-put_i64 : goal.returns-in_err-put_i64
 returns-in_err-put_i64 g c =
     let p = err_from_is_err_and c.from_residual.result c.from_residual.ensures.1 in
-    rw p.1 ((iso_puts _ _ c.args.extremes.now (also_stops (also (signed w64) (also image_point image_point)) _ _ c.in_err-put_i64.ensures)))
+    rw p.1 ((iso_puts _ _ c.args.extremes.now (also_stops (also (signed_number w64) (also image_point image_point)) _ _ c.in_err-put_i64.ensures)))
 
 pub returns-in_err-put_i64-2 : goal.returns-in_err-put_i64-2
 returns-in_err-put_i64-2 g c =

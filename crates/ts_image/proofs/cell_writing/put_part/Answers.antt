@@ -2,14 +2,14 @@ use Rattle.std.proofs.Common.{rules, ◌≡◌, SFits, to_z, of_z, to_z-of_z, �
 use Rattle.std.specs.Int.{w128}
 use Rattle.ts_image.specs.Images.{image_extremes}
 use Rattle.std.proofs.lemmas.Result.{err_from_is_err_and}
-use Rattle.ts_image.specs.Formats.{signed, also}
+use Rattle.ts_image.specs.Formats.{signed_number, also}
 use Rattle.ts_image.proofs.Putting.{puts_at, also_puts, also_stops}
 use Rattle.ts_image.proofs.cell_writing.put_part.Goals as goal
 
 pub returns-in_err-put_u64 : goal.returns-in_err-put_u64
 returns-in_err-put_u64 g c =
     let p = err_from_is_err_and c.from_residual.result c.from_residual.ensures.1 in
-    rw p.1 ((also_stops (also (signed w128) image_extremes) _ _ (puts_at c.count.ensures c.in_err-put_u64.ensures)))
+    rw p.1 ((also_stops (also (signed_number w128) image_extremes) _ _ (puts_at c.count.ensures c.in_err-put_u64.ensures)))
 
 pub returns-in_err-put_i128 : goal.returns-in_err-put_i128
 returns-in_err-put_i128 g c =

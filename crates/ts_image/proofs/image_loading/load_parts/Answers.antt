@@ -1,7 +1,7 @@
 use Rattle.std.proofs.Common.{Option, refl, subst}
 use Rattle.std.proofs.lemmas.Result.{err_from_is_err_and}
 use Rattle.ts_core.specs.settings.Settings.{Settings}
-use Rattle.ts_image.specs.ImageTests.{IsPossible, settings_in}
+use Rattle.ts_image.specs.ImageTests.{IsPossible, settings_of_image}
 use Rattle.ts_image.specs.RuleParts.{settings_of_parts}
 use Rattle.ts_image.specs.ImageReading.{image_of}
 use Rattle.ts_image.specs.SettingsMade.{IsMadeIf}
@@ -23,7 +23,7 @@ returns-in-Some g c =
     let v = c.in_ok-read.read.0 in
     let parts = c.in_ok-read.read.1 in
     let s = settings_of_parts parts.settings in
-    let made = subst (λ (o : Option Settings). IsMadeIf (IsPossible v (image_of parts)) (settings_in s) o) c.in-Some.is c.in_ok-settings.ensures in
+    let made = subst (λ (o : Option Settings). IsMadeIf (IsPossible v (image_of parts)) (settings_of_image s) o) c.in-Some.is c.in_ok-settings.ensures in
     is_loaded g.row.A.Denot c.args.source.now c.args.turns c.read_parts.new.source v parts c.in_ok-read.ensures c.in-Some.settings (made.some.0 refl) made.is
 
 pub returns-in-None : goal.returns-in-None
@@ -31,5 +31,5 @@ returns-in-None g c =
     let v = c.in_ok-read.read.0 in
     let parts = c.in_ok-read.read.1 in
     let s = settings_of_parts parts.settings in
-    let made = subst (λ (o : Option Settings). IsMadeIf (IsPossible v (image_of parts)) (settings_in s) o) c.in-None.is c.in_ok-settings.ensures in
+    let made = subst (λ (o : Option Settings). IsMadeIf (IsPossible v (image_of parts)) (settings_of_image s) o) c.in-None.is c.in_ok-settings.ensures in
     contradicts g.row.A.Denot c.args.source.now c.args.turns c.read_parts.new.source v parts c.in_ok-read.ensures (λ h. let e = made.some.1 h in absurd cc)

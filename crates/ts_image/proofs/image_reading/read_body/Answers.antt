@@ -3,14 +3,14 @@ use Rattle.std.specs.Int.{w32}
 use Rattle.std.proofs.lemmas.Result.{err_from_is_err_and}
 use Rattle.ts_image.specs.Formats.{number, also, along, list_of}
 use Rattle.ts_image.specs.Images.{ImageRule, ImageSettings, flag, image_settings, image_marks, image_series, image_cell, image}
-use Rattle.ts_image.specs.RuleParts.{rule_of, rules_of, settings_of_parts}
+use Rattle.ts_image.specs.RuleParts.{rule_from_parts, rules_of_parts, settings_of_parts}
 use Rattle.ts_image.specs.SeriesParts.{all_series_of}
 use Rattle.ts_image.specs.CellParts.{marks_of_parts, all_cells_of}
 use Rattle.ts_image.specs.ImageReading.{image_of}
 use Rattle.ts_image.specs.declared.rule_reading.RuleParts.{RuleParts}
 use Rattle.ts_image.specs.declared.cell_reading.MarksParts.{MarksParts}
 use Rattle.ts_image.specs.declared.cell_reading.CellParts.{CellParts}
-use Rattle.ts_image.specs.FieldReading.{Reads}
+use Rattle.ts_image.specs.FieldReading.{ReadsField}
 use Rattle.ts_image.proofs.Reading.{fine, faulty}
 use Rattle.ts_image.proofs.Together.{and_reads, also_reads, iso_reads}
 use Rattle.ts_image.proofs.Stopping.{stops_of, reads_of, first_stops, then_stops, whole_stops}
@@ -21,9 +21,9 @@ so_many n = n
 
 pub returns : goal.returns
 returns g c =
-    let rs = rules_of c.in_ok-settings.settings.rules in
-    let marks_read = subst (λ (l : List (RuleParts g.row.A.Denot)). Reads (image_marks (map rule_of l)) (marks_of_parts {A = g.row.A.Denot}) c.read_settings.new.reader c.read_settings.new.source (fine c.in_ok-marks.marks) c.read_marks.new.reader c.read_marks.new.source) c.deref.ensures.value c.in_ok-marks.ensures in
-    let cells_read = subst (λ (l : List (RuleParts g.row.A.Denot)). Reads (along (λ (r : ImageRule). list_of w64 (image_cell r)) (map rule_of l)) (all_cells_of {A = g.row.A.Denot}) c.read_counted_series.new.reader c.read_counted_series.new.source (fine c.in_ok-cells.cells) c.read_all_cells.new.reader c.read_all_cells.new.source) c.deref-2.ensures.value c.in_ok-cells.ensures in
+    let rs = rules_of_parts c.in_ok-settings.settings.rules in
+    let marks_read = subst (λ (l : List (RuleParts g.row.A.Denot)). ReadsField (image_marks (map rule_from_parts l)) (marks_of_parts {A = g.row.A.Denot}) c.read_settings.new.reader c.read_settings.new.source (fine c.in_ok-marks.marks) c.read_marks.new.reader c.read_marks.new.source) c.deref.ensures.value c.in_ok-marks.ensures in
+    let cells_read = subst (λ (l : List (RuleParts g.row.A.Denot)). ReadsField (along (λ (r : ImageRule). list_of w64 (image_cell r)) (map rule_from_parts l)) (all_cells_of {A = g.row.A.Denot}) c.read_counted_series.new.reader c.read_counted_series.new.source (fine c.in_ok-cells.cells) c.read_all_cells.new.reader c.read_all_cells.new.source) c.deref-2.ensures.value c.in_ok-cells.ensures in
     iso_reads _ _ _ _ image_of c.args.reader.now c.read_all_cells.new.reader c.args.source.now c.read_all_cells.new.source _ _ refl
     (and_reads image_settings (λ (s : ImageSettings). (also (image_marks s.rules) (also (flag c.args.version) (also (number w64) (also (list_of w32 (image_series c.args.version)) (along (λ (r : ImageRule). list_of w64 (image_cell r)) s.rules)))))) settings_of_parts _ _ _ _ _ _ _ c.in_ok-settings.settings _ c.in_ok-settings.ensures
     (also_reads (image_marks rs) (also (flag c.args.version) (also (number w64) (also (list_of w32 (image_series c.args.version)) (along (λ (r : ImageRule). list_of w64 (image_cell r)) rs)))) marks_of_parts _ _ _ _ _ _ _ c.in_ok-marks.marks _ marks_read
@@ -34,8 +34,8 @@ returns g c =
 pub returns-in_err-marks : goal.returns-in_err-marks
 returns-in_err-marks g c =
     let p = err_from_is_err_and c.from_residual-in_err-marks.result c.from_residual-in_err-marks.ensures.1 in
-    let rs = rules_of c.in_ok-settings.settings.rules in
-    let marks_read = subst (λ (l : List (RuleParts g.row.A.Denot)). Reads (image_marks (map rule_of l)) (marks_of_parts {A = g.row.A.Denot}) c.read_settings.new.reader c.read_settings.new.source (faulty (MarksParts g.row.A.Denot) c.in_err-marks.field-0.0) c.read_marks.new.reader c.read_marks.new.source) c.deref.ensures.value c.in_err-marks.ensures in
+    let rs = rules_of_parts c.in_ok-settings.settings.rules in
+    let marks_read = subst (λ (l : List (RuleParts g.row.A.Denot)). ReadsField (image_marks (map rule_from_parts l)) (marks_of_parts {A = g.row.A.Denot}) c.read_settings.new.reader c.read_settings.new.source (faulty (MarksParts g.row.A.Denot) c.in_err-marks.field-0.0) c.read_marks.new.reader c.read_marks.new.source) c.deref.ensures.value c.in_err-marks.ensures in
     let e = c.in_err-marks.field-0.0 in
     rw (p.1, p.2)
     (reads_of (image c.args.version) image_of c.args.reader.now c.read_marks.new.reader c.args.source.now c.read_marks.new.source e
@@ -47,8 +47,8 @@ returns-in_err-marks g c =
 pub returns-in_err-runs : goal.returns-in_err-runs
 returns-in_err-runs g c =
     let p = err_from_is_err_and c.from_residual-in_err-runs.result c.from_residual-in_err-runs.ensures.1 in
-    let rs = rules_of c.in_ok-settings.settings.rules in
-    let marks_read = subst (λ (l : List (RuleParts g.row.A.Denot)). Reads (image_marks (map rule_of l)) (marks_of_parts {A = g.row.A.Denot}) c.read_settings.new.reader c.read_settings.new.source (fine c.in_ok-marks.marks) c.read_marks.new.reader c.read_marks.new.source) c.deref.ensures.value c.in_ok-marks.ensures in
+    let rs = rules_of_parts c.in_ok-settings.settings.rules in
+    let marks_read = subst (λ (l : List (RuleParts g.row.A.Denot)). ReadsField (image_marks (map rule_from_parts l)) (marks_of_parts {A = g.row.A.Denot}) c.read_settings.new.reader c.read_settings.new.source (fine c.in_ok-marks.marks) c.read_marks.new.reader c.read_marks.new.source) c.deref.ensures.value c.in_ok-marks.ensures in
     let e = c.in_err-runs.field-0.0 in
     rw (p.1, p.2)
     (reads_of (image c.args.version) image_of c.args.reader.now c.read_flag.new.reader c.args.source.now c.read_flag.new.source e
@@ -61,8 +61,8 @@ returns-in_err-runs g c =
 pub returns-in_err-accepted : goal.returns-in_err-accepted
 returns-in_err-accepted g c =
     let p = err_from_is_err_and c.from_residual-in_err-accepted.result c.from_residual-in_err-accepted.ensures.1 in
-    let rs = rules_of c.in_ok-settings.settings.rules in
-    let marks_read = subst (λ (l : List (RuleParts g.row.A.Denot)). Reads (image_marks (map rule_of l)) (marks_of_parts {A = g.row.A.Denot}) c.read_settings.new.reader c.read_settings.new.source (fine c.in_ok-marks.marks) c.read_marks.new.reader c.read_marks.new.source) c.deref.ensures.value c.in_ok-marks.ensures in
+    let rs = rules_of_parts c.in_ok-settings.settings.rules in
+    let marks_read = subst (λ (l : List (RuleParts g.row.A.Denot)). ReadsField (image_marks (map rule_from_parts l)) (marks_of_parts {A = g.row.A.Denot}) c.read_settings.new.reader c.read_settings.new.source (fine c.in_ok-marks.marks) c.read_marks.new.reader c.read_marks.new.source) c.deref.ensures.value c.in_ok-marks.ensures in
     let e = c.in_err-accepted.field-0.0 in
     rw (p.1, p.2)
     (reads_of (image c.args.version) image_of c.args.reader.now c.u64.new.self c.args.source.now c.u64.new.source e
@@ -76,8 +76,8 @@ returns-in_err-accepted g c =
 pub returns-in_err-series : goal.returns-in_err-series
 returns-in_err-series g c =
     let p = err_from_is_err_and c.from_residual-in_err-series.result c.from_residual-in_err-series.ensures.1 in
-    let rs = rules_of c.in_ok-settings.settings.rules in
-    let marks_read = subst (λ (l : List (RuleParts g.row.A.Denot)). Reads (image_marks (map rule_of l)) (marks_of_parts {A = g.row.A.Denot}) c.read_settings.new.reader c.read_settings.new.source (fine c.in_ok-marks.marks) c.read_marks.new.reader c.read_marks.new.source) c.deref.ensures.value c.in_ok-marks.ensures in
+    let rs = rules_of_parts c.in_ok-settings.settings.rules in
+    let marks_read = subst (λ (l : List (RuleParts g.row.A.Denot)). ReadsField (image_marks (map rule_from_parts l)) (marks_of_parts {A = g.row.A.Denot}) c.read_settings.new.reader c.read_settings.new.source (fine c.in_ok-marks.marks) c.read_marks.new.reader c.read_marks.new.source) c.deref.ensures.value c.in_ok-marks.ensures in
     let e = c.in_err-series.field-0.0 in
     rw (p.1, p.2)
     (reads_of (image c.args.version) image_of c.args.reader.now c.read_counted_series.new.reader c.args.source.now c.read_counted_series.new.source e
@@ -92,9 +92,9 @@ returns-in_err-series g c =
 pub returns-in_err-cells : goal.returns-in_err-cells
 returns-in_err-cells g c =
     let p = err_from_is_err_and c.from_residual-in_err-cells.result c.from_residual-in_err-cells.ensures.1 in
-    let rs = rules_of c.in_ok-settings.settings.rules in
-    let marks_read = subst (λ (l : List (RuleParts g.row.A.Denot)). Reads (image_marks (map rule_of l)) (marks_of_parts {A = g.row.A.Denot}) c.read_settings.new.reader c.read_settings.new.source (fine c.in_ok-marks.marks) c.read_marks.new.reader c.read_marks.new.source) c.deref.ensures.value c.in_ok-marks.ensures in
-    let cells_read = subst (λ (l : List (RuleParts g.row.A.Denot)). Reads (along (λ (r : ImageRule). list_of w64 (image_cell r)) (map rule_of l)) (all_cells_of {A = g.row.A.Denot}) c.read_counted_series.new.reader c.read_counted_series.new.source (faulty (Vec (Vec (CellParts g.row.A.Denot) g.row.A.Denot) g.row.A.Denot) c.in_err-cells.field-0.0) c.read_all_cells.new.reader c.read_all_cells.new.source) c.deref-2.ensures.value c.in_err-cells.ensures in
+    let rs = rules_of_parts c.in_ok-settings.settings.rules in
+    let marks_read = subst (λ (l : List (RuleParts g.row.A.Denot)). ReadsField (image_marks (map rule_from_parts l)) (marks_of_parts {A = g.row.A.Denot}) c.read_settings.new.reader c.read_settings.new.source (fine c.in_ok-marks.marks) c.read_marks.new.reader c.read_marks.new.source) c.deref.ensures.value c.in_ok-marks.ensures in
+    let cells_read = subst (λ (l : List (RuleParts g.row.A.Denot)). ReadsField (along (λ (r : ImageRule). list_of w64 (image_cell r)) (map rule_from_parts l)) (all_cells_of {A = g.row.A.Denot}) c.read_counted_series.new.reader c.read_counted_series.new.source (faulty (Vec (Vec (CellParts g.row.A.Denot) g.row.A.Denot) g.row.A.Denot) c.in_err-cells.field-0.0) c.read_all_cells.new.reader c.read_all_cells.new.source) c.deref-2.ensures.value c.in_err-cells.ensures in
     let e = c.in_err-cells.field-0.0 in
     rw (p.1, p.2)
     (reads_of (image c.args.version) image_of c.args.reader.now c.read_all_cells.new.reader c.args.source.now c.read_all_cells.new.source e

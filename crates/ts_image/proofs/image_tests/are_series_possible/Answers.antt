@@ -3,7 +3,8 @@ use Rattle.std.specs.List.{AllByRecursion}
 use Rattle.ts_core.specs.facts.Facts.{series_cmp}
 use Rattle.ts_image.specs.declared.series_reading.SeriesParts.{SeriesParts}
 use Rattle.ts_image.specs.Images.{ImageSeries}
-use Rattle.ts_image.specs.ImageTests.{AreRising, IsImageSeries, points_in_all}
+use Rattle.ts_image.specs.ImageTests.{IsImageSeries, points_in_all}
+use Rattle.ts_store.specs.image.SavedContent.{AreRising}
 use Rattle.ts_image.specs.SeriesParts.{series_of_parts}
 use Rattle.ts_image.specs.TestParts.{series_key_of}
 use Rattle.ts_image.proofs.Testing.{mapped, taken}

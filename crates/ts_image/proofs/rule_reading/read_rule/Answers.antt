@@ -1,8 +1,8 @@
 use Rattle.std.proofs.Common.{rules, ◌≡◌, ℤ, SFits, to_z, of_z, to_z-of_z, refl, w64}
 use Rattle.std.specs.Prelude.{string_bytes}
 use Rattle.std.specs.Int.{w8}
-use Rattle.ts_image.specs.Formats.{signed, text, also, list_of}
-use Rattle.ts_image.specs.RuleParts.{texts_of, rule_of}
+use Rattle.ts_image.specs.Formats.{signed_number, text, also, list_of}
+use Rattle.ts_image.specs.RuleParts.{texts_of, rule_from_parts}
 use Rattle.ts_image.proofs.Together.{also_reads, iso_reads}
 use Rattle.ts_image.proofs.rule_reading.read_rule.Goals as goal
 
@@ -18,9 +18,9 @@ returns g c =
     let e2 : to_z w64 (of_z w64 c.in_ok-offset.offset) ≡ c.in_ok-offset.offset = to_z-of_z f2 in
     let e3 : to_z w64 (of_z w64 c.in_ok-duration.duration) ≡ c.in_ok-duration.duration = to_z-of_z f3 in
     rw (e1, e2, e3)
-    (iso_reads _ _ _ _ rule_of c.args.reader.now c.read_counted_texts.new.reader c.args.source.now c.read_counted_texts.new.source _ _ refl
-    (also_reads text (also text (also (signed w64) (also (signed w64) (also (signed w64) (list_of w8 text))))) string_bytes _ _ _ _ _ _ _ c.in_ok-name.name _ c.in_ok-name.ensures
-    (also_reads text (also (signed w64) (also (signed w64) (also (signed w64) (list_of w8 text)))) string_bytes _ _ _ _ _ _ _ c.in_ok-measurement.measurement _ c.in_ok-measurement.ensures
-    (also_reads (signed w64) (also (signed w64) (also (signed w64) (list_of w8 text))) as_it_is _ _ _ _ _ _ _ c.in_ok-interval.interval _ c.in_ok-interval.ensures
-    (also_reads (signed w64) (also (signed w64) (list_of w8 text)) as_it_is _ _ _ _ _ _ _ c.in_ok-offset.offset _ c.in_ok-offset.ensures
-    (also_reads (signed w64) (list_of w8 text) as_it_is texts_of _ _ _ _ _ _ c.in_ok-duration.duration c.in_ok-kept_tags.kept_tags c.in_ok-duration.ensures c.in_ok-kept_tags.ensures))))))
+    (iso_reads _ _ _ _ rule_from_parts c.args.reader.now c.read_counted_texts.new.reader c.args.source.now c.read_counted_texts.new.source _ _ refl
+    (also_reads text (also text (also (signed_number w64) (also (signed_number w64) (also (signed_number w64) (list_of w8 text))))) string_bytes _ _ _ _ _ _ _ c.in_ok-name.name _ c.in_ok-name.ensures
+    (also_reads text (also (signed_number w64) (also (signed_number w64) (also (signed_number w64) (list_of w8 text)))) string_bytes _ _ _ _ _ _ _ c.in_ok-measurement.measurement _ c.in_ok-measurement.ensures
+    (also_reads (signed_number w64) (also (signed_number w64) (also (signed_number w64) (list_of w8 text))) as_it_is _ _ _ _ _ _ _ c.in_ok-interval.interval _ c.in_ok-interval.ensures
+    (also_reads (signed_number w64) (also (signed_number w64) (list_of w8 text)) as_it_is _ _ _ _ _ _ _ c.in_ok-offset.offset _ c.in_ok-offset.ensures
+    (also_reads (signed_number w64) (list_of w8 text) as_it_is texts_of _ _ _ _ _ _ c.in_ok-duration.duration c.in_ok-kept_tags.kept_tags c.in_ok-duration.ensures c.in_ok-kept_tags.ensures))))))

@@ -9,7 +9,7 @@ use Rattle.ts_core.specs.store.StoreData.{StoreData}
 use Rattle.ts_image.specs.declared.version.Version.TheVariants.{V2}
 use Rattle.ts_image.specs.Formats.{number, also, along, list_of}
 use Rattle.ts_image.specs.Images.{ImageRule, image_series, image_cell}
-use Rattle.ts_image.specs.FieldWriting.{Puts}
+use Rattle.ts_image.specs.FieldWriting.{PutsField}
 use Rattle.ts_image.specs.SavedParts.{image_rule_of, image_settings_of}
 use Rattle.ts_image.specs.Saving.{image_cells_from, image_of, FitCellsFrom}
 use Rattle.ts_image.proofs.Putting.{puts_at, and_puts, and_stops, also_puts, also_stops, iso_puts}
@@ -66,7 +66,7 @@ returns g c =
     let same : length c.marks.result.now.lows ≡ length rs = ap (λ (m : Marks). length m.lows) c.marks.ensures.value ∙ c.marks.ensures.lows ∙ sym (length-map k.settings.rules image_rule_of) in
     let run : c.from.result ≡ bit k.running = c.from.ensures ∙ byte_is c.run_in_progress.result ∙ ap bit c.run_in_progress.ensures in
     let all : c.rules.result.now ≡ k.settings.rules = c.rules.ensures.value ∙ ap (λ (s : Settings). s.rules) c.settings-2.ensures.value in
-    iso_puts _ _ (image_of k c.args.all.now) (and_puts (after_settings V2) (puts_at (ap image_settings_of c.settings.ensures.value) c.in_ok-put_settings.ensures) (also_puts (puts_at c.marks.ensures.value (c.in_ok-put_marks.ensures rs same)) (also_puts (puts_at run c.in_ok-put_u8.ensures) (also_puts (puts_at c.accepted.ensures.value c.in_ok-put_u64.ensures) (also_puts c.in_ok-put_counted_series.ensures (subst (λ (xs : List Rule). Puts (along (λ (r : ImageRule). list_of w64 (image_cell r)) (map image_rule_of xs)) (image_cells_from k 0 xs) c.put_counted_series.new.sink c.put_counted_series.new.out c.put_cells_from.result c.put_cells_from.new.sink c.put_cells_from.new.out) all c.put_cells_from.ensures))))))
+    iso_puts _ _ (image_of k c.args.all.now) (and_puts (after_settings V2) (puts_at (ap image_settings_of c.settings.ensures.value) c.in_ok-put_settings.ensures) (also_puts (puts_at c.marks.ensures.value (c.in_ok-put_marks.ensures rs same)) (also_puts (puts_at run c.in_ok-put_u8.ensures) (also_puts (puts_at c.accepted.ensures.value c.in_ok-put_u64.ensures) (also_puts c.in_ok-put_counted_series.ensures (subst (λ (xs : List Rule). PutsField (along (λ (r : ImageRule). list_of w64 (image_cell r)) (map image_rule_of xs)) (image_cells_from k 0 xs) c.put_counted_series.new.sink c.put_counted_series.new.out c.put_cells_from.result c.put_cells_from.new.sink c.put_cells_from.new.out) all c.put_cells_from.ensures))))))
 
 pub put_marks-requires : goal.put_marks-requires
 put_marks-requires g c = rw c.marks.ensures.value c.requires.fits.lows

@@ -3,7 +3,7 @@ use Rattle.ts_image.specs.SeriesParts.{series_of_parts, all_series_of}
 use Rattle.ts_image.specs.Images.{ImageSeries, image_series}
 use Rattle.std.proofs.lemmas.Result.{err_from_is_err_and}
 use Rattle.std.proofs.lemmas.List.{map_push}
-use Rattle.ts_image.proofs.Loops.{HasRead, starts, goes_on, breaks, no_room, finishes}
+use Rattle.ts_image.proofs.Loops.{HasRead, starts, goes_on, breaks, no_memory_left, finishes}
 use Rattle.ts_image.proofs.series_reading.read_all_series.Goals as goal
 
 pub loop-init : goal.loop-init
@@ -29,7 +29,7 @@ returns-in_err-push g c =
     let p = err_from_is_err_and c.from_residual-in_err-push.result c.from_residual-in_err-push.ensures.1 in
     let n : ℕ = c.args.count - (c.loop.counter + 1) in
     let so_far = subst (λ (k : ℕ). HasRead (image_series c.args.version) c.args.count k (map series_of_parts c.loop.series.items) c.args.reader.now c.args.source.now c.loop.reader c.loop.source) (one_left c.args.count c.loop.counter c.loop-test.true) c.loop.invariant in
-    rw (p.1, p.2) (no_room (image_series c.args.version) c.args.count c.args.reader.now c.args.source.now series_of_parts n (map series_of_parts c.loop.series.items) c.loop.reader c.read_series.new.reader c.loop.source c.read_series.new.source so_far all_series_of c.in_ok-one.one c.in_ok-one.ensures)
+    rw (p.1, p.2) (no_memory_left (image_series c.args.version) c.args.count c.args.reader.now c.args.source.now series_of_parts n (map series_of_parts c.loop.series.items) c.loop.reader c.read_series.new.reader c.loop.source c.read_series.new.source so_far all_series_of c.in_ok-one.one c.in_ok-one.ensures)
 
 pub loop-preserved : goal.loop-preserved
 loop-preserved g c =

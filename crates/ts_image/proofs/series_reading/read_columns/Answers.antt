@@ -1,9 +1,9 @@
 use Rattle.std.proofs.Common.{◌≡◌, ◌<◌, ◌-◌, ◌+◌, ℕ, suc, List, [], ◌∷◌, ◌++◌, map, ap, sym, subst, arith, refl}
-use Rattle.ts_image.specs.SeriesParts.{column_of_parts, columns_of}
+use Rattle.ts_image.specs.SeriesParts.{column_of_parts, column_parts_of}
 use Rattle.ts_image.specs.Images.{ImageColumn, image_column}
 use Rattle.std.proofs.lemmas.Result.{err_from_is_err_and}
 use Rattle.std.proofs.lemmas.List.{map_push}
-use Rattle.ts_image.proofs.Loops.{HasRead, starts, goes_on, breaks, no_room, finishes}
+use Rattle.ts_image.proofs.Loops.{HasRead, starts, goes_on, breaks, no_memory_left, finishes}
 use Rattle.ts_image.proofs.series_reading.read_columns.Goals as goal
 
 pub loop-init : goal.loop-init
@@ -22,14 +22,14 @@ returns-in_err-column g c =
     let p = err_from_is_err_and c.from_residual.result c.from_residual.ensures.1 in
     let n : ℕ = c.args.count - (c.loop.counter + 1) in
     let so_far = subst (λ (k : ℕ). HasRead (image_column c.args.version) c.args.count k (map column_of_parts c.loop.columns.items) c.args.reader.now c.args.source.now c.loop.reader c.loop.source) (one_left c.args.count c.loop.counter c.loop-test.true) c.loop.invariant in
-    rw (p.1, p.2) (breaks (image_column c.args.version) c.args.count c.args.reader.now c.args.source.now column_of_parts n (map column_of_parts c.loop.columns.items) c.loop.reader c.read_column.new.reader c.loop.source c.read_column.new.source so_far columns_of c.in_err-column.field-0.0 c.in_err-column.ensures)
+    rw (p.1, p.2) (breaks (image_column c.args.version) c.args.count c.args.reader.now c.args.source.now column_of_parts n (map column_of_parts c.loop.columns.items) c.loop.reader c.read_column.new.reader c.loop.source c.read_column.new.source so_far column_parts_of c.in_err-column.field-0.0 c.in_err-column.ensures)
 
 pub returns-in_err-push : goal.returns-in_err-push
 returns-in_err-push g c =
     let p = err_from_is_err_and c.from_residual-in_err-push.result c.from_residual-in_err-push.ensures.1 in
     let n : ℕ = c.args.count - (c.loop.counter + 1) in
     let so_far = subst (λ (k : ℕ). HasRead (image_column c.args.version) c.args.count k (map column_of_parts c.loop.columns.items) c.args.reader.now c.args.source.now c.loop.reader c.loop.source) (one_left c.args.count c.loop.counter c.loop-test.true) c.loop.invariant in
-    rw (p.1, p.2) (no_room (image_column c.args.version) c.args.count c.args.reader.now c.args.source.now column_of_parts n (map column_of_parts c.loop.columns.items) c.loop.reader c.read_column.new.reader c.loop.source c.read_column.new.source so_far columns_of c.in_ok-column.column c.in_ok-column.ensures)
+    rw (p.1, p.2) (no_memory_left (image_column c.args.version) c.args.count c.args.reader.now c.args.source.now column_of_parts n (map column_of_parts c.loop.columns.items) c.loop.reader c.read_column.new.reader c.loop.source c.read_column.new.source so_far column_parts_of c.in_ok-column.column c.in_ok-column.ensures)
 
 pub loop-preserved : goal.loop-preserved
 loop-preserved g c =
@@ -43,4 +43,4 @@ pub returns : goal.returns
 returns g c =
     let none : c.args.count - c.loop.counter ≡ 0 = omega arith in
     let so_far = subst (λ (k : ℕ). HasRead (image_column c.args.version) c.args.count k (map column_of_parts c.loop.columns.items) c.args.reader.now c.args.source.now c.loop.reader c.loop.source) none c.loop.invariant in
-    finishes (image_column c.args.version) c.args.count c.args.reader.now c.args.source.now (map column_of_parts c.loop.columns.items) c.loop.reader c.loop.source columns_of c.loop.columns so_far refl
+    finishes (image_column c.args.version) c.args.count c.args.reader.now c.args.source.now (map column_of_parts c.loop.columns.items) c.loop.reader c.loop.source column_parts_of c.loop.columns so_far refl

@@ -2,7 +2,7 @@ use Rattle.std.proofs.Common.{rules, arith, List, map, refl, sym, ap, subst, ◌
 use Rattle.std.specs.Prelude.{String}
 use Rattle.std.proofs.lemmas.List.{length-map}
 use Rattle.std.specs.List.{AllByRecursion}
-use Rattle.ts_image.specs.ImageTests.{AreRising}
+use Rattle.ts_store.specs.image.SavedContent.{AreRising}
 use Rattle.ts_image.proofs.Testing.{mapped}
 use Rattle.ts_core.specs.facts.Facts.{Text, text_cmp}
 use Rattle.ts_image.specs.SeriesParts.{tag_of}

@@ -1,6 +1,6 @@
 use Rattle.std.proofs.Common.{rules, List, map, refl, sym, ap, subst, ◌∙◌}
 use Rattle.std.specs.List.{AllByRecursion}
-use Rattle.ts_image.specs.ImageTests.{AreRising}
+use Rattle.ts_store.specs.image.SavedContent.{AreRising}
 use Rattle.ts_image.proofs.Testing.{mapped}
 use Rattle.ts_core.specs.facts.Facts.{text_cmp}
 use Rattle.ts_image.specs.Images.{ImageColumn}

@@ -4,7 +4,7 @@ use Rattle.ts_core.specs.settings.Settings.{Rule}
 use Rattle.ts_core.specs.settings.SettingsFaults.{settings_fault}
 use Rattle.ts_image.specs.declared.rule_reading.RuleParts.{RuleParts}
 use Rattle.ts_image.specs.ImageTests.{IsImageRule, rule_in}
-use Rattle.ts_image.specs.RuleParts.{rule_of}
+use Rattle.ts_image.specs.RuleParts.{rule_from_parts}
 use Rattle.ts_image.specs.SettingsMade.{AreMadeIf}
 use Rattle.ts_image.proofs.MadeSettings.{same_settings}
 use Rattle.ts_image.proofs.settings_making.make_settings.Goals as goal
@@ -14,8 +14,8 @@ returns-in-Ok g c =
     let p = c.args.parts.now in
     let A = g.row.A.Denot in
     let made =
-    subst (λ (l : List (RuleParts A)). AreMadeIf (AllByRecursion IsImageRule (map rule_of l)) (map rule_in (map rule_of l)) (Some c.in-Some.rules)) c.deref.ensures.value
-    (subst (λ (o : Option (Vec Rule A)). AreMadeIf (AllByRecursion IsImageRule (map rule_of c.deref.result.now)) (map rule_in (map rule_of c.deref.result.now)) o) c.in-Some.is c.in_ok-rules.ensures) in
+    subst (λ (l : List (RuleParts A)). AreMadeIf (AllByRecursion IsImageRule (map rule_from_parts l)) (map rule_in (map rule_from_parts l)) (Some c.in-Some.rules)) c.deref.ensures.value
+    (subst (λ (o : Option (Vec Rule A)). AreMadeIf (AllByRecursion IsImageRule (map rule_from_parts c.deref.result.now)) (map rule_in (map rule_from_parts c.deref.result.now)) o) c.in-Some.is c.in_ok-rules.ensures) in
     let f : SFits w64 p.raw_duration = search rules in
     let e : c.in-Ok.settings ≡ _ = c.in-Ok.ensures.parts ∙ same_settings (to_z-of_z f) made.are in
     record {

@@ -6,7 +6,7 @@ use Rattle.ts_core.specs.facts.Facts.{series_cmp}
 use Rattle.ts_store.specs.image.Building.{Built}
 use Rattle.ts_image.specs.declared.series_reading.SeriesParts.{SeriesParts}
 use Rattle.ts_image.specs.Images.{ImageSeries}
-use Rattle.ts_image.specs.ImageTests.{AreRising}
+use Rattle.ts_store.specs.image.SavedContent.{AreRising}
 use Rattle.ts_image.specs.SeriesParts.{series_of_parts}
 use Rattle.ts_image.specs.StoresMade.{IsAddedSeries, key_in, with_all_series}
 use Rattle.ts_image.proofs.Rising.{all_mid}

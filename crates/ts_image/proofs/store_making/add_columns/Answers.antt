@@ -6,10 +6,10 @@ use Rattle.ts_core.specs.lists.Numbered.{IsAt}
 use Rattle.ts_store.specs.image.Building.{Built, with_column}
 use Rattle.ts_image.specs.declared.series_reading.ColumnParts.{ColumnParts}
 use Rattle.ts_image.specs.Images.{ImageColumn}
-use Rattle.ts_image.specs.ImageTests.{AreRising}
-use Rattle.ts_image.specs.Pictures.{points_in}
+use Rattle.ts_store.specs.image.SavedContent.{AreRising}
+use Rattle.ts_image.specs.Pictures.{image_points_in}
 use Rattle.ts_image.specs.SeriesParts.{column_of_parts}
-use Rattle.ts_image.specs.StoresMade.{IsAddedColumn, AreAddedColumns, is_waiting, with_columns}
+use Rattle.ts_image.specs.StoresMade.{IsAddedColumn, AreAddedColumns, is_column_waiting, with_image_columns}
 use Rattle.ts_image.proofs.Rising.{all_mid}
 use Rattle.ts_image.proofs.ColumnMaking.{split_next, split_more, split_all, some_at, no_columns, columns_more, column_absent}
 use Rattle.ts_image.proofs.store_making.add_columns.Goals as goal
@@ -62,8 +62,8 @@ loop-parts-preserved g c =
           let b = c.args.builder.now in
           let so_far = at.invariant.built s here in
           let there = subst (λ (ss : List Series). IsAt ss c.args.series s) (sym (ap (λ (z : Built). z.series) so_far)) here in
-          c.in_ok-add_column.ensures s there ∙ ap (λ (z : Built). with_column (points_in s (column_of_parts x)) (is_waiting (column_of_parts x)) z) so_far
-          ∙ columns_more s (map column_of_parts at.yielded) (column_of_parts x) b ∙ ap (λ (cs : List ImageColumn). with_columns s cs b) (sym (map-append column_of_parts at.yielded (x ∷ [])));
+          c.in_ok-add_column.ensures s there ∙ ap (λ (z : Built). with_column (image_points_in s (column_of_parts x)) (is_column_waiting (column_of_parts x)) z) so_far
+          ∙ columns_more s (map column_of_parts at.yielded) (column_of_parts x) b ∙ ap (λ (cs : List ImageColumn). with_image_columns s cs b) (sym (map-append column_of_parts at.yielded (x ∷ [])));
     }
 
 pub returns : goal.returns
@@ -71,4 +71,4 @@ returns g c s here =
     let at = c.loop-parts in
     let empty = sym at.invariant.len ∙ c.in-None.ensures.steps.0 in
     let all = split_all at.yielded _ _ empty at.invariant.split ∙ c.into_iter-parts-iterator.ensures.into_iter_gives.0 in
-    at.invariant.built s here ∙ ap (λ (ps : List (ColumnParts g.row.A.Denot)). with_columns s (map column_of_parts ps) c.args.builder.now) all
+    at.invariant.built s here ∙ ap (λ (ps : List (ColumnParts g.row.A.Denot)). with_image_columns s (map column_of_parts ps) c.args.builder.now) all

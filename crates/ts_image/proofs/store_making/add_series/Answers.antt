@@ -5,8 +5,8 @@ use Rattle.ts_core.specs.lists.Members.{Among}
 use Rattle.ts_core.specs.store.StoreStates.{ColumnPoints, column_of}
 use Rattle.ts_core.proofs.lists.NumberedLemmas.{same_at}
 use Rattle.ts_store.specs.image.Building.{Built}
-use Rattle.ts_image.specs.SeriesParts.{columns_of, key_of, series_of_parts}
-use Rattle.ts_image.specs.StoresMade.{with_columns}
+use Rattle.ts_image.specs.SeriesParts.{column_parts_of, key_of, series_of_parts}
+use Rattle.ts_image.specs.StoresMade.{with_image_columns}
 use Rattle.ts_image.proofs.SeriesMaking.{series_added}
 use Rattle.ts_image.proofs.store_making.add_series.Goals as goal
 
@@ -20,5 +20,5 @@ add_columns-requires-clause-none g c s at k a e =
 pub returns : goal.returns
 returns g c =
     let key = key_of c.args.parts.key in
-    let e = ap (λ (z : Built). with_columns key (columns_of c.args.parts.columns) z) c.in_ok-series.ensures.ok ∙ series_added (series_of_parts c.args.parts) c.args.builder.now in
+    let e = ap (λ (z : Built). with_image_columns key (column_parts_of c.args.parts.columns) z) c.in_ok-series.ensures.ok ∙ series_added (series_of_parts c.args.parts) c.args.builder.now in
     subst (λ (z : Built). OnOk c.add_columns.result (c.add_columns.new.builder ≡ z)) e (c.add_columns.ensures key c.in_ok-series.ensures.number)

@@ -6,7 +6,7 @@ use Rattle.ts_core.specs.settings.Settings.{Rule}
 use Rattle.ts_core.specs.store.StoreData.{StoreData}
 use Rattle.ts_store.specs.image.Building.{Built, IsBuildable, IsBuiltFrom}
 use Rattle.ts_image.specs.declared.cell_reading.CellParts.{CellParts}
-use Rattle.ts_image.specs.CellParts.{cells_of}
+use Rattle.ts_image.specs.CellParts.{cells_of_parts}
 use Rattle.ts_image.specs.ImageReading.{image_of}
 use Rattle.ts_image.specs.ImageTests.{rule_in}
 use Rattle.ts_image.specs.StoresMade.{AreAddedCells, with_all_series, with_all_cells}
@@ -35,7 +35,7 @@ add_all_cells-requires-clause-each g c =
     let d = image_of c.args.image.parts in
     let e = c.in_ok-add_all_series.ensures ∙ ap (λ (z : Built). with_all_series d.series z) c.in_ok-builder.ensures in
     let these = ap length c.deref.ensures.value in
-    let lists = length-map c.args.image.parts.cells.items (cells_of {A = g.row.A.Denot}) in
+    let lists = length-map c.args.image.parts.cells.items (cells_of_parts {A = g.row.A.Denot}) in
     let rules = length-map d.settings.rules rule_in in
     let made = ap (λ (z : Built). length z.settings.rules) e in
     let same = ap (λ s. length s.rules) c.requires.settings in
@@ -51,7 +51,7 @@ pub add_all_cells-requires-clause-cells : goal.add_all_cells-requires-clause-cel
 add_all_cells-requires-clause-cells g c =
     let d = image_of c.args.image.parts in
     let p = c.requires.possible in
-    subst (λ (l : List (Vec (CellParts g.row.A.Denot) g.row.A.Denot)). AllByRecursion AreAddedCells (map cells_of l)) (sym c.deref.ensures.value)
+    subst (λ (l : List (Vec (CellParts g.row.A.Denot) g.row.A.Denot)). AllByRecursion AreAddedCells (map cells_of_parts l)) (sym c.deref.ensures.value)
     (added_cells c.args.image.version d d.marks.raw d.settings.rules d.marks.lows d.cells p.lows p.each p.cells p.counted p.accepted)
 
 pub finish-requires : goal.finish-requires
@@ -60,7 +60,7 @@ finish-requires g c =
     let p = c.requires.possible in
     let e =
     c.in_ok-add_all_cells.ensures
-    ∙ ap (λ (l : List (Vec (CellParts g.row.A.Denot) g.row.A.Denot)). with_all_cells (map cells_of l) c.add_all_series.new.builder) c.deref.ensures.value
+    ∙ ap (λ (l : List (Vec (CellParts g.row.A.Denot) g.row.A.Denot)). with_all_cells (map cells_of_parts l) c.add_all_series.new.builder) c.deref.ensures.value
     ∙ ap (λ (z : Built). with_all_cells d.cells z) (c.in_ok-add_all_series.ensures ∙ ap (λ (z : Built). with_all_series d.series z) c.in_ok-builder.ensures)
     ∙ whole d c.args.image.settings c.requires.settings p.each in
     subst IsBuildable (sym e) (buildable c.args.image.version d p)
@@ -71,7 +71,7 @@ returns g c =
     let p = c.requires.possible in
     let e =
     c.in_ok-add_all_cells.ensures
-    ∙ ap (λ (l : List (Vec (CellParts g.row.A.Denot) g.row.A.Denot)). with_all_cells (map cells_of l) c.add_all_series.new.builder) c.deref.ensures.value
+    ∙ ap (λ (l : List (Vec (CellParts g.row.A.Denot) g.row.A.Denot)). with_all_cells (map cells_of_parts l) c.add_all_series.new.builder) c.deref.ensures.value
     ∙ ap (λ (z : Built). with_all_cells d.cells z) (c.in_ok-add_all_series.ensures ∙ ap (λ (z : Built). with_all_series d.series z) c.in_ok-builder.ensures)
     ∙ whole d c.args.image.settings c.requires.settings p.each in
     if_ok c.finish.result (λ (k : StoreData) b. built_store c.args.image.version d k p p.each (subst (λ (z : Built). IsBuiltFrom z k) e b)) c.finish.ensures

@@ -1,6 +1,6 @@
 use Rattle.std.proofs.Common.{◌≡◌, ◌<◌, ℤ, true, false, List, length, slice_index_or, sym, ap, ◌∙◌, subst, arith}
 use Rattle.ts_line.specs.Parts.{LinePart}
-use Rattle.ts_line.specs.NameMarks.{slot_of}
+use Rattle.ts_line.specs.NameFilters.{slot_of}
 use Rattle.ts_line.specs.Fields.{next_field, with_field}
 use Rattle.ts_line.proofs.StepsPutLemmas.{put_read}
 use Rattle.ts_line.proofs.MarkLemmas.{unmarked_pushed, push_marked, with_marked}

@@ -1,5 +1,5 @@
 use Rattle.std.proofs.Common.{◌≡◌, false, slice_index_or, sym, ap, ◌∙◌}
-use Rattle.ts_line.specs.NameMarks.{slot_of}
+use Rattle.ts_line.specs.NameFilters.{slot_of}
 use Rattle.ts_line.proofs.MarkLemmas.{unmarked_key, keys_kept}
 use Rattle.ts_line.proofs.tag.is_repeated.Goals as goal
 

@@ -2,7 +2,7 @@ use Rattle.std.proofs.Common.{◌≡◌, ◌∷◌, ◌++◌, ◌+◌, [], Ok, L
 use Rattle.std.proofs.lemmas.Result.{err_from_is_err_and}
 use Rattle.std.proofs.lemmas.List.{length-append}
 use Rattle.ts_line.specs.Parts.{LinePart}
-use Rattle.ts_line.specs.ReadSteps.{FailsIfRoom}
+use Rattle.ts_line.specs.ReadSteps.{FailsIfMemory}
 use Rattle.ts_line.specs.StepsPut.{put_by}
 use Rattle.ts_line.specs.TagParts.{next_tag, tags_at}
 use Rattle.ts_line.proofs.TagLemmas.{tag_taken, tag_fails, tags_ended}
@@ -35,7 +35,7 @@ returns-in_err-at-clause-value g c =
     let comma : slice_index c.args.line.now c.loop-alloc.at ≡ 44 = sym c.byte_at.ensures ∙ c.loop-alloc-test.true in
     let push = λ (t : LinePart × LinePart). before ++ t ∷ [] in
     let next = next_tag before c.args.line.now (c.loop-alloc.at + 1) in
-    let step : FailsIfRoom c.in_err-at.field-0.0 (put_by push next) = rw (← c.after.ensures.value) c.in_err-at.ensures.value in
+    let step : FailsIfMemory c.in_err-at.field-0.0 (put_by push next) = rw (← c.after.ensures.value) c.in_err-at.ensures.value in
     let read = was_fault push next c.in_err-at.field-0.0 step in
     let p = err_from_is_err_and c.from_residual-in_err-at.result c.from_residual-in_err-at.ensures.1 in
     rw (p.1, p.2) (tag_fails (length before) before c.args.line.now c.loop-alloc.at c.in_err-at.field-0.0 (tags_at 65 [] c.args.line.now c.args.start) c.loop-alloc.invariant.few comma read c.loop-alloc.invariant.value)

@@ -1,42 +1,42 @@
 use Rattle.std.proofs.Common.{◌≡◌, ℕ, List, [], ◌∷◌, ◌++◌, ◌+◌, length, vec_len, take, ◌∙◌, ap, sym, subst, refl, arith, is_ok, if◌then◌else◌}
 use Rattle.ts_block.specs.Appending.{EndsInBlock}
-use Rattle.ts_raw.specs.declared.mark.Mark.{Mark}
-use Rattle.ts_raw.specs.CodedPoints.{coded_points, blocks_at, IsCounted, OthersEndBy}
+use Rattle.ts_raw.specs.declared.block_handle.BlockHandle.{BlockHandle}
+use Rattle.ts_raw.specs.CodedPoints.{coded_points, blocks_at, AreCountedBlocks, OthersEndBy}
 use Rattle.ts_raw.proofs.PushLemmas.{all_within, others_from, new_mark, rising_push, coded_less}
 use Rattle.ts_raw.proofs.SealingLemmas.{sealed, joined_push}
 use Rattle.ts_raw.proofs.appending.push_block.Given.{Over}
 use Rattle.ts_raw.proofs.appending.push_block.Goals.{After-unwrap}
 use Rattle.ts_raw.proofs.appending.push_block.Goals as goal
 
-mark : (g : Over) (c : After-unwrap g) → Mark
-mark g c = record { start = c.len-start.result; values = 9; end = c.len.result; count = 1; before = c.args.total; last = c.args.point.now.0 }
+handle : (g : Over) (c : After-unwrap g) → BlockHandle
+handle g c = record { start = c.len-start.result; values = 9; end = c.len.result; count = 1; before = c.args.total; last = c.args.point.now.0 }
 
-both : (g : Over) (c : After-unwrap g) → IsCounted c.begin.new.bytes.items (c.args.marks.now.items ++ mark g c ∷ []) (c.args.total + 1)
-    × (coded_points c.begin.new.bytes.items (c.args.marks.now.items ++ mark g c ∷ []) ≡ coded_points c.args.bytes.now.items c.args.marks.now.items ++ c.args.point.now ∷ [])
-    × (blocks_at c.begin.new.bytes.items (c.args.marks.now.items ++ mark g c ∷ []) ≡ blocks_at c.args.bytes.now.items c.args.marks.now.items ++ ((c.args.point.now ∷ []) ∷ []))
-unfolding mark
+both : (g : Over) (c : After-unwrap g) → AreCountedBlocks c.begin.new.bytes.items (c.args.handles.now.items ++ handle g c ∷ []) (c.args.total + 1)
+    × (coded_points c.begin.new.bytes.items (c.args.handles.now.items ++ handle g c ∷ []) ≡ coded_points c.args.bytes.now.items c.args.handles.now.items ++ c.args.point.now ∷ [])
+    × (blocks_at c.begin.new.bytes.items (c.args.handles.now.items ++ handle g c ∷ []) ≡ blocks_at c.args.bytes.now.items c.args.handles.now.items ++ ((c.args.point.now ∷ []) ∷ []))
+unfolding handle
 both g c =
     let bytes : List ℕ = c.args.bytes.now.items in
     let new : List ℕ = c.begin.new.bytes.items in
-    let ms : List Mark = c.args.marks.now.items in
+    let ms : List BlockHandle = c.args.handles.now.items in
     let start : c.len-start.result ≡ length bytes = omega (arith, c.len-start.ensures, c.args.bytes.now.ok.0) in
     let end : c.len.result ≡ length new = omega (arith, c.len.ensures, c.begin.new.bytes.ok.0) in
     let same : take (length bytes) new ≡ bytes = ap (λ n. take n new) (let n : length bytes ≡ vec_len c.args.bytes.now = omega (arith, c.args.bytes.now.ok.0) in n) ∙ c.begin.ensures.before in
     let block : EndsInBlock new c.len-start.result (c.len-start.result + 9) c.args.point.now.0 (c.args.point.now ∷ []) =
     subst (λ n. EndsInBlock new n (n + 9) c.args.point.now.0 (c.args.point.now ∷ [])) (let n : vec_len c.args.bytes.now ≡ c.len-start.result = omega (arith, c.len-start.ensures) in n) c.begin.ensures.ends in
-    let encoded = new_mark new (mark g c) (c.args.point.now ∷ []) block end refl in
+    let encoded = new_mark new (handle g c) (c.args.point.now ∷ []) block end refl in
     let rising = rising_push (coded_points bytes ms) c.args.point.now c.requires.counted.coded.rising (coded_less bytes c.args.point.now.0 ms 0 c.requires.counted.coded.marked c.requires.later) in
-    let s = sealed bytes new ms (mark g c) c.args.total (c.args.point.now ∷ []) c.requires.counted same (record { mark = encoded.0; points_are = encoded.1 }) block.block.points_are rising in
-    (s.0, joined_push bytes new ms (ms ++ mark g c ∷ []) (c.args.point.now ∷ []) s.1, s.1)
+    let s = sealed bytes new ms (handle g c) c.args.total (c.args.point.now ∷ []) c.requires.counted same (record { handle = encoded.0; points_are = encoded.1 }) block.block.points_are rising in
+    (s.0, joined_push bytes new ms (ms ++ handle g c ∷ []) (c.args.point.now ∷ []) s.1, s.1)
 
-items : (g : Over) (c : After-unwrap g) → c.push.new.self.items ≡ c.args.marks.now.items ++ mark g c ∷ []
-unfolding mark
-items g c = c.push.ensures.items ∙ ap (λ r. if is_ok r then c.args.marks.now.items ++ mark g c ∷ [] else c.args.marks.now.items) c.unwrap.ensures
+items : (g : Over) (c : After-unwrap g) → c.push.new.self.items ≡ c.args.handles.now.items ++ handle g c ∷ []
+unfolding handle
+items g c = c.push.ensures.items ∙ ap (λ r. if is_ok r then c.args.handles.now.items ++ handle g c ∷ [] else c.args.handles.now.items) c.unwrap.ensures
 
 pub returns-clause-counted : goal.returns-clause-counted
 returns-clause-counted g c =
     let at = (goal.at.returns-clause-counted g c).After-unwrap in
-    subst (λ (ms : List Mark). IsCounted c.begin.new.bytes.items ms (c.args.total + 1)) (sym (items g at)) (both g at).0
+    subst (λ (ms : List BlockHandle). AreCountedBlocks c.begin.new.bytes.items ms (c.args.total + 1)) (sym (items g at)) (both g at).0
 
 pub returns-clause-points : goal.returns-clause-points
 returns-clause-points g c =
@@ -54,4 +54,4 @@ returns-clause-others g c =
     let bytes : List ℕ = c.args.bytes.now.items in
     let size : length bytes ≡ vec_len c.args.bytes.now = omega (arith, c.args.bytes.now.ok.0) in
     subst (λ n. OthersEndBy n c.push.new.self.items) size
-    (subst (OthersEndBy (length bytes)) (sym (items g at)) (others_from (length bytes) c.args.marks.now.items (mark g at) (all_within bytes c.args.marks.now.items 0 c.requires.counted.coded.marked)))
+    (subst (OthersEndBy (length bytes)) (sym (items g at)) (others_from (length bytes) c.args.handles.now.items (handle g at) (all_within bytes c.args.handles.now.items 0 c.requires.counted.coded.marked)))

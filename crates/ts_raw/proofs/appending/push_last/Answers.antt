@@ -2,8 +2,8 @@ use Rattle.std.proofs.Common.{rules, Fits, w64, ◌≡◌, ℕ, List, [], ◌∷
 use Rattle.std.proofs.Math.Facts.{Fits-le}
 use Rattle.ts_core.specs.facts.Times.{IsTime}
 use Rattle.ts_block.specs.Appending.{EndsInBlock}
-use Rattle.ts_raw.specs.declared.mark.Mark.{Mark}
-use Rattle.ts_raw.specs.CodedPoints.{points_at, coded_points, blocks_at, IsCounted, OthersEndBy}
+use Rattle.ts_raw.specs.declared.block_handle.BlockHandle.{BlockHandle}
+use Rattle.ts_raw.specs.CodedPoints.{points_at, coded_points, blocks_at, AreCountedBlocks, OthersEndBy}
 use Rattle.ts_raw.proofs.PushLemmas.{last_block, last_before, last_values, marks_split, others_from, extended}
 use Rattle.ts_raw.proofs.appending.push_last.Given.{Over}
 use Rattle.ts_raw.proofs.appending.push_last.Goals.{After-unwrap}
@@ -12,70 +12,70 @@ use Rattle.ts_raw.proofs.appending.push_last.Goals as goal
 pub append-values-requires-clause-ends : goal.append-values-requires-clause-ends
 append-values-requires-clause-ends g c =
     let bytes : List ℕ = c.args.bytes.now.items in
-    let m : Mark = c.args.mark.now in
+    let m : BlockHandle = c.args.handle.now in
     let here : m.end ≡ length bytes = omega (arith, c.requires.ends, c.args.bytes.now.ok.0) in (
       points_at bytes m,
-      last_block bytes bytes c.args.marks.now.items m m c.args.total c.args.point.now c.requires.counted c.requires.later here c.requires.apart,
-      let f = c.requires.few in let n = (marks_split bytes m c.args.marks.now.items 0 c.requires.counted.coded.marked).1.count_is in omega arith,
+      last_block bytes bytes c.args.handles.now.items m m c.args.total c.args.point.now c.requires.counted c.requires.later here c.requires.apart,
+      let f = c.requires.few in let n = (marks_split bytes m c.args.handles.now.items 0 c.requires.counted.coded.marked).1.count_is in omega arith,
     )
 
 pub append-values-requires-clause-later : goal.append-values-requires-clause-later
 append-values-requires-clause-later g c =
     let bytes : List ℕ = c.args.bytes.now.items in
-    let m : Mark = c.args.mark.now in
+    let m : BlockHandle = c.args.handle.now in
     let here : m.end ≡ length bytes = omega (arith, c.requires.ends, c.args.bytes.now.ok.0) in
-    last_before bytes bytes c.args.marks.now.items m m c.args.total c.args.point.now c.requires.counted c.requires.later here c.requires.apart
+    last_before bytes bytes c.args.handles.now.items m m c.args.total c.args.point.now c.requires.counted c.requires.later here c.requires.apart
 
-pub overflow_add-mark : goal.overflow_add-mark
-overflow_add-mark g c =
+pub overflow_add-handle : goal.overflow_add-handle
+overflow_add-handle g c =
     let bytes : List ℕ = c.args.bytes.now.items in
-    let m : Mark = c.args.mark.now in
+    let m : BlockHandle = c.args.handle.now in
     let here : m.end ≡ length bytes = omega (arith, c.requires.ends, c.args.bytes.now.ok.0) in
-    let fits = last_values bytes bytes c.args.marks.now.items m m c.args.total c.args.point.now c.requires.counted c.requires.later here c.requires.apart in
+    let fits = last_values bytes bytes c.args.handles.now.items m m c.args.total c.args.point.now c.requires.counted c.requires.later here c.requires.apart in
     let size : Fits w64 m.end = search rules in
     Fits-le (let n : m.start + m.values ≤ m.end = omega arith in n) size
 
-mark : (g : Over) (c : After-unwrap g) → Mark
-mark g c = record { start = c.args.mark.now.start; values = c.append-values.result - c.args.mark.now.start; end = c.len.result; count = c.args.mark.now.count + 1; before = c.args.mark.now.before; last = c.args.point.now.0 }
+handle : (g : Over) (c : After-unwrap g) → BlockHandle
+handle g c = record { start = c.args.handle.now.start; values = c.append-values.result - c.args.handle.now.start; end = c.len.result; count = c.args.handle.now.count + 1; before = c.args.handle.now.before; last = c.args.point.now.0 }
 
-both : (g : Over) (c : After-unwrap g) → IsCounted c.append-values.new.bytes.items (c.args.marks.now.items ++ mark g c ∷ []) (c.args.total + 1)
-    × (coded_points c.append-values.new.bytes.items (c.args.marks.now.items ++ mark g c ∷ []) ≡ coded_points c.args.bytes.now.items (c.args.marks.now.items ++ c.args.mark.now ∷ []) ++ c.args.point.now ∷ [])
-    × (blocks_at c.append-values.new.bytes.items (c.args.marks.now.items ++ mark g c ∷ []) ≡ blocks_at c.args.bytes.now.items c.args.marks.now.items ++ ((points_at c.args.bytes.now.items c.args.mark.now ++ c.args.point.now ∷ []) ∷ []))
-unfolding mark
+both : (g : Over) (c : After-unwrap g) → AreCountedBlocks c.append-values.new.bytes.items (c.args.handles.now.items ++ handle g c ∷ []) (c.args.total + 1)
+    × (coded_points c.append-values.new.bytes.items (c.args.handles.now.items ++ handle g c ∷ []) ≡ coded_points c.args.bytes.now.items (c.args.handles.now.items ++ c.args.handle.now ∷ []) ++ c.args.point.now ∷ [])
+    × (blocks_at c.append-values.new.bytes.items (c.args.handles.now.items ++ handle g c ∷ []) ≡ blocks_at c.args.bytes.now.items c.args.handles.now.items ++ ((points_at c.args.bytes.now.items c.args.handle.now ++ c.args.point.now ∷ []) ∷ []))
+unfolding handle
 both g c =
     let bytes : List ℕ = c.args.bytes.now.items in
     let new : List ℕ = c.append-values.new.bytes.items in
-    let m : Mark = c.args.mark.now in
+    let m : BlockHandle = c.args.handle.now in
     let here : m.end ≡ length bytes = omega (arith, c.requires.ends, c.args.bytes.now.ok.0) in
     let end : c.len.result ≡ length new = omega (arith, c.len.ensures, c.append-values.new.bytes.ok.0) in
     let valid : IsTime c.args.point.now.0 = subst IsTime c.nanos-valid.ensures.value c.nanos-valid.ensures.valid in
-    let block = c.append-values.ensures.ends (points_at bytes m) (last_block bytes new c.args.marks.now.items m (mark g c) c.args.total c.args.point.now c.requires.counted c.requires.later here c.requires.apart) in
-    let place : c.append-values.result ≡ m.start + (c.append-values.result - m.start) = let v = block.values_at in omega arith in
-    extended bytes new c.args.marks.now.items m (mark g c) c.args.total c.args.point.now c.requires.counted c.requires.later here c.requires.apart valid refl refl refl refl end c.append-values.ensures.before
-    (subst (λ n. EndsInBlock new m.start n c.args.point.now.0 (points_at bytes m ++ c.args.point.now ∷ [])) place block)
+    let block = c.append-values.ensures.ends (points_at bytes m) (last_block bytes new c.args.handles.now.items m (handle g c) c.args.total c.args.point.now c.requires.counted c.requires.later here c.requires.apart) in
+    let index : c.append-values.result ≡ m.start + (c.append-values.result - m.start) = let v = block.values_at in omega arith in
+    extended bytes new c.args.handles.now.items m (handle g c) c.args.total c.args.point.now c.requires.counted c.requires.later here c.requires.apart valid refl refl refl refl end c.append-values.ensures.before
+    (subst (λ n. EndsInBlock new m.start n c.args.point.now.0 (points_at bytes m ++ c.args.point.now ∷ [])) index block)
 
-items : (g : Over) (c : After-unwrap g) → c.push.new.self.items ≡ c.args.marks.now.items ++ mark g c ∷ []
-unfolding mark
-items g c = c.push.ensures.items ∙ ap (λ r. if is_ok r then c.args.marks.now.items ++ mark g c ∷ [] else c.args.marks.now.items) c.unwrap.ensures
+items : (g : Over) (c : After-unwrap g) → c.push.new.self.items ≡ c.args.handles.now.items ++ handle g c ∷ []
+unfolding handle
+items g c = c.push.ensures.items ∙ ap (λ r. if is_ok r then c.args.handles.now.items ++ handle g c ∷ [] else c.args.handles.now.items) c.unwrap.ensures
 
-pub overflow_sub-mark : goal.overflow_sub-mark
-overflow_sub-mark g c =
+pub overflow_sub-handle : goal.overflow_sub-handle
+overflow_sub-handle g c =
     let bytes : List ℕ = c.args.bytes.now.items in
-    let m : Mark = c.args.mark.now in
+    let m : BlockHandle = c.args.handle.now in
     let here : m.end ≡ length bytes = omega (arith, c.requires.ends, c.args.bytes.now.ok.0) in
-    let block = c.append-values.ensures.ends (points_at bytes m) (last_block bytes bytes c.args.marks.now.items m m c.args.total c.args.point.now c.requires.counted c.requires.later here c.requires.apart) in
+    let block = c.append-values.ensures.ends (points_at bytes m) (last_block bytes bytes c.args.handles.now.items m m c.args.total c.args.point.now c.requires.counted c.requires.later here c.requires.apart) in
     let v = block.values_at in
     omega arith
 
 pub returns-clause-counted : goal.returns-clause-counted
 returns-clause-counted g c =
     let at = (goal.at.returns-clause-counted g c).After-unwrap in
-    subst (λ (ms : List Mark). IsCounted c.append-values.new.bytes.items ms (c.args.total + 1)) (sym (items g at)) (both g at).0
+    subst (λ (ms : List BlockHandle). AreCountedBlocks c.append-values.new.bytes.items ms (c.args.total + 1)) (sym (items g at)) (both g at).0
 
 pub returns-clause-others : goal.returns-clause-others
 returns-clause-others g c = λ offset h.
     let at = (goal.at.returns-clause-others g c).After-unwrap in
-    subst (OthersEndBy offset) (sym (items g at)) (others_from offset c.args.marks.now.items (mark g at) h)
+    subst (OthersEndBy offset) (sym (items g at)) (others_from offset c.args.handles.now.items (handle g at) h)
 
 pub returns-clause-points : goal.returns-clause-points
 returns-clause-points g c =

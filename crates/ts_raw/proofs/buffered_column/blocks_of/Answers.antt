@@ -12,7 +12,7 @@ more i ps =
     ∙ sym (take-add (i * 256) 256 ps) ∙ ap (λ n. take n ps) (let n : i * 256 + 256 ≡ (i + 1) * 256 = omega arith in n)
 
 pub loop-i-init : goal.loop-i-init
-loop-i-init g c = record { points = entries_nothing c.new-blocks.result.points c.new-blocks.ensures.points; none_aside = c.new-blocks.ensures.none_aside }
+loop-i-init g c = record { points = entries_nothing c.new-blocks.result.points c.new-blocks.ensures.points; none_staged = c.new-blocks.ensures.none_staged }
 
 pub push_block-requires-clause-rising : goal.push_block-requires-clause-rising
 push_block-requires-clause-rising g c =
@@ -26,7 +26,7 @@ loop-i-preserved g c =
     let i : ℕ = c.loop-i.i in
     record {
       points = c.in_ok-push_block.ensures.pushed ∙ ap (λ (x : List (ℤ × ℤ)). x ++ take (i * 256 + 256 - i * 256) (drop (i * 256) ps)) c.loop-i.invariant.points ∙ more i ps;
-      none_aside = c.push_block.ensures.none_aside;
+      none_staged = c.push_block.ensures.none_staged;
     }
 
 pub returns-clause-points : goal.returns-clause-points
@@ -34,5 +34,5 @@ returns-clause-points g c =
     let all : c.loop-i.i ≡ c.args.count = search rules in
     c.loop-i.invariant.points ∙ ap (λ n. take (n * 256) c.args.points.now) all
 
-pub returns-clause-none_aside : goal.returns-clause-none_aside
-returns-clause-none_aside g c = c.loop-i.invariant.none_aside
+pub returns-clause-none_staged : goal.returns-clause-none_staged
+returns-clause-none_staged g c = c.loop-i.invariant.none_staged

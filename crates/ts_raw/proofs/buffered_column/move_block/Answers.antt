@@ -46,7 +46,7 @@ pub returns-clause-buffered : goal.returns-clause-buffered
 returns-clause-buffered g c =
     let at = (goal.at.returns-clause-buffered g c).After-as_slice in
     moved_kept c.args.blocks.now c.args.buffer.now c.push_block.new.self c.remove_front.new.self c.requires.buffered 256 (let f = full g at in omega arith)
-    (c.in_ok-push_block.ensures.pushed ∙ ap (λ (x : List (ℤ × ℤ)). map.entries c.args.blocks.now.points ++ x) (pushed g at)) c.remove_front.ensures.points c.push_block.ensures.none_aside c.remove_front.ensures.none_aside
+    (c.in_ok-push_block.ensures.pushed ∙ ap (λ (x : List (ℤ × ℤ)). map.entries c.args.blocks.now.points ++ x) (pushed g at)) c.remove_front.ensures.points c.push_block.ensures.none_staged c.remove_front.ensures.none_staged
 
 pub returns-clause-points : goal.returns-clause-points
 returns-clause-points g c =

@@ -1,32 +1,32 @@
 use Rattle.std.proofs.Common.{◌≡◌, ℕ, ℤ, List, length, vec_len, take, drop, get_or, int_cmp, IfOk, sym, ap, subst, ◌∙◌, arith}
 use Rattle.std.specs.FinMap.{put}
-use Rattle.ts_raw.specs.declared.mark.Mark.{Mark}
-use Rattle.ts_raw.specs.CodedPoints.{IsMark, points_at, coded_points}
-use Rattle.ts_raw.specs.Rewriting.{IsRewritten, blocks_of, cut_at}
+use Rattle.ts_raw.specs.declared.block_handle.BlockHandle.{BlockHandle}
+use Rattle.ts_raw.specs.CodedPoints.{IsBlockHandle, points_at, coded_points}
+use Rattle.ts_raw.specs.Rewriting.{IsRewritten, blocks_of, cut_in_block}
 use Rattle.ts_raw.proofs.BlockLists.{mark_at}
 use Rattle.ts_raw.proofs.ColumnBlocks.{rewritten_if_ok}
 use Rattle.ts_raw.proofs.staging.stage_among.Given.{Over}
 use Rattle.ts_raw.proofs.staging.stage_among.Goals.{After-cut_of}
 use Rattle.ts_raw.proofs.staging.stage_among.Goals as goal
 
-there : (g : Over) (c : After-cut_of g) → c.index.result.now ≡ get_or c.args.marks.now.items c.args.at c.index.result.now
-there g c = c.index.ensures ∙ ap (λ (x : List Mark). get_or x c.args.at c.index.result.now) c.reserve_eighth.ensures.items
+there : (g : Over) (c : After-cut_of g) → c.index.result.now ≡ get_or c.args.handles.now.items c.args.at c.index.result.now
+there g c = c.index.ensures ∙ ap (λ (x : List BlockHandle). get_or x c.args.at c.index.result.now) c.reserve_eighth.ensures.items
 
 pub rewrite-requires : goal.rewrite-requires
 rewrite-requires g c =
     let at = (goal.at.rewrite-requires g c).After-cut_of in
-    record { marked = subst (IsMark c.args.bytes.now.items) (sym (there g at)) (mark_at c.args.bytes.now.items c.args.marks.now.items 0 c.args.at c.index.result.now c.requires.marked c.requires.within) }
+    record { marked = subst (IsBlockHandle c.args.bytes.now.items) (sym (there g at)) (mark_at c.args.bytes.now.items c.args.handles.now.items 0 c.args.at c.index.result.now c.requires.marked c.requires.within) }
 
 pub returns-clause-rewritten : goal.returns-clause-rewritten
 returns-clause-rewritten g c =
     let at = (goal.at.returns-clause-rewritten g c).After-cut_of in
     let old : List ℕ = c.args.bytes.now.items in
     let new : List ℕ = c.rewrite.new.bytes.items in
-    let ms : List Mark = c.args.marks.now.items in
+    let ms : List BlockHandle = c.args.handles.now.items in
     let p : ℤ × ℤ = c.args.point.now in
     let front : take (length old) new ≡ old = ap (λ n. take n new) (let n : length old ≡ vec_len c.args.bytes.now = omega (arith, c.args.bytes.now.ok.0) in n) ∙ c.rewrite.ensures.kept in
-    let same : put int_cmp p.0 p.1 (drop c.cut_of.result (points_at old c.index.result.now)) ≡ put int_cmp p.0 p.1 (drop (cut_at c.args.at c.args.cut) (points_at old (get_or ms c.args.at c.index.result.now))) =
+    let same : put int_cmp p.0 p.1 (drop c.cut_of.result (points_at old c.index.result.now)) ≡ put int_cmp p.0 p.1 (drop (cut_in_block c.args.at c.args.cut) (points_at old (get_or ms c.args.at c.index.result.now))) =
     λ i. put int_cmp p.0 p.1 (drop (c.cut_of.ensures i) (points_at old (there g at i))) in
     let points = subst (λ (x : List (ℤ × ℤ)). IfOk c.rewrite.result (λ n. coded_points new (blocks_of n) ≡ x)) same c.rewrite.ensures.points in
-    subst (λ (x : List Mark). IfOk c.rewrite.result (λ n. IsRewritten new x c.args.cut p n)) (sym c.reserve_eighth.ensures.items)
+    subst (λ (x : List BlockHandle). IfOk c.rewrite.result (λ n. IsRewritten new x c.args.cut p n)) (sym c.reserve_eighth.ensures.items)
     (rewritten_if_ok old new ms c.args.at c.args.cut c.index.result.now p c.rewrite.result c.requires.marked c.requires.within c.requires.at c.rewrite.ensures.at c.rewrite.ensures.blocks points front)

@@ -7,7 +7,7 @@ use Rattle.ts_ql.specs.Selects.{Select}
 use Rattle.ts_reply.specs.Answering.{AreOutcomes}
 use Rattle.ts_reply.specs.declared.epoch.Epoch.TheVariants.{Text as AsText}
 use Rattle.ts_reply.specs.Explaining.{IsExplained, IsExplanation, good, bad}
-use Rattle.ts_reply.specs.Replies.{TellsOutcomes, refusal_text}
+use Rattle.ts_reply.specs.Replies.{TellsOutcomes, refusal_reply_text}
 use Rattle.ts_reply.specs.OutcomeViews.{outcome_view}
 use Rattle.ts_reply.proofs.explaining.explain.Goals as goal
 
@@ -21,5 +21,5 @@ returns-in_ok-body-in-Ok g c = λ opening h stands.
 
 pub returns-in_ok-body-in-Err-Fault : goal.returns-in_ok-body-in-Err-Fault
 returns-in_ok-body-in-Err-Fault g c = λ opening h stands.
-    subst (λ (body : Text). IsExplanation opening h c.args.now c.args.text.now false body) (sym (c.in_ok-body-in-Err-Fault.ensures ∙ ap (λ fault. refusal_text (query_fault_text (as_fault fault))) c.in-Err-Fault.fault-is))
+    subst (λ (body : Text). IsExplanation opening h c.args.now c.args.text.now false body) (sym (c.in_ok-body-in-Err-Fault.ensures ∙ ap (λ fault. refusal_reply_text (query_fault_text (as_fault fault))) c.in-Err-Fault.fault-is))
     (bad (as_fault c.in-Err-Fault.fault) (subst (Explained c.args.now c.args.text.now) c.in-Err-Fault.field-0-is c.in-Err-Fault.ensures.reading.tells))

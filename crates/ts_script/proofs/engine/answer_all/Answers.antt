@@ -1,7 +1,7 @@
 use Rattle.std.proofs.Common.{◌≡◌, true, false, true≢false, refl, sym, ap, ◌∙◌, Err, arith}
 use Rattle.std.proofs.lemmas.Result.{err_from_is_err_and}
 use Rattle.ts_core.specs.io.ReadingAhead.{Ahead, bit}
-use Rattle.ts_script.specs.LineReading.{to_come}
+use Rattle.ts_script.specs.LineReading.{lines_to_come}
 use Rattle.ts_script.specs.ScriptReplies.{text_of}
 use Rattle.ts_script.specs.RunFaults.{fault_of_read}
 use Rattle.ts_script.proofs.Progress.{begins, goes_on, sends, cut_off, cut_short, cut_at_end, all_answered, all_before_cut, reader_is_not_writer, reader_told, turns_told, writer_silent, memory_silent, writer_is_not_memory, writer_is_not_turns, done_has_no_fault}
@@ -20,7 +20,7 @@ loop-lines-init g c =
       ends = omega (arith, ap (λ (a : Ahead). bit a.ended) e);
       reader = refl;
       writer = refl;
-      room = c.requires.text;
+      spare = c.requires.text;
     }
 
 pub returns-in_err-send_before_wait : goal.returns-in_err-send_before_wait
@@ -52,7 +52,7 @@ loop-lines-preserved g c =
     let s = c.in_ok-send.ensures in
     record {
       progress = goes_on c.args.source.now.remaining c.loop-lines.lines c.next.new.self c.loop-lines.source c.next.new.source c.args.sink.now.contents c.send_before_wait.new.sink.contents c.send.new.sink.contents c.send_before_wait.new.answers c.send.new.answers c.line.result.now c.in_ok-next.next c.loop-lines.machine c.answer-reply.new.machine (text_of c.answer-reply.result) c.line.ensures.line c.in_default.not-End
-          (sends c.args.source.now.remaining (to_come c.loop-lines.lines c.loop-lines.source) c.loop-lines.lines.ahead.ended c.args.sink.now.contents c.loop-lines.sink.contents c.send_before_wait.new.sink.contents c.loop-lines.answers c.send_before_wait.new.answers c.loop-lines.machine i.progress c.in_ok-send_before_wait.ensures.sent.ok)
+          (sends c.args.source.now.remaining (lines_to_come c.loop-lines.lines c.loop-lines.source) c.loop-lines.lines.ahead.ended c.args.sink.now.contents c.loop-lines.sink.contents c.send_before_wait.new.sink.contents c.loop-lines.answers c.send_before_wait.new.answers c.loop-lines.machine i.progress c.in_ok-send_before_wait.ensures.sent.ok)
           n.next c.answer-reply.ensures s.sent.ok;
       over = n.source_calls.end;
       turns = omega (arith, i.turns, n.source_calls.turns);
@@ -61,7 +61,7 @@ loop-lines-preserved g c =
       ends = omega (arith, i.ends, n.source_calls.ends);
       reader = omega (arith, i.reader, n.source_calls.failures);
       writer = omega (arith, i.writer, b.failures, s.sent.failures);
-      room = s.room;
+      spare = s.spare;
     }
 
 pub returns-in_err-send : goal.returns-in_err-send
@@ -72,7 +72,7 @@ returns-in_err-send g c =
     let n = c.in_ok-next.ensures in
     let s = c.in_err-send.ensures.sent in
     let e = cut_short c.args.source.now.remaining c.loop-lines.lines c.next.new.self c.loop-lines.source c.next.new.source c.args.sink.now.contents c.send_before_wait.new.sink.contents c.send.new.sink.contents c.send_before_wait.new.answers c.line.result.now c.in_ok-next.next c.loop-lines.machine c.answer-reply.new.machine (text_of c.answer-reply.result) c.line.ensures.line c.in_default.not-End n.source_calls.end
-    (sends c.args.source.now.remaining (to_come c.loop-lines.lines c.loop-lines.source) c.loop-lines.lines.ahead.ended c.args.sink.now.contents c.loop-lines.sink.contents c.send_before_wait.new.sink.contents c.loop-lines.answers c.send_before_wait.new.answers c.loop-lines.machine i.progress c.in_ok-send_before_wait.ensures.sent.ok)
+    (sends c.args.source.now.remaining (lines_to_come c.loop-lines.lines c.loop-lines.source) c.loop-lines.lines.ahead.ended c.args.sink.now.contents c.loop-lines.sink.contents c.send_before_wait.new.sink.contents c.loop-lines.answers c.send_before_wait.new.answers c.loop-lines.machine i.progress c.in_ok-send_before_wait.ensures.sent.ok)
     n.next c.answer-reply.ensures s.err in
     rw (p.1, p.2) record {
       came = e.came;
@@ -100,7 +100,7 @@ returns-in_err-next g c =
     let told : result ≡ Err (fault_of_read fault) = p.1 ∙ ap Err p.2 in
     let going = c.in_err-next.ensures.source_calls.stays in
     let e = all_before_cut c.args.source.now.remaining c.loop-lines.lines c.next.new.self c.loop-lines.source c.next.new.source c.args.sink.now.contents c.send_before_wait.new.sink.contents c.send_before_wait.new.answers c.loop-lines.machine
-    (sends c.args.source.now.remaining (to_come c.loop-lines.lines c.loop-lines.source) c.loop-lines.lines.ahead.ended c.args.sink.now.contents c.loop-lines.sink.contents c.send_before_wait.new.sink.contents c.loop-lines.answers c.send_before_wait.new.answers c.loop-lines.machine i.progress c.in_ok-send_before_wait.ensures.sent.ok)
+    (sends c.args.source.now.remaining (lines_to_come c.loop-lines.lines c.loop-lines.source) c.loop-lines.lines.ahead.ended c.args.sink.now.contents c.loop-lines.sink.contents c.send_before_wait.new.sink.contents c.loop-lines.answers c.send_before_wait.new.answers c.loop-lines.machine i.progress c.in_ok-send_before_wait.ensures.sent.ok)
     c.in_err-next.ensures.cut b.flushed in
     record {
       came = e.came;
@@ -127,7 +127,7 @@ returns-in_err-flush g c =
     let n = c.in_ok-next.ensures in
     let s = c.in_err-flush.ensures.buffered in
     let e = cut_at_end c.args.source.now.remaining c.loop-lines.lines c.next.new.self c.loop-lines.source c.next.new.source c.args.sink.now.contents c.send_before_wait.new.sink.contents c.flush.new.sink.contents c.send_before_wait.new.answers c.in_ok-next.next c.loop-lines.machine c.in-End.is n.source_calls.end
-    (sends c.args.source.now.remaining (to_come c.loop-lines.lines c.loop-lines.source) c.loop-lines.lines.ahead.ended c.args.sink.now.contents c.loop-lines.sink.contents c.send_before_wait.new.sink.contents c.loop-lines.answers c.send_before_wait.new.answers c.loop-lines.machine i.progress c.in_ok-send_before_wait.ensures.sent.ok)
+    (sends c.args.source.now.remaining (lines_to_come c.loop-lines.lines c.loop-lines.source) c.loop-lines.lines.ahead.ended c.args.sink.now.contents c.loop-lines.sink.contents c.send_before_wait.new.sink.contents c.loop-lines.answers c.send_before_wait.new.answers c.loop-lines.machine i.progress c.in_ok-send_before_wait.ensures.sent.ok)
     n.next s.err in
     rw (p.1, p.2) record {
       came = e.came;
@@ -151,7 +151,7 @@ returns-in-End g c =
     let n = c.in_ok-next.ensures in
     let s = c.in_ok-flush.ensures in
     let e = all_answered c.args.source.now.remaining c.loop-lines.lines c.next.new.self c.loop-lines.source c.next.new.source c.args.sink.now.contents c.flush.new.sink.contents c.flush.new.self c.in_ok-next.next c.loop-lines.machine c.in-End.is n.source_calls.end
-    (sends c.args.source.now.remaining (to_come c.loop-lines.lines c.loop-lines.source) c.loop-lines.lines.ahead.ended c.args.sink.now.contents c.send_before_wait.new.sink.contents c.flush.new.sink.contents c.send_before_wait.new.answers c.flush.new.self c.loop-lines.machine (sends c.args.source.now.remaining (to_come c.loop-lines.lines c.loop-lines.source) c.loop-lines.lines.ahead.ended c.args.sink.now.contents c.loop-lines.sink.contents c.send_before_wait.new.sink.contents c.loop-lines.answers c.send_before_wait.new.answers c.loop-lines.machine i.progress c.in_ok-send_before_wait.ensures.sent.ok) s.buffered.ok)
+    (sends c.args.source.now.remaining (lines_to_come c.loop-lines.lines c.loop-lines.source) c.loop-lines.lines.ahead.ended c.args.sink.now.contents c.send_before_wait.new.sink.contents c.flush.new.sink.contents c.send_before_wait.new.answers c.flush.new.self c.loop-lines.machine (sends c.args.source.now.remaining (lines_to_come c.loop-lines.lines c.loop-lines.source) c.loop-lines.lines.ahead.ended c.args.sink.now.contents c.loop-lines.sink.contents c.send_before_wait.new.sink.contents c.loop-lines.answers c.send_before_wait.new.answers c.loop-lines.machine i.progress c.in_ok-send_before_wait.ensures.sent.ok) s.buffered.ok)
     n.next s.empty in
     record {
       came = e.came;

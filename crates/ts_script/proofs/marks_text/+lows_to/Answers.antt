@@ -18,7 +18,7 @@ returns-in_ok-low_to-in-Some-Some t c =
           c.args.rules.now i.rules.now c.args.lows.now i.lows.now i.rule.now i.low.now i.ensures.cases.0 i.ensures'.cases.0 c.name.ensures (rw whole at first.ok) others.ok;
       long = no_longer c.lows_to.result (string_len c.lows_to.new.text) (string_len c.low_to.new.text + 74 * length i.rules.now) (string_len c.args.text.now + 74 * length c.args.rules.now)
           (omega (arith, short, i.ensures.cases.1, first.long)) others.long;
-      room = λ enough. others.room (omega (arith, short, i.ensures.cases.1, enough, first.long, first.capacity));
+      spare = λ enough. others.spare (omega (arith, short, i.ensures.cases.1, enough, first.long, first.capacity));
       capacity = omega (arith, first.capacity, others.capacity);
     }
 
@@ -31,7 +31,7 @@ returns-in_err-low_to-in-Some-Some t c =
     rw p.1 record {
       ok = tt;
       long = tt;
-      room = λ enough. first.room (omega (arith, short, i.ensures.cases.1, enough));
+      spare = λ enough. first.spare (omega (arith, short, i.ensures.cases.1, enough));
       capacity = first.capacity;
     }
 
@@ -39,6 +39,6 @@ pub returns-in_default : goal.returns-in_default
 returns-in_default t c = record {
   ok = grind (arith, common_steps);
   long = omega arith;
-  room = λ _. refl;
+  spare = λ _. refl;
   capacity = omega arith;
 }

@@ -18,6 +18,6 @@ returns c =
           c.args.settings.now c.args.marks.now (c.nanos.ensures.value ∙ c.raw.ensures) (ap₂ lows_text c.rules.ensures.value c.lows.ensures) (rw whole at raw.ok) lows.ok;
       long = no_longer c.lows_to.result (string_len c.lows_to.new.text) (string_len c.raw_to.new.text + 74 * length c.rules.result.now) (string_len c.args.text.now + 2414)
           (omega (arith, c.rules.ensures.valid.few, ap length c.rules.ensures.value, raw.long)) lows.long;
-      room = λ enough. lows.room (omega (arith, enough, c.rules.ensures.valid.few, ap length c.rules.ensures.value, raw.long, raw.capacity));
+      spare = λ enough. lows.spare (omega (arith, enough, c.rules.ensures.valid.few, ap length c.rules.ensures.value, raw.long, raw.capacity));
       capacity = omega (arith, raw.capacity, lows.capacity);
     }

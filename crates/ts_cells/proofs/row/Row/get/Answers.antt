@@ -2,24 +2,24 @@ use Rattle.std.proofs.Common.{rules, arith, ◌≡◌, ◌<◌, ◌≤◌, ℕ, 
 use Rattle.std.specs.List.{slice_get}
 use Rattle.std.proofs.lemmas.Option.{slice_get-get_or}
 use Rattle.ts_cells.specs.Grids.{RowOf, held}
-use Rattle.ts_cells.specs.Rows.{place_of}
+use Rattle.ts_cells.specs.Rows.{slot_of}
 use Rattle.ts_cells.proofs.RowLemmas.{held_at, none_held}
 use Rattle.ts_cells.proofs.row.Row.get.Goals as goal
 
-pub returns-then-place-len : goal.returns-then-place-len
-returns-then-place-len g c =
+pub returns-then-slot-len : goal.returns-then-slot-len
+returns-then-slot-len g c =
     let parts : List g.row.P.Denot = c.self.inside.parts.items in
-    let places : List ℕ = c.self.inside.places in
-    let place : c.get-place.result ≡ place_of places c.args.lane = c.get-place.ensures in
-    let within : c.get-place.result < length parts = search rules in
-    let was : c.index.result.now ≡ get_or parts c.get-place.result c.index.result.now = search rules in
-    subst (λ (s : RowOf g.row.P.Denot). Some c.index.result.now ≡ held s.1 c.args.lane) c.self.view_is
-    (sym (held_at parts places c.args.lane c.self.invariant.few ∙ ap (slice_get parts) (sym place) ∙ slice_get-get_or parts c.get-place.result c.index.result.now within ∙ ap Some (sym was)))
+    let slots : List ℕ = c.self.inside.slots in
+    let slot : c.get-slot.result ≡ slot_of slots c.args.series = c.get-slot.ensures in
+    let within : c.get-slot.result < length parts = search rules in
+    let was : c.index.result.now ≡ get_or parts c.get-slot.result c.index.result.now = search rules in
+    subst (λ (s : RowOf g.row.P.Denot). Some c.index.result.now ≡ held s.1 c.args.series) c.self.view_is
+    (sym (held_at parts slots c.args.series c.self.invariant.few ∙ ap (slice_get parts) (sym slot) ∙ slice_get-get_or parts c.get-slot.result c.index.result.now within ∙ ap Some (sym was)))
 
-pub returns-else-place-len : goal.returns-else-place-len
-returns-else-place-len g c =
+pub returns-else-slot-len : goal.returns-else-slot-len
+returns-else-slot-len g c =
     let parts : List g.row.P.Denot = c.self.inside.parts.items in
-    let places : List ℕ = c.self.inside.places in
-    let place : c.get-place.result ≡ place_of places c.args.lane = c.get-place.ensures in
-    let past : length parts ≤ c.get-place.result = search rules in
-    subst (λ (s : RowOf g.row.P.Denot). None ≡ held s.1 c.args.lane) c.self.view_is (sym (none_held parts places c.args.lane c.self.invariant.few (omega arith)))
+    let slots : List ℕ = c.self.inside.slots in
+    let slot : c.get-slot.result ≡ slot_of slots c.args.series = c.get-slot.ensures in
+    let past : length parts ≤ c.get-slot.result = search rules in
+    subst (λ (s : RowOf g.row.P.Denot). None ≡ held s.1 c.args.series) c.self.view_is (sym (none_held parts slots c.args.series c.self.invariant.few (omega arith)))

@@ -1,30 +1,30 @@
 use Rattle.std.proofs.Common.{rules, arith, ◌≡◌, ◌+◌, ℕ, List, None, length, take, sym, ◌∙◌, ap, subst}
 use Rattle.ts_cells.specs.Grids.{RowOf, held, HasLost}
-use Rattle.ts_cells.specs.Rows.{by_lane}
-use Rattle.ts_cells.proofs.RowLemmas.{none_held, gone_placed, part_lost}
+use Rattle.ts_cells.specs.Rows.{by_series}
+use Rattle.ts_cells.proofs.RowLemmas.{none_held, gone_mapped, part_lost}
 use Rattle.ts_cells.proofs.row.Row.remove_last.Goals as goal
 
 pub returns-in_default-clause-none : goal.returns-in_default-clause-none
 returns-in_default-clause-none g c =
     let parts : List g.row.P.Denot = c.self.inside.parts.items in
-    let places : List ℕ = c.self.inside.places in
-    let no_lanes : length c.self.inside.lanes.items ≡ 0 = search rules in
-    let none : length parts ≡ 0 = sym c.self.invariant.as_many ∙ no_lanes in (
-      λ j. subst (λ (s : RowOf g.row.P.Denot). held s.1 j ≡ None) c.self.view_is (none_held parts places j c.self.invariant.few (omega arith)),
+    let slots : List ℕ = c.self.inside.slots in
+    let no_series_list : length c.self.inside.series_list.items ≡ 0 = search rules in
+    let none : length parts ≡ 0 = sym c.self.invariant.as_many ∙ no_series_list in (
+      λ j. subst (λ (s : RowOf g.row.P.Denot). held s.1 j ≡ None) c.self.view_is (none_held parts slots j c.self.invariant.few (omega arith)),
       ap (λ (s : RowOf g.row.P.Denot). s.1) c.self.view_is,
     )
 
 pub invariant_of-self-2 : goal.invariant_of-self-2
 invariant_of-self-2 g c =
     let many : length c.pop-2.new.self.items + 1 ≡ length c.self.inside.parts.items = search rules in
-    gone_placed c.self.inside.places c.self.inside.lanes.items c.pop.new.self.items c.in-Some.lane (length c.self.inside.parts.items) c.self.invariant c.in-Some.ensures.items c.remove.new.self c.remove.ensures.places (length c.pop-2.new.self.items) many
+    gone_mapped c.self.inside.slots c.self.inside.series_list.items c.pop.new.self.items c.in-Some.series (length c.self.inside.parts.items) c.self.invariant c.in-Some.ensures.items c.remove.new.self c.remove.ensures.slots (length c.pop-2.new.self.items) many
 
 pub returns-clause-removed : goal.returns-clause-removed
 returns-clause-removed g c =
     let parts : List g.row.P.Denot = c.self.inside.parts.items in
-    let places : List ℕ = c.self.inside.places in
+    let slots : List ℕ = c.self.inside.slots in
     let many : length c.pop-2.new.self.items + 1 ≡ length parts = search rules in
     let front : c.pop-2.new.self.items ≡ take (length c.pop-2.new.self.items) parts = search rules in
-    subst (λ (s : RowOf g.row.P.Denot). HasLost s.1 (by_lane c.pop-2.new.self.items c.remove.new.self)) c.self.view_is
-    (subst (λ ps. HasLost (by_lane parts places) (by_lane ps c.remove.new.self)) (sym front)
-    (part_lost parts places c.self.inside.lanes.items c.pop.new.self.items c.remove.new.self c.in-Some.lane (length c.pop-2.new.self.items) c.self.invariant c.in-Some.ensures.items many c.remove.ensures.places))
+    subst (λ (s : RowOf g.row.P.Denot). HasLost s.1 (by_series c.pop-2.new.self.items c.remove.new.self)) c.self.view_is
+    (subst (λ ps. HasLost (by_series parts slots) (by_series ps c.remove.new.self)) (sym front)
+    (part_lost parts slots c.self.inside.series_list.items c.pop.new.self.items c.remove.new.self c.in-Some.series (length c.pop-2.new.self.items) c.self.invariant c.in-Some.ensures.items many c.remove.ensures.slots))

@@ -2,20 +2,20 @@ use Rattle.std.proofs.Common.{rules, ◌≡◌, ◌∷◌, sym, ◌∙◌, ap}
 use Rattle.ts_cells.specs.Walks.{CellWithPart, walk_left}
 use Rattle.ts_cells.proofs.walk.WalkIterator.next.Goals as goal
 
-pub lend-requires : goal.lend-requires
-lend-requires g c = (c.in_ok-rows.ensures.inside c.self.inside.lanes.now c.self.invariant.0 c.self.invariant.1).0
+pub borrow-requires : goal.borrow-requires
+borrow-requires g c = (c.in_ok-rows.ensures.inside c.self.inside.series_list.now c.self.invariant.0 c.self.invariant.1).0
 
 pub invariant_of-self : goal.invariant_of-self
-invariant_of-self g c = (c.self.invariant.0, (c.in_ok-rows.ensures.inside c.self.inside.lanes.now c.self.invariant.0 c.self.invariant.1).1)
+invariant_of-self g c = (c.self.invariant.0, (c.in_ok-rows.ensures.inside c.self.inside.series_list.now c.self.invariant.0 c.self.invariant.1).1)
 
 pub returns-clause-steps : goal.returns-clause-steps
 returns-clause-steps g c =
-    sym c.self.view_is ∙ c.in_ok-rows.ensures.found c.self.inside.lanes.now
-    ∙ ap (λ (k : CellWithPart g.row.P.Denot). k ∷ walk_left c.self.inside.lanes.now c.self.inside.order.now c.in_ok-rows.rows.now c.in_ok-rows.found.left.now) (sym c.lend.ensures)
+    sym c.self.view_is ∙ c.in_ok-rows.ensures.found c.self.inside.series_list.now
+    ∙ ap (λ (k : CellWithPart g.row.P.Denot). k ∷ walk_left c.self.inside.series_list.now c.self.inside.order.now c.in_ok-rows.rows.now c.in_ok-rows.found.left.now) (sym c.borrow.ensures)
 
 pub returns-clause-goes : goal.returns-clause-goes
 returns-clause-goes g c =
-    let steps : c.args.self.now ≡ c.lend.result ∷ walk_left c.self.inside.lanes.now c.self.inside.order.now c.in_ok-rows.rows.now c.in_ok-rows.found.left.now =
-    sym c.self.view_is ∙ c.in_ok-rows.ensures.found c.self.inside.lanes.now
-    ∙ ap (λ (k : CellWithPart g.row.P.Denot). k ∷ walk_left c.self.inside.lanes.now c.self.inside.order.now c.in_ok-rows.rows.now c.in_ok-rows.found.left.now) (sym c.lend.ensures) in
+    let steps : c.args.self.now ≡ c.borrow.result ∷ walk_left c.self.inside.series_list.now c.self.inside.order.now c.in_ok-rows.rows.now c.in_ok-rows.found.left.now =
+    sym c.self.view_is ∙ c.in_ok-rows.ensures.found c.self.inside.series_list.now
+    ∙ ap (λ (k : CellWithPart g.row.P.Denot). k ∷ walk_left c.self.inside.series_list.now c.self.inside.order.now c.in_ok-rows.rows.now c.in_ok-rows.found.left.now) (sym c.borrow.ensures) in
     search rules

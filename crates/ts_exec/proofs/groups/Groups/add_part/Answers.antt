@@ -1,7 +1,7 @@
 use Rattle.std.proofs.Common.{◌∙◌, ap, List}
 use Rattle.std.proofs.lemmas.Result.{on_ok_weaker}
 use Rattle.ts_core.specs.facts.Facts.{Text}
-use Rattle.ts_exec.specs.Lent.{lent}
+use Rattle.ts_exec.specs.Borrowed.{borrowed}
 use Rattle.ts_exec.specs.RowParts.{with_part}
 use Rattle.ts_exec.specs.Slots.{Slots}
 use Rattle.ts_exec.specs.GroupTables.{Table, with_cell_part}
@@ -10,12 +10,12 @@ use Rattle.ts_exec.proofs.groups.Groups.add_part.Goals as goal
 
 pub invariant_of-self-2 : goal.invariant_of-self-2
 invariant_of-self-2 g c =
-    written-slots c.expect.new.slots.items c.expect.ensures.slots (lent c.args.values.now) c.in_ok-at.at c.in_ok-at.ensures.place c.index_mut.result.now c.add_part.new.self c.index_mut.ensures.value c.add_part.ensures.key
+    written-slots c.expect.new.slots.items c.expect.ensures.slots (borrowed c.args.values.now) c.in_ok-at.at c.in_ok-at.ensures.row_index c.index_mut.result.now c.add_part.new.self c.index_mut.ensures.value c.add_part.ensures.key
 
 pub returns : goal.returns
 returns g c =
-    let k : List Text = lent c.args.values.now in
+    let k : List Text = borrowed c.args.values.now in
     let t : Slots = c.expect.new.slots.items in
     on_ok_weaker c.add_part.result (λ rows.
-    written-made t c.expect.ensures.slots k c.in_ok-at.at c.in_ok-at.ensures.place c.index_mut.result.now c.add_part.new.self c.index_mut.ensures.value c.add_part.ensures.key (with_part c.args.place c.args.part) c.args.width rows
-    ∙ ap (λ (x : Table). with_cell_part c.args.width k c.args.place c.args.part x) (c.expect.ensures.made ∙ c.self.view_is)) c.add_part.ensures.rows
+    written-made t c.expect.ensures.slots k c.in_ok-at.at c.in_ok-at.ensures.row_index c.index_mut.result.now c.add_part.new.self c.index_mut.ensures.value c.add_part.ensures.key (with_part c.args.row_index c.args.part) c.args.width rows
+    ∙ ap (λ (x : Table). with_cell_part c.args.width k c.args.row_index c.args.part x) (c.expect.ensures.made ∙ c.self.view_is)) c.add_part.ensures.rows

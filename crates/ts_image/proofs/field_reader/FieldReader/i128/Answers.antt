@@ -1,7 +1,7 @@
 use Rattle.std.proofs.Common.{rules, ◌≡◌, ℤ, SFits, to_z, of_z, to_z-of_z, sym, ◌∙◌, subst}
 use Rattle.std.specs.Int.{w128}
-use Rattle.ts_image.specs.Formats.{signed}
-use Rattle.ts_image.specs.FieldReading.{Reads}
+use Rattle.ts_image.specs.Formats.{signed_number}
+use Rattle.ts_image.specs.FieldReading.{ReadsField}
 use Rattle.ts_image.proofs.Reading.{fine, signed_reads}
 use Rattle.ts_image.proofs.field_reader.FieldReader.i128.Goals as goal
 
@@ -10,5 +10,5 @@ returns g c =
     let z = c.from_be_bytes.result in
     let fits : SFits w128 z = search rules in
     let e : to_z w128 (of_z w128 z) ≡ z = to_z-of_z fits in
-    subst (λ (x : ℤ). Reads (signed w128) (λ (n : ℤ). n) c.args.self.now c.args.source.now (fine x) c.take.new.self c.take.new.source) (sym (e ∙ c.from_be_bytes.ensures))
-    (signed_reads w128 c.args.self.now c.take.new.self c.args.source.now c.take.new.source c.take.new.room c.take.ensures.len c.in_ok-take.ensures.filled c.in_ok-take.ensures.calls)
+    subst (λ (x : ℤ). ReadsField (signed_number w128) (λ (n : ℤ). n) c.args.self.now c.args.source.now (fine x) c.take.new.self c.take.new.source) (sym (e ∙ c.from_be_bytes.ensures))
+    (signed_reads w128 c.args.self.now c.take.new.self c.args.source.now c.take.new.source c.take.new.buffer c.take.ensures.len c.in_ok-take.ensures.filled c.in_ok-take.ensures.calls)

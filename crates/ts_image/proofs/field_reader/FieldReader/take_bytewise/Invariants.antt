@@ -3,8 +3,8 @@ use Rattle.ts_image.specs.FieldReading.{CallsSource, UsesBytes}
 use Rattle.ts_image.proofs.Reading.{nothing_yet}
 use Rattle.ts_image.proofs.field_reader.FieldReader.take_bytewise.Given as goal
 
-abbrev pub invariant-loop-place : goal.invariant-loop-place
-invariant-loop-place g l = record {
-  used : UsesBytes l.initial.self l.initial.source (take l.place-index l.room) l.self l.source;
+abbrev pub invariant-loop-cursor : goal.invariant-loop-cursor
+invariant-loop-cursor g l = record {
+  used : UsesBytes l.initial.self l.initial.source (take l.cursor-index l.buffer) l.self l.source;
   calls : CallsSource l.initial.self.ahead l.initial.source nothing_yet l.self.ahead l.source;
 }

@@ -6,11 +6,11 @@ use Rattle.ts_image.proofs.load_fault.LoadFault.text_to.Goals as goal
 
 pushed : {A T E : Type 0} (text : Text) (old new : String A) (r : Result T E) → string_bytes new ≡ cond (is_ok r) (string_bytes old ++ text) (string_bytes old)
     → (string_len old + length text ≤ string_capacity old → IsOk r) → string_capacity old ≤ string_capacity new → IsAppended text old new r
-pushed text old new (Ok x) bytes room capacity = record { ok = bytes; err = tt; room = room; capacity = capacity }
-pushed text old new (Err e) bytes room capacity = record {
+pushed text old new (Ok x) bytes buffer capacity = record { ok = bytes; err = tt; spare = buffer; capacity = capacity }
+pushed text old new (Err e) bytes buffer capacity = record {
   ok = tt;
   err = record { written = []; missing = text; stands = bytes ∙ sym (append-nil (string_bytes old)); whole = refl };
-  room = room;
+  spare = buffer;
   capacity = capacity;
 }
 

@@ -1,6 +1,6 @@
 use Rattle.std.proofs.Common.{◌≡◌, ◌≤◌, ◌-◌, map, take, length, get_or, [], sym, subst, ◌∙◌, arith}
 use Rattle.std.proofs.lemmas.List.{nil_from_length, length-take-le}
-use Rattle.ts_core.specs.text.Texts.{lent_pairs}
+use Rattle.ts_core.specs.text.Texts.{borrowed_pairs}
 use Rattle.ts_line.specs.Parts.{LinePart, tag_texts}
 use Rattle.ts_line.proofs.SortingLemmas.{put_all, put_last, entries_put_all, put_all_set}
 use Rattle.ts_line.proofs.line.Line.put_all.Goals as goal
@@ -14,18 +14,18 @@ loop-left-preserved g c =
     let some : 1 ≤ length c.loop-left.left.now = omega (arith, c.in-len1-up.len_at_least) in
     let count : length (take (length c.loop-left.left.now - 1) c.loop-left.left.now) ≡ length c.loop-left.left.now - 1 = length-take-le (length c.loop-left.left.now - 1) c.loop-left.left.now (omega arith) in
     record {
-      put = rw (c.put.ensures.pairs, key, value) (put_last c.loop-left.left.now tag (lent_pairs c.loop-left.pairs.items) (put_all (map tag_texts c.args.self.now.tags) []) some last c.loop-left.invariant.put);
+      put = rw (c.put.ensures.pairs, key, value) (put_last c.loop-left.left.now tag (borrowed_pairs c.loop-left.pairs.items) (put_all (map tag_texts c.args.self.now.tags) []) some last c.loop-left.invariant.put);
       few = omega (arith, some, c.put.ensures.few, c.loop-left.invariant.few, count);
     }
 
 pub returns-clause-value : goal.returns-clause-value
 returns-clause-value g c =
     let none : c.loop-left.left.now ≡ [] = nil_from_length c.loop-left.left.now (omega (arith, c.in_default.len_below)) in
-    let done : lent_pairs c.loop-left.pairs.items ≡ put_all (map tag_texts c.args.self.now.tags) [] = rw none at c.loop-left.invariant.put in
+    let done : borrowed_pairs c.loop-left.pairs.items ≡ put_all (map tag_texts c.args.self.now.tags) [] = rw none at c.loop-left.invariant.put in
     done ∙ sym (entries_put_all (map tag_texts c.args.self.now.tags))
 
 pub returns-clause-set : goal.returns-clause-set
 returns-clause-set g c =
     let none : c.loop-left.left.now ≡ [] = nil_from_length c.loop-left.left.now (omega (arith, c.in_default.len_below)) in
-    let done : lent_pairs c.loop-left.pairs.items ≡ put_all (map tag_texts c.args.self.now.tags) [] = rw none at c.loop-left.invariant.put in
+    let done : borrowed_pairs c.loop-left.pairs.items ≡ put_all (map tag_texts c.args.self.now.tags) [] = rw none at c.loop-left.invariant.put in
     put_all_set (map tag_texts c.args.self.now.tags) c.loop-left.pairs.items done

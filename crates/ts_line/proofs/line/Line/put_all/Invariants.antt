@@ -1,12 +1,12 @@
 use Rattle.std.proofs.Common.{◌≡◌, ◌≤◌, ◌+◌, map, length, []}
-use Rattle.ts_core.specs.text.Texts.{lent_pairs}
+use Rattle.ts_core.specs.text.Texts.{borrowed_pairs}
 use Rattle.ts_line.specs.Parts.{tag_texts}
 use Rattle.ts_line.proofs.SortingLemmas.{put_all}
 use Rattle.ts_line.proofs.line.Line.put_all.Given as goal
 
 abbrev pub invariant-loop-left : goal.invariant-loop-left
 invariant-loop-left g l = record {
-  put : put_all (map tag_texts l.left) (lent_pairs l.pairs.items) ≡ put_all (map tag_texts l.self.tags) [];
+  put : put_all (map tag_texts l.left) (borrowed_pairs l.pairs.items) ≡ put_all (map tag_texts l.self.tags) [];
   few : length l.pairs.items + length l.left ≤ g.row.N;
 }
 

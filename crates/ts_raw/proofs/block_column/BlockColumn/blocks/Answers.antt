@@ -1,10 +1,10 @@
 use Rattle.std.proofs.Common.{ℕ, ℤ, List, drop, sym, ap, subst, ◌∙◌, int_cmp}
 use Rattle.std.specs.FinMap as map
 use Rattle.std.specs.FinMap.{entries-from_sorted}
-use Rattle.ts_raw.specs.declared.mark.Mark.{Mark}
+use Rattle.ts_raw.specs.declared.block_handle.BlockHandle.{BlockHandle}
 use Rattle.ts_raw.specs.Columns.{ColumnState}
 use Rattle.ts_raw.specs.BlockColumns.{HoldPoints, texts_at}
-use Rattle.ts_raw.specs.CodedPoints.{AreMarks, coded_points, blocks_at}
+use Rattle.ts_raw.specs.CodedPoints.{AreBlockHandles, coded_points, blocks_at}
 use Rattle.ts_raw.proofs.CutLemmas.{is_rising_behind}
 use Rattle.ts_raw.proofs.BlockLists.{coded_concat}
 use Rattle.ts_raw.proofs.ColumnBlocks.{cut_few, blocks_are}
@@ -12,12 +12,12 @@ use Rattle.ts_raw.proofs.block_column.BlockColumn.blocks.Goals as goal
 
 pub new-requires : goal.new-requires
 new-requires g c =
-    subst (λ (x : List ℕ). AreMarks x 0 c.as_slice-2.result.now) (sym c.as_slice.ensures.value) (subst (λ (x : List Mark). AreMarks c.self.inside.bytes.items 0 x) (sym c.as_slice-2.ensures.value) c.self.invariant.counted.coded.marked)
+    subst (λ (x : List ℕ). AreBlockHandles x 0 c.as_slice-2.result.now) (sym c.as_slice.ensures.value) (subst (λ (x : List BlockHandle). AreBlockHandles c.self.inside.bytes.items 0 x) (sym c.as_slice-2.ensures.value) c.self.invariant.counted.coded.marked)
 
 pub returns : goal.returns
 returns g c =
     let bytes : List ℕ = c.self.inside.bytes.items in
-    let ms : List Mark = c.self.inside.marks.items in
+    let ms : List BlockHandle = c.self.inside.handles.items in
     let cut : ℕ = c.self.inside.cut in
     let all : List (ℤ × ℤ) = coded_points bytes ms in
     let texts = c.new.ensures ∙ (λ i. texts_at (c.as_slice.ensures.value i) (c.as_slice-2.ensures.value i)) in

@@ -10,7 +10,7 @@ use Rattle.ts_raw.proofs.block_column.BlockColumn.of.Goals as goal
 pub loop-point-init : goal.loop-point-init
 loop-point-init g c = record {
   points = c.new-column.ensures.points ∙ sym (from_sorted-nothing int_cmp [] refl);
-  none_aside = c.new-column.ensures.none_aside;
+  none_staged = c.new-column.ensures.none_staged;
 }
 
 pub loop-point-preserved : goal.loop-point-preserved
@@ -21,11 +21,11 @@ loop-point-preserved g c =
     let within : i < length ps = search rules in
     let rising : IsRising ps = subst IsRising (sym c.as_slice-point-items.ensures.value) c.requires.rising in
     let fits : SFits w64 x.1 = search rules in
-    let aside = c.in_ok-prepare.ensures.aside ∙ ap (λ v. Some (x.0, v)) (to_z-of_z fits) in
-    let put = subst (λ (a : Option (ℤ × ℤ)). IfSome a (λ p. c.commit.new.self.points ≡ map.insert c.prepare.new.self.points p.0 p.1)) aside c.commit.ensures.put in
+    let staged = c.in_ok-prepare.ensures.staged ∙ ap (λ v. Some (x.0, v)) (to_z-of_z fits) in
+    let put = subst (λ (a : Option (ℤ × ℤ)). IfSome a (λ p. c.commit.new.self.points ≡ map.insert c.prepare.new.self.points p.0 p.1)) staged c.commit.ensures.put in
     record {
       points = put ∙ ap (λ m. map.insert m x.0 x.1) (c.in_ok-prepare.ensures.unchanged ∙ c.loop-point.invariant.points) ∙ ap (λ (p : ℤ × ℤ). map.insert (map.from_sorted {R = int_cmp} (take i ps)) p.0 p.1) c.point-item.is ∙ next_map ps i x rising within;
-      none_aside = c.commit.ensures.none_aside;
+      none_staged = c.commit.ensures.none_staged;
     }
 
 pub returns-clause-entries : goal.returns-clause-entries

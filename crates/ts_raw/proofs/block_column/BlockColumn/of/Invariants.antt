@@ -5,5 +5,5 @@ use Rattle.ts_raw.proofs.block_column.BlockColumn.of.Given as goal
 abbrev pub invariant-loop-point : goal.invariant-loop-point
 invariant-loop-point g l = record {
   points : l.column.points ≡ map.from_sorted (take l.point-index l.point-items);
-  none_aside : l.column.aside ≡ None;
+  none_staged : l.column.staged ≡ None;
 }

@@ -10,12 +10,12 @@ use Rattle.ts_raw.proofs.block_column.BlockColumn.window.Goals as goal
 
 pub between-requires-clause-cut : goal.between-requires-clause-cut
 between-requires-clause-cut g c =
-    let same : length (coded_points c.self.inside.bytes.items c.self.inside.marks.items) ≡ length (coded_points c.as_slice.result.now c.as_slice-2.result.now) = λ i. length (coded_points (sym c.as_slice.ensures.value i) (sym c.as_slice-2.ensures.value i)) in
-    subst (λ n. c.self.inside.cut ≤ n) same (cut_within c.self.inside.bytes.items c.self.inside.marks.items c.self.inside.cut c.self.invariant.cut_fits)
+    let same : length (coded_points c.self.inside.bytes.items c.self.inside.handles.items) ≡ length (coded_points c.as_slice.result.now c.as_slice-2.result.now) = λ i. length (coded_points (sym c.as_slice.ensures.value i) (sym c.as_slice-2.ensures.value i)) in
+    subst (λ n. c.self.inside.cut ≤ n) same (cut_within c.self.inside.bytes.items c.self.inside.handles.items c.self.inside.cut c.self.invariant.cut_fits)
 
 pub returns-clause-points : goal.returns-clause-points
 returns-clause-points g c =
-    let all : List (ℤ × ℤ) = coded_points c.self.inside.bytes.items c.self.inside.marks.items in
+    let all : List (ℤ × ℤ) = coded_points c.self.inside.bytes.items c.self.inside.handles.items in
     let points : List (ℤ × ℤ) = drop c.self.inside.cut all in
     let within : ℤ → ℤ → List (ℤ × ℤ) → List (ℤ × ℤ) = λ a b ps. filter (λ (p : ℤ × ℤ). is_within a b p.0) ps in
     let from_fits : SFits w64 c.args.from = search rules in
@@ -27,6 +27,6 @@ returns-clause-points g c =
 
 pub returns-clause-all_timed : goal.returns-clause-all_timed
 returns-clause-all_timed g c =
-    let all : List (ℤ × ℤ) = coded_points c.self.inside.bytes.items c.self.inside.marks.items in
+    let all : List (ℤ × ℤ) = coded_points c.self.inside.bytes.items c.self.inside.handles.items in
     subst AreTimed (sym (entries-from_sorted int_cmp (drop c.self.inside.cut all) (is_rising_behind c.self.inside.cut all c.self.invariant.counted.coded.rising)) ∙ ap (λ (s : ColumnState). map.entries s.points) c.self.view_is)
     (timed_behind c.self.inside.cut all c.self.invariant.counted.coded.timed)

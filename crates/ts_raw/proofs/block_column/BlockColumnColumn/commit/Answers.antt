@@ -2,10 +2,10 @@ use Rattle.std.proofs.Common.{rules, ◌≡◌, ◌+◌, ℕ, ℤ, List, length,
 use Rattle.std.specs.Cmp.{int_cmp_total}
 use Rattle.std.specs.FinMap as map
 use Rattle.ts_core.specs.facts.Times.{IsTime}
-use Rattle.ts_raw.specs.declared.mark.Mark.{Mark}
+use Rattle.ts_raw.specs.declared.block_handle.BlockHandle.{BlockHandle}
 use Rattle.ts_raw.specs.BlockColumns.{IsColumn, IsStaged, IsStagedIfAny, CanCommit}
-use Rattle.ts_raw.specs.CodedPoints.{coded_points, numbered}
-use Rattle.ts_raw.specs.Rewriting.{IsRewritten, marks_replaced, cut_after}
+use Rattle.ts_raw.specs.CodedPoints.{coded_points, with_starts}
+use Rattle.ts_raw.specs.Rewriting.{IsRewritten, handles_replaced, cut_after}
 use Rattle.ts_raw.proofs.PointMaps.{from_sorted-put}
 use Rattle.ts_raw.proofs.CutLemmas.{is_rising_behind}
 use Rattle.ts_raw.proofs.PushLemmas.{coded_less}
@@ -17,22 +17,22 @@ use Rattle.ts_raw.proofs.block_column.BlockColumnColumn.commit.Goals as goal
 in_box : (g : Over) (c : After-into_inner-staged g) → option_map (λ b. b.value) c.self.inside.staged ≡ Some c.into_inner-staged.result
 in_box g c = ap (option_map (λ b. b.value)) (sym c.take.ensures.value ∙ c.unwrap.ensures) ∙ ap Some (sym c.into_inner-staged.ensures)
 
-staged : (g : Over) (c : After-into_inner-staged g) → IsStaged c.self.inside.bytes.items c.self.inside.marks.items c.self.inside.total c.self.inside.cut (vec_capacity c.self.inside.bytes) (vec_capacity c.self.inside.marks) c.into_inner-staged.result
+staged : (g : Over) (c : After-into_inner-staged g) → IsStaged c.self.inside.bytes.items c.self.inside.handles.items c.self.inside.total c.self.inside.cut (vec_capacity c.self.inside.bytes) (vec_capacity c.self.inside.handles) c.into_inner-staged.result
 staged g c =
     let is = in_box g c in
-    subst (IsStagedIfAny c.self.inside.bytes.items c.self.inside.marks.items c.self.inside.total c.self.inside.cut (vec_capacity c.self.inside.bytes) (vec_capacity c.self.inside.marks)) is c.self.invariant.is_staged
+    subst (IsStagedIfAny c.self.inside.bytes.items c.self.inside.handles.items c.self.inside.total c.self.inside.cut (vec_capacity c.self.inside.bytes) (vec_capacity c.self.inside.handles)) is c.self.invariant.is_staged
 
-rewritten : (g : Over) (c : In-Some g) (s : IsStaged c.self.inside.bytes.items c.self.inside.marks.items c.self.inside.total c.self.inside.cut (vec_capacity c.self.inside.bytes) (vec_capacity c.self.inside.marks) c.into_inner-staged.result) → IsRewritten c.self.inside.bytes.items c.self.inside.marks.items c.self.inside.cut c.into_inner-staged.result.point c.in-Some.new
-rewritten g c s = subst (CanCommit c.self.inside.bytes.items c.self.inside.marks.items c.self.inside.cut (vec_capacity c.self.inside.bytes) c.into_inner-staged.result.point) c.in-Some.is s.can
+rewritten : (g : Over) (c : In-Some g) (s : IsStaged c.self.inside.bytes.items c.self.inside.handles.items c.self.inside.total c.self.inside.cut (vec_capacity c.self.inside.bytes) (vec_capacity c.self.inside.handles) c.into_inner-staged.result) → IsRewritten c.self.inside.bytes.items c.self.inside.handles.items c.self.inside.cut c.into_inner-staged.result.point c.in-Some.new
+rewritten g c s = subst (CanCommit c.self.inside.bytes.items c.self.inside.handles.items c.self.inside.cut (vec_capacity c.self.inside.bytes) c.into_inner-staged.result.point) c.in-Some.is s.can
 
 pub replace-self-inside-requires-clause-front : goal.replace-self-inside-requires-clause-front
-replace-self-inside-requires-clause-front g c = numbered_front c.self.inside.bytes.items c.self.inside.marks.items c.in-Some.new.at c.self.invariant.counted.coded.marked
+replace-self-inside-requires-clause-front g c = numbered_front c.self.inside.bytes.items c.self.inside.handles.items c.in-Some.new.at c.self.invariant.counted.coded.marked
 
 pub replace-self-inside-requires-clause-few : goal.replace-self-inside-requires-clause-few
 replace-self-inside-requires-clause-few g c =
     let a = goal.at.replace-self-inside-requires-clause-few g c in
     let bytes : List ℕ = c.self.inside.bytes.items in
-    let ms : List Mark = c.self.inside.marks.items in
+    let ms : List BlockHandle = c.self.inside.handles.items in
     let s = staged g a.After-into_inner-staged in
     (replaced_few bytes ms c.self.inside.total c.self.inside.cut c.into_inner-staged.result.point c.in-Some.new c.self.invariant.counted c.self.invariant.cut_fits (rewritten g a.In-Some s) s.countable)
 
@@ -41,37 +41,37 @@ invariant_of-self g c = record {
   counted = c.push_later-self-inside.ensures.counted;
   others = c.push_later-self-inside.ensures.others;
   cut_fits = c.push_later-self-inside.ensures.cut c.self.inside.cut c.self.invariant.cut_fits;
-  is_staged = subst (IsStagedIfAny c.push_later-self-inside.new.bytes.items c.push_later-self-inside.new.marks.items (c.self.inside.total + 1) c.self.inside.cut (vec_capacity c.push_later-self-inside.new.bytes) (vec_capacity c.push_later-self-inside.new.marks)) (ap (option_map (λ b. b.value)) (sym c.take.ensures.after)) tt;
+  is_staged = subst (IsStagedIfAny c.push_later-self-inside.new.bytes.items c.push_later-self-inside.new.handles.items (c.self.inside.total + 1) c.self.inside.cut (vec_capacity c.push_later-self-inside.new.bytes) (vec_capacity c.push_later-self-inside.new.handles)) (ap (option_map (λ b. b.value)) (sym c.take.ensures.after)) tt;
 }
 
-marks_are : (g : Over) (c : After-replace-self-inside g) → c.replace-self-inside.new.marks.items ≡ numbered 0 (marks_replaced c.in-Some.new c.self.inside.marks.items)
-marks_are g c = c.replace-self-inside.ensures.marks
+marks_are : (g : Over) (c : After-replace-self-inside g) → c.replace-self-inside.new.handles.items ≡ with_starts 0 (handles_replaced c.in-Some.new c.self.inside.handles.items)
+marks_are g c = c.replace-self-inside.ensures.handles
 
 pub invariant_of-self-in-Some : goal.invariant_of-self-in-Some
 invariant_of-self-in-Some g c =
     let a = goal.at.invariant_of-self-in-Some g c in
     let bytes : List ℕ = c.self.inside.bytes.items in
-    let ms : List Mark = c.self.inside.marks.items in
-    let new : List Mark = marks_replaced c.in-Some.new ms in
+    let ms : List BlockHandle = c.self.inside.handles.items in
+    let new : List BlockHandle = handles_replaced c.in-Some.new ms in
     let s = staged g a.After-into_inner-staged in
     let valid : IsTime c.into_inner-staged.result.point.0 = search rules in
     let size : c.len-self-inside.result ≡ length bytes = omega (arith, c.len-self-inside.ensures, c.self.inside.bytes.ok.0) in
     let total : c.replace-self-inside.result ≡ length (coded_points bytes new) = c.replace-self-inside.ensures.total ∙ replaced_count bytes ms c.self.inside.total c.self.inside.cut c.into_inner-staged.result.point c.in-Some.new c.self.invariant.counted c.self.invariant.cut_fits (rewritten g a.In-Some s) in
     let capacity : ℕ = vec_capacity c.self.inside.bytes in
-    let marks_capacity : ℕ = vec_capacity c.replace-self-inside.new.marks in
+    let handles_capacity : ℕ = vec_capacity c.replace-self-inside.new.handles in
     let end : ℕ = c.len-self-inside.result in
     let cut : ℕ = cut_after c.in-Some.new.at c.self.inside.cut in
-    let column = replaced_column bytes ms c.self.inside.total c.self.inside.cut c.into_inner-staged.result.point c.in-Some.new c.self.invariant.counted c.self.invariant.cut_fits (rewritten g a.In-Some s) capacity marks_capacity end valid size in
-    subst (IsColumn bytes c.replace-self-inside.new.marks.items c.replace-self-inside.result c.cut_left-self-inside.result end capacity marks_capacity) (ap (option_map (λ b. b.value)) (sym c.take.ensures.after))
-    (subst (λ k. IsColumn bytes c.replace-self-inside.new.marks.items c.replace-self-inside.result k end capacity marks_capacity None) (sym c.cut_left-self-inside.ensures)
-    (subst (λ t. IsColumn bytes c.replace-self-inside.new.marks.items t cut end capacity marks_capacity None) (sym total)
-    (subst (λ (x : List Mark). IsColumn bytes x (length (coded_points bytes new)) cut end capacity marks_capacity None) (sym (marks_are g a.After-replace-self-inside)) column)))
+    let column = replaced_column bytes ms c.self.inside.total c.self.inside.cut c.into_inner-staged.result.point c.in-Some.new c.self.invariant.counted c.self.invariant.cut_fits (rewritten g a.In-Some s) capacity handles_capacity end valid size in
+    subst (IsColumn bytes c.replace-self-inside.new.handles.items c.replace-self-inside.result c.cut_left-self-inside.result end capacity handles_capacity) (ap (option_map (λ b. b.value)) (sym c.take.ensures.after))
+    (subst (λ k. IsColumn bytes c.replace-self-inside.new.handles.items c.replace-self-inside.result k end capacity handles_capacity None) (sym c.cut_left-self-inside.ensures)
+    (subst (λ t. IsColumn bytes c.replace-self-inside.new.handles.items t cut end capacity handles_capacity None) (sym total)
+    (subst (λ (x : List BlockHandle). IsColumn bytes x (length (coded_points bytes new)) cut end capacity handles_capacity None) (sym (marks_are g a.After-replace-self-inside)) column)))
 
 pub returns-in-None-clause-put : goal.returns-in-None-clause-put
 returns-in-None-clause-put g c =
     let a = goal.at.returns-in-None-clause-put g c in
     let bytes : List ℕ = c.self.inside.bytes.items in
-    let ms : List Mark = c.self.inside.marks.items in
+    let ms : List BlockHandle = c.self.inside.handles.items in
     let p : ℤ × ℤ = c.into_inner-staged.result.point in
     let s = staged g a.After-into_inner-staged in
     let can : CanCommit bytes ms c.self.inside.cut (vec_capacity c.self.inside.bytes) p None = subst (CanCommit bytes ms c.self.inside.cut (vec_capacity c.self.inside.bytes) p) c.in-None.is s.can in
@@ -82,12 +82,12 @@ pub returns-in-Some-clause-put : goal.returns-in-Some-clause-put
 returns-in-Some-clause-put g c =
     let a = goal.at.returns-in-Some-clause-put g c in
     let bytes : List ℕ = c.self.inside.bytes.items in
-    let ms : List Mark = c.self.inside.marks.items in
+    let ms : List BlockHandle = c.self.inside.handles.items in
     let cut : ℕ = c.self.inside.cut in
     let p : ℤ × ℤ = c.into_inner-staged.result.point in
     let s = staged g a.After-into_inner-staged in
     let valid : IsTime p.0 = search rules in
-    let marks = marks_are g a.After-replace-self-inside in
-    rw (← c.self.view_is, in_box g a.After-into_inner-staged, c.cut_left-self-inside.ensures, marks)
+    let handles = marks_are g a.After-replace-self-inside in
+    rw (← c.self.view_is, in_box g a.After-into_inner-staged, c.cut_left-self-inside.ensures, handles)
     (ap (map.from_sorted {R = int_cmp}) (replaced_points bytes ms c.self.inside.total cut p c.in-Some.new c.self.invariant.counted c.self.invariant.cut_fits (rewritten g a.In-Some s) valid)
     ∙ from_sorted-put int_cmp_total (drop cut (coded_points bytes ms)) (is_rising_behind cut (coded_points bytes ms) c.self.invariant.counted.coded.rising) p.0 p.1)

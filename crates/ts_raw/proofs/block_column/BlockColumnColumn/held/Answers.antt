@@ -8,15 +8,15 @@ use Rattle.ts_raw.proofs.block_column.BlockColumnColumn.held.Goals as goal
 
 pub returns-clause-all : goal.returns-clause-all
 returns-clause-all g c =
-    let points = coded_points c.self.inside.bytes.items c.self.inside.marks.items in
+    let points = coded_points c.self.inside.bytes.items c.self.inside.handles.items in
     let n : map.len c.args.self.now.points ≡ length points - c.self.inside.cut = sym (ap (λ (s : ColumnState). map.len s.points) c.self.view_is) ∙ cut_length c.self.inside.cut points c.self.invariant.counted.coded.rising in
     let total = c.self.invariant.counted.total_is in
     omega arith
 
 pub returns-clause-few : goal.returns-clause-few
 returns-clause-few g c =
-    let points = coded_points c.self.inside.bytes.items c.self.inside.marks.items in
+    let points = coded_points c.self.inside.bytes.items c.self.inside.handles.items in
     let n : map.len c.args.self.now.points ≡ length points - c.self.inside.cut = sym (ap (λ (s : ColumnState). map.len s.points) c.self.view_is) ∙ cut_length c.self.inside.cut points c.self.invariant.counted.coded.rising in
-    let few = cut_few c.self.inside.bytes.items c.self.inside.marks.items c.self.inside.cut c.self.invariant.counted.coded.marked c.self.invariant.cut_fits in
+    let few = cut_few c.self.inside.bytes.items c.self.inside.handles.items c.self.inside.cut c.self.invariant.counted.coded.marked c.self.invariant.cut_fits in
     let total = c.self.invariant.counted.total_is in
     omega arith

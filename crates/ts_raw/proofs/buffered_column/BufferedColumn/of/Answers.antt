@@ -36,7 +36,7 @@ invariant_of-result g c =
     let some = c.blocks_for-count.ensures.some in
     let n = ap length (first g a) ∙ length-take-le k ps (omega arith) in
     let m = ap length (rest g a) ∙ length-drop k ps in
-    settled c.in_ok-blocks.blocks c.of-buffer.result c.in_ok-blocks.ensures.none_aside c.of-buffer.ensures.none_aside
+    settled c.in_ok-blocks.blocks c.of-buffer.result c.in_ok-blocks.ensures.none_staged c.of-buffer.ensures.none_staged
     (subst IsRising (sym (whole g a)) c.requires.rising)
     (λ z.
     ⊎_elim {C = length (map.entries c.in_ok-blocks.blocks.points) ≡ 0}

@@ -18,4 +18,4 @@ returns-in-None g c =
     ∙ ap (λ (i : Indexed). numbers_where (is_of c.args.measurement.now c.args.field.now) i.columns) c.self.view_is
 
 pub of_field-requires : goal.of_field-requires
-of_field-requires g c = omega (arith, at_within c.self.inside.fields c.in-Some.field _ c.in-Some.ensures.found, c.self.invariant.room)
+of_field-requires g c = omega (arith, at_within c.self.inside.fields c.in-Some.field _ c.in-Some.ensures.found, c.self.invariant.spare)

@@ -3,7 +3,7 @@ use Rattle.ts_core.specs.facts.Facts.{Text}
 use Rattle.std.proofs.lemmas.List.{take_all}
 use Rattle.std.specs.Hash.FoldHasher.{initial, write, finish}
 use Rattle.std.specs.declared.hash.FoldHasher.{FoldHasher}
-use Rattle.ts_core.specs.text.Texts.{lent_pairs}
+use Rattle.ts_core.specs.text.Texts.{borrowed_pairs}
 use Rattle.ts_raw.specs.Hashes.{hash_of_tags, hash_of_series}
 use Rattle.ts_raw.proofs.Hashing.{tags_hashed_more}
 use Rattle.ts_raw.proofs.index.hash.hash_series.Goals as goal
@@ -27,4 +27,4 @@ returns c =
     let tags : List (Bor Text × Bor Text) = c.tags-tag-items.result.now in
     let all : take c.loop-tag.tag-index tags ≡ tags = take_all c.loop-tag.tag-index tags c.loop-tag-test.false in
     c.finish.ensures ∙ ap finish c.loop-tag.invariant
-    ∙ ap (λ ts. finish (hash_of_tags (write initial c.args.key.now.measurement) ts)) (ap lent_pairs all ∙ c.tags-tag-items.ensures)
+    ∙ ap (λ ts. finish (hash_of_tags (write initial c.args.key.now.measurement) ts)) (ap borrowed_pairs all ∙ c.tags-tag-items.ensures)

@@ -20,7 +20,7 @@ invariant_of-self g c =
     record {
       rising = subst IsRising (sym c.drop_front.ensures) (is_rising_behind c.args.count points c.self.invariant.rising);
       timed = subst AreTimed (sym c.drop_front.ensures) (timed_behind c.args.count points c.self.invariant.timed);
-      room = λ h. absurd (true≢false (sym h));
+      spare = λ h. absurd (true≢false (sym h));
     }
 
 pub returns-clause-points : goal.returns-clause-points

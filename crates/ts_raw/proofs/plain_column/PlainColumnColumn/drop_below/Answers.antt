@@ -11,7 +11,7 @@ invariant_of-self g c =
     record {
       rising = rw c.drop_front.ensures (rising-drop points c.self.invariant.rising _ c.count_before-count.result start bound);
       timed = rw c.drop_front.ensures (timed-drop points c.self.invariant.timed _ c.count_before-count.result start bound);
-      room = λ h. absurd (true≢false (sym h));
+      spare = λ h. absurd (true≢false (sym h));
     }
 
 pub returns-clause-kept : goal.returns-clause-kept

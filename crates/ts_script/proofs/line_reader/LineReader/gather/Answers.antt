@@ -1,7 +1,7 @@
 use Rattle.std.proofs.Common.{◌≡◌, false, refl, sym, ap, ◌∙◌, arith}
 use Rattle.std.proofs.lemmas.Result.{err_from_is_err_and}
 use Rattle.ts_core.specs.io.ReadingAhead.{bit}
-use Rattle.ts_script.specs.LineReading.{to_come}
+use Rattle.ts_script.specs.LineReading.{lines_to_come}
 use Rattle.ts_script.proofs.LineScan.{next_is_some, found_told, last_told, more_told, after-whole, flipped, flipped_back}
 use Rattle.ts_script.proofs.line_reader.LineReader.gather.Goals as goal
 
@@ -64,7 +64,7 @@ returns-in_err-read_on-clause-cut g c =
     let t = c.take_chunk.ensures.taken in
     let f = c.in_err-read_on.ensures.read in
     let so = c.loop-self.invariant.so_far in
-    let m = more_told (to_come c.args.self.now c.args.source.now) c.loop-self.self c.take_chunk.new.self c.read_on.new.self c.loop-self.source c.read_on.new.source so.0 so.1 (sym t.found ∙ c.if-take_chunk.false) c.take_chunk.ensures.line t.buffered f.bytes f.line f.long in
+    let m = more_told (lines_to_come c.args.self.now c.args.source.now) c.loop-self.self c.take_chunk.new.self c.read_on.new.self c.loop-self.source c.read_on.new.source so.0 so.1 (sym t.found ∙ c.if-take_chunk.false) c.take_chunk.ensures.line t.buffered f.bytes f.line f.long in
     rw p.1 record {
       going = c.requires.going;
       no_lf = c.requires.part;
@@ -79,7 +79,7 @@ returns-then-not-branch-clause-next g c =
     let t = c.take_chunk.ensures.taken in
     let f = c.in_ok-read_on.ensures.read in
     let so = c.loop-self.invariant.so_far in
-    let m = more_told (to_come c.args.self.now c.args.source.now) c.loop-self.self c.take_chunk.new.self c.read_on.new.self c.loop-self.source c.read_on.new.source so.0 so.1 (sym t.found ∙ c.if-take_chunk.false) c.take_chunk.ensures.line t.buffered f.bytes f.line f.long in
+    let m = more_told (lines_to_come c.args.self.now c.args.source.now) c.loop-self.self c.take_chunk.new.self c.read_on.new.self c.loop-self.source c.read_on.new.source so.0 so.1 (sym t.found ∙ c.if-take_chunk.false) c.take_chunk.ensures.line t.buffered f.bytes f.line f.long in
     last_told c.args.self.now c.args.self.now c.read_on.new.self c.args.source.now c.read_on.new.source c.last.result m.0 c.requires.going (flipped _ _ f.more c.if-not-branch.true) refl m.1 c.last.ensures
 
 pub returns-then-not-branch-clause-goes_on : goal.returns-then-not-branch-clause-goes_on
@@ -123,7 +123,7 @@ loop-self-preserved g c =
     let i = c.loop-self.invariant in
     let going : c.read_on.new.self.ahead.ended ≡ false = flipped_back _ _ f.more c.if-not-branch.false in
     record {
-      so_far = more_told (to_come c.args.self.now c.args.source.now) c.loop-self.self c.take_chunk.new.self c.read_on.new.self c.loop-self.source c.read_on.new.source i.so_far.0 i.so_far.1 (sym t.found ∙ c.if-take_chunk.false) c.take_chunk.ensures.line t.buffered f.bytes f.line f.long;
+      so_far = more_told (lines_to_come c.args.self.now c.args.source.now) c.loop-self.self c.take_chunk.new.self c.read_on.new.self c.loop-self.source c.read_on.new.source i.so_far.0 i.so_far.1 (sym t.found ∙ c.if-take_chunk.false) c.take_chunk.ensures.line t.buffered f.bytes f.line f.long;
       going = going;
       allowed = s.allowed ∙ t.limit ∙ i.allowed;
       less = omega (arith, t.less, f.less, i.less);

@@ -1,12 +1,12 @@
 use Rattle.std.proofs.Common.{◌≡◌, ℕ, ◌+◌, ◌-◌, ◌≤◌, List, false}
 use Rattle.ts_core.specs.io.ReadingAhead.{weight}
-use Rattle.ts_script.specs.LineReading.{to_come}
+use Rattle.ts_script.specs.LineReading.{lines_to_come}
 use Rattle.ts_script.proofs.LineScan.{SoFar}
 use Rattle.ts_script.proofs.line_reader.LineReader.gather.Given as goal
 
 abbrev pub invariant-loop-self : goal.invariant-loop-self
 invariant-loop-self g l = record {
-  so_far : (bytes : List ℕ) × SoFar (to_come l.initial.self l.initial.source) (to_come l.self l.source) bytes l.self.line l.self.long;
+  so_far : (bytes : List ℕ) × SoFar (lines_to_come l.initial.self l.initial.source) (lines_to_come l.self l.source) bytes l.self.line l.self.long;
   going : l.self.ahead.ended ≡ false;
   allowed : l.self.ahead.limit ≡ l.initial.self.ahead.limit;
   less : weight l.self.ahead ≤ weight l.initial.self.ahead;

@@ -10,8 +10,8 @@ returns-clause-line c = λ before h.
     let ends : IsLineEnd s.ahead.buffered s.end = c.self.invariant.3 in
     let first = ap (take s.end) c.buffered-rest.ensures.value ∙ ends.line ∙ ap (λ (r : ReaderState). first_line r.ahead.buffered) c.self.view_is in
     let held =
-    c.keep_lent.ensures.line ∙ ap (λ (lent : Option (ℕ × ℕ)). line_so_far c.used.result.now lent s.line.items) c.take.ensures.value
-    ∙ ap (λ (used : List ℕ). line_so_far used s.lent s.line.items) c.used.ensures.value in
+    c.copy_borrowed.ensures.line ∙ ap (λ (borrowed : Option (ℕ × ℕ)). line_so_far c.used.result.now borrowed s.line.items) c.take.ensures.value
+    ∙ ap (λ (used : List ℕ). line_so_far used s.borrowed s.line.items) c.used.ensures.value in
     let kept = subst (λ (l : List ℕ). LineIs before l s.long) (sym held) (subst Kept (sym c.self.view_is) h) in
     rw c.take.ensures.after
     (subst (λ (l : List ℕ). LineIs (before ++ l) c.extend_line-self-inside.new.line.items c.extend_line-self-inside.result) first (c.extend_line-self-inside.ensures.line before kept))

@@ -1,19 +1,19 @@
 use Rattle.std.proofs.Common.{rules, ◌≡◌, List, ◌∷◌, arith}
 use Rattle.ts_cells.proofs.ExpiryLemmas.{on_true, on_false}
 use Rattle.ts_store.specs.rollup.Rollups.{RollupState}
-use Rattle.ts_store.proofs.retain.RollupExpiry.{IsExpired, same_lanes, lanes_first, first_loses, later_loses, none_lost}
+use Rattle.ts_store.proofs.retain.RollupExpiry.{IsExpired, same_series_list, series_list_first, first_loses, later_loses, none_lost}
 use Rattle.ts_store.proofs.retain.column_moves.+expire_first.Goals as goal
 
-pub returns-in_default-clause-lanes : goal.returns-in_default-clause-lanes
-returns-in_default-clause-lanes g t c = same_lanes c.args.rollups.now
+pub returns-in_default-clause-series_list : goal.returns-in_default-clause-series_list
+returns-in_default-clause-series_list g t c = same_series_list c.args.rollups.now
 
-pub returns-then-expire-gt0-clause-lanes : goal.returns-then-expire-gt0-clause-lanes
-returns-then-expire-gt0-clause-lanes g t c =
+pub returns-then-expire-gt0-clause-series_list : goal.returns-then-expire-gt0-clause-series_list
+returns-then-expire-gt0-clause-series_list g t c =
     let s : RollupState = c.in-Some-split_first_mut.rollup.now in
     let ss : List RollupState = c.in-Some-split_first_mut.rollups.now in
     let kept : c.args.rollups.now ≡ s ∷ ss = search rules in
     let gone : IsExpired c.in-Some.low.now c.expire.result s c.expire.new.self = record { cells = c.expire.ensures.cells; below = c.expire.ensures.below } in
-    lanes_first c.in-Some.low.now c.expire.result s c.expire.new.self ss c.args.rollups.now kept gone
+    series_list_first c.in-Some.low.now c.expire.result s c.expire.new.self ss c.args.rollups.now kept gone
 
 pub returns-then-expire-gt0-clause-some : goal.returns-then-expire-gt0-clause-some
 returns-then-expire-gt0-clause-some g t c =

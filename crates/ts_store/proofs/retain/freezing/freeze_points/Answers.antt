@@ -10,8 +10,8 @@ use Rattle.ts_core.specs.moves.StoreMoves.{frozen_with}
 use Rattle.ts_core.specs.store.StoreStates.{fact_at}
 use Rattle.ts_core.specs.store.TwoParts.{in_frozen}
 use Rattle.ts_cells.specs.Grids.{cell_at}
-use Rattle.ts_store.specs.rollup.Rollups.{RollupState, lane_under, lane_at, with_frozen, frozen_in}
-use Rattle.ts_store.proofs.retain.PointsFrozen.{IsFolded, folded-as, folded-none, folded-more, folded-next, lanes_stay, frozen_in-lane}
+use Rattle.ts_store.specs.rollup.Rollups.{RollupState, rollup_series_under, rollup_series_at, with_frozen, frozen_in}
+use Rattle.ts_store.proofs.retain.PointsFrozen.{IsFolded, folded-as, folded-none, folded-more, folded-next, series_list_stay, frozen_in-series}
 use Rattle.ts_store.proofs.retain.freezing.freeze_points.Goals.{then-index-bucket, else-index-bucket}
 use Rattle.ts_store.proofs.retain.freezing.freeze_points.Goals as goal
 
@@ -21,10 +21,10 @@ loop-time-init g c =
     let all : c.into_iter-time-iterator.result ≡ c.args.points = c.into_iter-time-iterator.ensures.into_iter_gives in
     let m : CellMap = c.args.rollup.now.grid.cells in
     record {
-      lanes = refl;
+      series_list = refl;
       few = let count : c.empty-folded.result.count ≡ 0 = ap (λ (a : Aggregate). a.count) none in subst (λ (ps : List (ℤ × ℤ)). c.empty-folded.result.count + length ps ≤ 2 ^ 62) (sym all) (omega arith);
       cells = λ d n at is fit.
-          let q : Cell = cell_at (pos 0) (lane_under c.args.rule.now d) in
+          let q : Cell = cell_at (pos 0) (rollup_series_under c.args.rule.now d) in
           subst (λ (ps : List (ℤ × ℤ)). IsFolded c.args.rule.now d c.args.points m ps m q c.empty-folded.result) (sym all)
           (folded-as c.args.rule.now d c.args.points m c.args.points m m q q empty_aggregate c.empty-folded.result refl refl none (folded-none c.args.rule.now d c.args.points m q fit));
     }
@@ -64,46 +64,46 @@ loop-time-preserved g c =
       | then-index-bucket w ↦
           let nothing : c.if-index-bucket.folded ≡ empty_aggregate = w.folded-is ∙ w.empty-folded-then-index-bucket.ensures in
           let none : c.if-index-bucket.folded.count ≡ 0 = ap (λ (a : Aggregate). a.count) nothing in
-          let cells : CellMap = frozen_in old (lane_at old c.args.column) bucket folded in
+          let cells : CellMap = frozen_in old (rollup_series_at old c.args.column) bucket folded in
           let next : c.if-index-bucket.rollup ≡ with_frozen cells old = w.rollup-is ∙ w.freeze.ensures in
           record {
-            lanes = lanes_stay c.args.rollup.now old c.if-index-bucket.rollup cells c.loop-time.invariant.lanes next;
+            series_list = series_list_stay c.args.rollup.now old c.if-index-bucket.rollup cells c.loop-time.invariant.series_list next;
             few = omega (arith, few, none, merged_count);
-            cells = λ d n at lane fit.
-                let q : Cell = cell_at bucket (lane_under r d) in
+            cells = λ d n at series fit.
+                let q : Cell = cell_at bucket (rollup_series_under r d) in
                 let h : IsFolded r d all before (p ∷ rest) old.grid.cells q folded =
-                subst (λ (ps : List (ℤ × ℤ)). IsFolded r d all before ps old.grid.cells q folded) left (c.loop-time.invariant.cells d n at lane fit) in
+                subst (λ (ps : List (ℤ × ℤ)). IsFolded r d all before ps old.grid.cells q folded) left (c.loop-time.invariant.cells d n at series fit) in
                 let frozen : c.if-index-bucket.rollup.grid.cells ≡ changed old.grid.cells q (in_frozen (frozen_with folded)) =
-                ap (λ (s : RollupState). s.grid.cells) next ∙ frozen_in-lane c.args.rollup.now old c.args.column n r d bucket folded c.loop-time.invariant.lanes at lane in
-                folded-as r d all before rest (changed old.grid.cells q (in_frozen (frozen_with folded))) c.if-index-bucket.rollup.grid.cells (cell_of r (fact_at d p)) (cell_at (to_z w128 c.if-index-bucket.bucket-bits) (lane_under r d))
-                (merged empty_aggregate one) c.merge-folded.result frozen (ap (λ i. cell_at i (lane_under r d)) (w.bucket-is ∙ index)) (merge ∙ ap (λ a. merged a one) nothing)
-                (folded-next r d all before p rest old.grid.cells q folded lane.0 h);
+                ap (λ (s : RollupState). s.grid.cells) next ∙ frozen_in-series c.args.rollup.now old c.args.column n r d bucket folded c.loop-time.invariant.series_list at series in
+                folded-as r d all before rest (changed old.grid.cells q (in_frozen (frozen_with folded))) c.if-index-bucket.rollup.grid.cells (cell_of r (fact_at d p)) (cell_at (to_z w128 c.if-index-bucket.bucket-bits) (rollup_series_under r d))
+                (merged empty_aggregate one) c.merge-folded.result frozen (ap (λ i. cell_at i (rollup_series_under r d)) (w.bucket-is ∙ index)) (merge ∙ ap (λ a. merged a one) nothing)
+                (folded-next r d all before p rest old.grid.cells q folded series.0 h);
           }
       | else-index-bucket w ↦
           let here : bucket ≡ index_of r p.0 = sym (ap (to_z w128) w.if-index-bucket.false) ∙ index in
           let same : c.if-index-bucket.folded.count ≡ folded.count = ap (λ (a : Aggregate). a.count) w.folded-is in
           record {
-            lanes = w.rollup-is ∙ c.loop-time.invariant.lanes ∙ ap (λ (s : RollupState). with_frozen s.grid.cells c.args.rollup.now) (sym w.rollup-is);
+            series_list = w.rollup-is ∙ c.loop-time.invariant.series_list ∙ ap (λ (s : RollupState). with_frozen s.grid.cells c.args.rollup.now) (sym w.rollup-is);
             few = omega (arith, few, same, merged_count);
-            cells = λ d n at lane fit.
-                let q : Cell = cell_at bucket (lane_under r d) in
+            cells = λ d n at series fit.
+                let q : Cell = cell_at bucket (rollup_series_under r d) in
                 let h : IsFolded r d all before (p ∷ rest) old.grid.cells q folded =
-                subst (λ (ps : List (ℤ × ℤ)). IsFolded r d all before ps old.grid.cells q folded) left (c.loop-time.invariant.cells d n at lane fit) in
-                folded-as r d all before rest old.grid.cells c.if-index-bucket.rollup.grid.cells q (cell_at (to_z w128 c.if-index-bucket.bucket-bits) (lane_under r d)) (merged folded one) c.merge-folded.result
-                (ap (λ (s : RollupState). s.grid.cells) w.rollup-is) (ap (λ i. cell_at i (lane_under r d)) w.bucket-is) (merge ∙ ap (λ a. merged a one) w.folded-is)
-                (folded-more r d all before p rest old.grid.cells q folded lane.0 (ap (λ i. cell_at i (lane_under r d)) (sym here)) h);
+                subst (λ (ps : List (ℤ × ℤ)). IsFolded r d all before ps old.grid.cells q folded) left (c.loop-time.invariant.cells d n at series fit) in
+                folded-as r d all before rest old.grid.cells c.if-index-bucket.rollup.grid.cells q (cell_at (to_z w128 c.if-index-bucket.bucket-bits) (rollup_series_under r d)) (merged folded one) c.merge-folded.result
+                (ap (λ (s : RollupState). s.grid.cells) w.rollup-is) (ap (λ i. cell_at i (rollup_series_under r d)) w.bucket-is) (merge ∙ ap (λ a. merged a one) w.folded-is)
+                (folded-more r d all before p rest old.grid.cells q folded series.0 (ap (λ i. cell_at i (rollup_series_under r d)) (sym here)) h);
           }
     ]
 
 pub returns-clause-cells : goal.returns-clause-cells
-returns-clause-cells g c = λ d n at lane fit.
+returns-clause-cells g c = λ d n at series fit.
     let r : Rule = c.args.rule.now in
     let old : RollupState = c.loop-time.rollup in
     let folded : Aggregate = c.loop-time.folded in
     let bucket : ℤ = to_z w128 c.loop-time.bucket-bits in
-    let q : Cell = cell_at bucket (lane_under r d) in
+    let q : Cell = cell_at bucket (rollup_series_under r d) in
     let left : c.loop-time.time-iterator ≡ [] = search rules in
     let h : IsFolded r d c.args.points c.args.rollup.now.grid.cells [] old.grid.cells q folded =
-    subst (λ (ps : List (ℤ × ℤ)). IsFolded r d c.args.points c.args.rollup.now.grid.cells ps old.grid.cells q folded) left (c.loop-time.invariant.cells d n at lane fit) in
-    let end : c.freeze-2.new.self.grid.cells ≡ frozen_in old (lane_at old c.args.column) bucket folded = ap (λ (s : RollupState). s.grid.cells) c.freeze-2.ensures in
-    end ∙ frozen_in-lane c.args.rollup.now old c.args.column n r d bucket folded c.loop-time.invariant.lanes at lane ∙ h.same
+    subst (λ (ps : List (ℤ × ℤ)). IsFolded r d c.args.points c.args.rollup.now.grid.cells ps old.grid.cells q folded) left (c.loop-time.invariant.cells d n at series fit) in
+    let end : c.freeze-2.new.self.grid.cells ≡ frozen_in old (rollup_series_at old c.args.column) bucket folded = ap (λ (s : RollupState). s.grid.cells) c.freeze-2.ensures in
+    end ∙ frozen_in-series c.args.rollup.now old c.args.column n r d bucket folded c.loop-time.invariant.series_list at series ∙ h.same

@@ -7,10 +7,10 @@ use Rattle.ts_core.proofs.lists.ListSteps.{length-filter}
 use Rattle.ts_raw.specs.Columns.{ColumnState}
 use Rattle.ts_store.specs.store.ColumnStates.{no_column}
 use Rattle.ts_store.specs.write.LivePuts.{IsOver}
-use Rattle.ts_store.specs.rollup.Rollups.{RollupState, lane_at}
+use Rattle.ts_store.specs.rollup.Rollups.{RollupState, rollup_series_at}
 use Rattle.ts_store.specs.retain.RollupSteps.{FreezesFit, facts_left}
 use Rattle.ts_store.proofs.retain.RollupMoves.{moved_rolled, moved_passed, one_of-points}
-use Rattle.ts_store.proofs.write.RoomLemmas.{lane_known}
+use Rattle.ts_store.proofs.write.CellsCreatedLemmas.{rollup_series_known}
 use Rattle.ts_store.proofs.retain.freezing.move_points.Goals as goal
 
 pub freeze_points-requires-clause-few : goal.freeze_points-requires-clause-few
@@ -27,19 +27,19 @@ freeze_points-requires-clause-few g c =
 pub returns-then-rolls : goal.returns-then-rolls
 returns-then-rolls g c = λ cs d over at fit.
     let s : RollupState = c.args.rollup.now in
-    let rolled : is_some (lane_at s c.args.column) ≡ true = sym c.rolls.ensures ∙ c.if-rolls.true in
+    let rolled : is_some (rollup_series_at s c.args.column) ≡ true = sym c.rolls.ensures ∙ c.if-rolls.true in
     let below : List (ℤ × ℤ) = points_below c.args.mark (finmap.entries (get_or c.args.columns.now c.args.column no_column).points) in
     let col = c.index-columns-column.is ∙ get_or_default c.args.columns.now c.args.column c.index-columns-column.result no_column c.requires.column in
     let points = c.of.ensures ∙ ap (λ (x : ColumnState). points_below c.args.mark (finmap.entries x.points)) col in
-    let kept = c.freeze_points.ensures.lanes in
-    let over' : IsOver c.args.rule.now cs c.args.columns.now c.freeze_points.new.rollup = subst (λ (t : RollupState). IsOver c.args.rule.now cs c.args.columns.now t) (sym kept) (record { each = over.each; once = over.once; lanes = over.lanes }) in
-    moved_rolled c.args.rule.now d below (facts_left c.args.mark d cs c.args.columns.now) c.args.column s c.freeze_points.new.rollup c.refold_points.new.rollup rolled (lane_known c.args.rule.now s.grid.lanes cs s.lanes c.args.column d over.lanes at) kept c.refold_points.ensures.lanes
-    (λ l here lane.
-    c.freeze_points.ensures.cells d l here lane (subst (λ (ps : List (ℤ × ℤ)). FreezesFit c.args.rule.now d ps s.grid.cells) (sym points) fit)
+    let kept = c.freeze_points.ensures.series_list in
+    let over' : IsOver c.args.rule.now cs c.args.columns.now c.freeze_points.new.rollup = subst (λ (t : RollupState). IsOver c.args.rule.now cs c.args.columns.now t) (sym kept) (record { each = over.each; once = over.once; series_list = over.series_list }) in
+    moved_rolled c.args.rule.now d below (facts_left c.args.mark d cs c.args.columns.now) c.args.column s c.freeze_points.new.rollup c.refold_points.new.rollup rolled (rollup_series_known c.args.rule.now s.grid.series_list cs s.series_list c.args.column d over.series_list at) kept c.refold_points.ensures.series_list
+    (λ l here series.
+    c.freeze_points.ensures.cells d l here series (subst (λ (ps : List (ℤ × ℤ)). FreezesFit c.args.rule.now d ps s.grid.cells) (sym points) fit)
     ∙ ap (λ (ps : List (ℤ × ℤ)). frozen_points c.args.rule.now d ps s.grid.cells) points)
     (λ l here. c.refold_points.ensures.cells cs d l here over' at)
 
 pub returns-else-rolls : goal.returns-else-rolls
 returns-else-rolls g c = λ cs d over at fit.
     let s : RollupState = c.args.rollup.now in
-    moved_passed c.args.rule.now d (points_below c.args.mark (finmap.entries (get_or c.args.columns.now c.args.column no_column).points)) (facts_left c.args.mark d cs c.args.columns.now) c.args.column s (sym c.rolls.ensures ∙ c.if-rolls.false) (lane_known c.args.rule.now s.grid.lanes cs s.lanes c.args.column d over.lanes at)
+    moved_passed c.args.rule.now d (points_below c.args.mark (finmap.entries (get_or c.args.columns.now c.args.column no_column).points)) (facts_left c.args.mark d cs c.args.columns.now) c.args.column s (sym c.rolls.ensures ∙ c.if-rolls.false) (rollup_series_known c.args.rule.now s.grid.series_list cs s.series_list c.args.column d over.series_list at)

@@ -10,9 +10,9 @@ use Rattle.ts_core.specs.moves.StoreMoves.{points_below, refolded, refolded_poin
 use Rattle.ts_cells.specs.Grids.{cell_at}
 use Rattle.ts_raw.specs.Columns.{ColumnState}
 use Rattle.ts_store.specs.store.ColumnStates.{no_column}
-use Rattle.ts_store.specs.rollup.Rollups.{RollupState, lane_at, lane_under, corrected_in}
+use Rattle.ts_store.specs.rollup.Rollups.{RollupState, rollup_series_at, rollup_series_under, corrected_in}
 use Rattle.ts_store.specs.retain.RollupSteps.{facts_left}
-use Rattle.ts_store.proofs.retain.PointsFrozen.{lanes_stay}
+use Rattle.ts_store.proofs.retain.PointsFrozen.{series_list_stay}
 use Rattle.ts_store.proofs.retain.Refolds.{refolded-none, refolded-same, refolded-next, left_total}
 use Rattle.ts_store.proofs.retain.freezing.refold_points.Goals as goal
 
@@ -23,7 +23,7 @@ loop-time-init g c =
     let points : c.into_iter-time-iterator.result ≡ all =
     c.into_iter-time-iterator.ensures.into_iter_gives ∙ c.of-time-items.ensures ∙ ap (λ (x : ColumnState). points_below c.args.mark (finmap.entries x.points)) col in
     record {
-      lanes = refl;
+      series_list = refl;
       cells = λ cs d n at over here. refolded-none c.args.rule.now d (facts_left c.args.mark d cs c.args.columns.now) all c.args.rollup.now.grid.cells c.into_iter-time-iterator.result None points refl;
     }
 
@@ -37,16 +37,16 @@ loop-time-preserved-then-not-is_last g c =
     let is : c.index_of-index.result ≡ index_of r p.0 = search rules in
     let at_index : index ≡ index_of r p.0 = to_z-of_z fits ∙ is in
     let left : c.loop-time.time-iterator ≡ p ∷ c.next.new.self = search rules in
-    let cells : CellMap = corrected_in old c.in-Some.lane index c.lane_left-live.result in
+    let cells : CellMap = corrected_in old c.in-Some.series index c.rollup_series_left-live.result in
     record {
-      lanes = lanes_stay c.args.rollup.now old c.correct.new.self cells c.loop-time.invariant.lanes c.correct.ensures;
+      series_list = series_list_stay c.args.rollup.now old c.correct.new.self cells c.loop-time.invariant.series_list c.correct.ensures;
       cells = λ cs d n at over here.
           let facts : List Fact = facts_left c.args.mark d cs c.args.columns.now in
           let all : List (ℤ × ℤ) = points_below c.args.mark (finmap.entries (get_or c.args.columns.now c.args.column no_column).points) in
-          let lane : lane_at c.args.rollup.now c.args.column ≡ Some c.in-Some.lane = search rules in
-          let made : c.correct.new.self.grid.cells ≡ refolded r (cell_at index (lane_under r d)) facts old.grid.cells =
+          let series : rollup_series_at c.args.rollup.now c.args.column ≡ Some c.in-Some.series = search rules in
+          let made : c.correct.new.self.grid.cells ≡ refolded r (cell_at index (rollup_series_under r d)) facts old.grid.cells =
           ap (λ (s : RollupState). s.grid.cells) c.correct.ensures
-          ∙ left_total r c.args.mark cs d c.args.columns.now c.args.rollup.now old c.args.column c.in-Some.lane index c.lane_left-live.result over here lane c.loop-time.invariant.lanes c.lane_left-live.ensures.once c.lane_left-live.ensures.total in
+          ∙ left_total r c.args.mark cs d c.args.columns.now c.args.rollup.now old c.args.column c.in-Some.series index c.rollup_series_left-live.result over here series c.loop-time.invariant.series_list c.rollup_series_left-live.ensures.once c.rollup_series_left-live.ensures.total in
           refolded-next r d facts all c.args.rollup.now.grid.cells p c.next.new.self c.loop-time.time-iterator old.grid.cells c.correct.new.self.grid.cells index c.loop-time.last (Some index) left made refl at_index (c.loop-time.invariant.cells cs d n at over here);
     }
 
@@ -62,7 +62,7 @@ loop-time-preserved g c =
     let same : c.is_last.result ≡ true = search rules in
     let last : c.loop-time.last ≡ Some index = c.is_last.ensures same in
     record {
-      lanes = c.loop-time.invariant.lanes;
+      series_list = c.loop-time.invariant.series_list;
       cells = λ cs d n at over here.
           let facts : List Fact = facts_left c.args.mark d cs c.args.columns.now in
           let all : List (ℤ × ℤ) = points_below c.args.mark (finmap.entries (get_or c.args.columns.now c.args.column no_column).points) in

@@ -2,7 +2,7 @@ use Rattle.std.proofs.Common.{◌≡◌, ◌+◌, ◌≤◌, ◌≤ℤ◌, ◌^�
 use Rattle.std.proofs.lemmas.Int.{ints}
 use Rattle.ts_core.specs.aggregates.Aggregates.{Aggregate, merged, aggregate_of_one, aggregate_of_points}
 use Rattle.ts_store.specs.rollup.LivePoints.{points_since}
-use Rattle.ts_store.proofs.rollup.LanePoints.{since_here, since_before}
+use Rattle.ts_store.proofs.rollup.RollupSeriesPoints.{since_here, since_before}
 use Rattle.ts_store.proofs.rollup.LiveParts.{point_more, points_none}
 use Rattle.ts_store.proofs.rollup.live_parts.with_points_since.Goals as goal
 

@@ -3,8 +3,8 @@ use Rattle.std.proofs.lemmas.Option.{slice_get-get_or, same_Some}
 use Rattle.ts_core.specs.facts.Facts.{Column}
 use Rattle.ts_core.specs.lists.Numbered.{IsAt}
 use Rattle.ts_store.specs.rollup.Rollups.{HasNext}
-use Rattle.ts_store.specs.rules.RuleRollups.{HasFirstLanes}
-use Rattle.ts_store.proofs.rules.RuleRollupLemmas.{one_lane}
+use Rattle.ts_store.specs.rules.RuleRollups.{HasFirstRollupSeries}
+use Rattle.ts_store.proofs.rules.RuleRollupLemmas.{one_rollup_series}
 use Rattle.ts_store.proofs.rules.rule_rollups.rollup_over.Goals as goal
 
 pub loop-number-preserved : goal.loop-number-preserved
@@ -19,4 +19,4 @@ loop-number-preserved g c =
     let field : c.as_str.result.now ≡ x.field = c.as_str.ensures ∙ c.field_of.ensures x here in
     let named : record { series = c.key_of-key.result.now; field = c.as_str.result.now } ≡ x = λ i. record { series = key i; field = field i } in
     let next : HasNext c.args.rule.now x c.prepare.new.self = subst (λ (y : Column). HasNext c.args.rule.now y c.prepare.new.self) named c.in_ok-prepare.ensures.next in
-    subst (HasFirstLanes c.args.rule.now cs (n + 1)) (sym c.commit.ensures) (one_lane c.args.rule.now cs n x c.loop-number.rollup c.prepare.new.self at c.prepare.ensures.kept next c.loop-number.invariant)
+    subst (HasFirstRollupSeries c.args.rule.now cs (n + 1)) (sym c.commit.ensures) (one_rollup_series c.args.rule.now cs n x c.loop-number.rollup c.prepare.new.self at c.prepare.ensures.kept next c.loop-number.invariant)

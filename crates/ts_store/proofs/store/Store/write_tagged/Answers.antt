@@ -2,7 +2,7 @@ use Rattle.std.proofs.Common.{◌≡◌, ◌+◌, ◌≤◌, sym, ◌∙◌, ap,
 use Rattle.std.proofs.lemmas.List.{length-map}
 use Rattle.std.proofs.lemmas.Result.{err_from_is_err_and}
 use Rattle.ts_core.specs.settings.Settings.{Rule}
-use Rattle.ts_core.specs.text.Texts.{lent_pairs}
+use Rattle.ts_core.specs.text.Texts.{borrowed_pairs}
 use Rattle.ts_core.specs.store.StoreStates.{column_of}
 use Rattle.ts_core.specs.store.StoreData.{StoreData}
 use Rattle.ts_line.specs.Names.{AreKeys}
@@ -19,12 +19,12 @@ use Rattle.ts_store.proofs.store.Store.write_tagged.Goals as goal
 pub refusal-requires : goal.refusal-requires
 refusal-requires g c =
     c.new-key.ensures
-    ∙ series_from c.args.line.now c.text.result.now (lent_pairs c.args.tags.now) (c.text.ensures ∙ ap (λ (q : LinePart). q.text) c.measurement.ensures) c.requires.tags
+    ∙ series_from c.args.line.now c.text.result.now (borrowed_pairs c.args.tags.now) (c.text.ensures ∙ ap (λ (q : LinePart). q.text) c.measurement.ensures) c.requires.tags
 
 pub put_line-requires-clause-key : goal.put_line-requires-clause-key
 put_line-requires-clause-key g c =
     c.new-key.ensures
-    ∙ series_from c.args.line.now c.text.result.now (lent_pairs c.args.tags.now) (c.text.ensures ∙ ap (λ (q : LinePart). q.text) c.measurement.ensures) c.requires.tags
+    ∙ series_from c.args.line.now c.text.result.now (borrowed_pairs c.args.tags.now) (c.text.ensures ∙ ap (λ (q : LinePart). q.text) c.measurement.ensures) c.requires.tags
 
 pub put_line-requires-clause-few : goal.put_line-requires-clause-few
 put_line-requires-clause-few g c =

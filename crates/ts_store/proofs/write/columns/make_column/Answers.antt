@@ -40,7 +40,7 @@ pub returns-clause-column : goal.returns-clause-column
 returns-clause-column g c =
     let column : Column = column_in c.args.index.now c.args.series c.args.field.now in
     let before : List ColumnState = c.reserve_eighth.new.list.items in
-    let empty : c.new.result ≡ no_column = λ i. record { points = c.new.ensures.points i; aside = c.new.ensures.none_aside i } in
+    let empty : c.new.result ≡ no_column = λ i. record { points = c.new.ensures.points i; staged = c.new.ensures.none_staged i } in
     let pushed : c.push.new.self.items ≡ c.args.columns.now.items ++ no_column ∷ [] =
     c.push.ensures.items ∙ ap (λ r. cond (is_ok r) (before ++ c.new.result ∷ []) before) c.unwrap.ensures
     ∙ ap (λ (xs : List ColumnState). xs ++ c.new.result ∷ []) c.in_ok-reserve_eighth.ensures.items ∙ ap (λ (s : ColumnState). c.args.columns.now.items ++ s ∷ []) empty in

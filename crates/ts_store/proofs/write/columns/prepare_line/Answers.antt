@@ -10,18 +10,18 @@ use Rattle.ts_core.specs.lists.Members.{AllDistinct}
 use Rattle.ts_line.specs.Parts.{LinePart, Parts, field_text, fact_of, series_of, line_facts}
 use Rattle.ts_raw.specs.Columns.{ColumnState}
 use Rattle.ts_raw.specs.Indexed.{Indexed, column_in}
-use Rattle.ts_store.specs.store.ColumnStates.{no_column, point_maps, columns_in, with_points, with_point_aside, AreAside, MayGrow, IsSoundContent}
-use Rattle.ts_store.specs.write.LinesInColumns.{SetsAside}
+use Rattle.ts_store.specs.store.ColumnStates.{no_column, point_maps, columns_in, with_points, with_point_staged, AreStaged, MayGrow, IsSoundContent}
+use Rattle.ts_store.specs.write.LinesInColumns.{StagesPoint}
 use Rattle.ts_store.specs.write.Registered.{MakesAll, MakesFirst}
-use Rattle.ts_store.proofs.write.ColumnsAside.{grown_aside, made_next, first_made, next_aside, facts_next, column_is}
+use Rattle.ts_store.proofs.write.StagedColumns.{grown_staged, made_next, first_made, next_staged, facts_next, column_is}
 use Rattle.ts_store.proofs.store.Stands.{taken_more}
 use Rattle.ts_store.proofs.write.columns.prepare_line.Goals as goal
 
 -- the state after a refusal
 refused : {E : Type 0} (p : Parts) (before : Indexed) (states : List ColumnState) (after : Indexed) (states' : List ColumnState) (ns : List ℕ) (r : Result (Unit {0}) E) (e : E) → r ≡ Err e
-    → MakesFirst (columns_in before states) (columns_in after states') (line_facts p) → IsSoundContent after states' → after.series ≡ before.series → SetsAside p before states after states' ns r
+    → MakesFirst (columns_in before states) (columns_in after states') (line_facts p) → IsSoundContent after states' → after.series ≡ before.series → StagesPoint p before states after states' ns r
 refused {E} p before states after states' ns r e is made held series =
-    subst (λ (q : Result (Unit {0}) E). SetsAside p before states after states' ns q) (sym is) (record { aside = tt; taken = tt; all = tt; made = made; held = held; series = series })
+    subst (λ (q : Result (Unit {0}) E). StagesPoint p before states after states' ns q) (sym is) (record { staged = tt; taken = tt; all = tt; made = made; held = held; series = series })
 
 pub column_for-requires-clause-series : goal.column_for-requires-clause-series
 column_for-requires-clause-series g c =
@@ -40,7 +40,7 @@ returns-in_err-column-clause-line g c =
 pub prepare_at-requires : goal.prepare_at-requires
 prepare_at-requires g c =
     let i = c.loop-field.invariant in
-    let len = (grown_aside _ c.loop-field.index.columns c.column_for.new.index.columns c.loop-field.columns.items c.column_for.new.columns.items c.loop-field.touched.items _ i.held.each c.in_ok-column.ensures.column.grown i.aside).1 in
+    let len = (grown_staged _ c.loop-field.index.columns c.column_for.new.index.columns c.loop-field.columns.items c.column_for.new.columns.items c.loop-field.touched.items _ i.held.each c.in_ok-column.ensures.column.grown i.staged).1 in
     let w = slice_get_within c.column_for.new.index.columns c.in_ok-column.column _ c.in_ok-column.ensures.column.number in
     omega (arith, w, len)
 
@@ -53,7 +53,7 @@ returns-in_err-prepare_at-clause-line g c =
     let p = err_from_is_err_and c.from_residual-in_err-prepare_at.result c.from_residual-in_err-prepare_at.ensures.1 in
     refused _ _ _ _ _ _ _ _ p.1
     (first_made c.args.line.now _ _ c.fields-field-items.result.now (c.loop-field.field-index + 1) c.fields-field-items.ensures.value (ap (with_points c.column_for.new.index.columns) c.prepare_at.ensures.unchanged ∙ more))
-    (record { sound = c.column_for.ensures.column.sound i.held.sound; each = c.prepare_at.ensures.len ∙ (grown_aside _ c.loop-field.index.columns c.column_for.new.index.columns c.loop-field.columns.items c.column_for.new.columns.items c.loop-field.touched.items _ i.held.each c.in_ok-column.ensures.column.grown i.aside).1 })
+    (record { sound = c.column_for.ensures.column.sound i.held.sound; each = c.prepare_at.ensures.len ∙ (grown_staged _ c.loop-field.index.columns c.column_for.new.index.columns c.loop-field.columns.items c.column_for.new.columns.items c.loop-field.touched.items _ i.held.each c.in_ok-column.ensures.column.grown i.staged).1 })
     (c.column_for.ensures.column.series ∙ i.series)
 
 pub loop-field-preserved : goal.loop-field-preserved
@@ -70,7 +70,7 @@ loop-field-preserved g c =
     let ss'' : List ColumnState = c.prepare_at.new.columns.items in
     let ns : List ℕ = c.loop-field.touched.items in
     let e = c.fields-field-items.ensures.value in
-    let aside : AreAside cs ss ns (map (fact_of p) (take k p.fields)) = subst (λ (fs : List (LinePart × ℤ)). AreAside cs ss ns (map (fact_of p) (take k fs))) e i.aside in
+    let staged : AreStaged cs ss ns (map (fact_of p) (take k p.fields)) = subst (λ (fs : List (LinePart × ℤ)). AreStaged cs ss ns (map (fact_of p) (take k fs))) e i.staged in
     let within : k < length p.fields = subst (λ (fs : List (LinePart × ℤ)). k < length fs) e c.loop-field-test.true in
     let is : x ≡ get_or p.fields k x = subst (λ (fs : List (LinePart × ℤ)). x ≡ get_or fs k x) e c.field-item.is in
     let once : AllDistinct (map field_text p.fields) = subst (λ (fs : List (LinePart × ℤ)). AllDistinct (map field_text fs)) e c.fields-field-items.ensures.once in
@@ -83,11 +83,11 @@ loop-field-preserved g c =
     let value : to_z w64 (of_z w64 c.value.result) ≡ x.1 = to_z-of_z fits ∙ c.value.ensures in
     let time : IsTime c.time.result = search rules in
     let taken : MayBeTaken least_time (fact_of p x) = subst (λ (f : Fact). MayBeTaken least_time f) (λ j. record { column = (fact_of p x).column; time = c.time.ensures j; value = c.value.ensures j }) (record { valid = time; fits = search rules; raw = time.not_before }) in
-    let set_is : ss'' ≡ set ss' n (with_point_aside (get_or ss' n no_column) p.time x.1) =
-    c.in_ok-prepare_at.ensures.ok ∙ (λ j. set ss' n (with_point_aside (get_or ss' n no_column) (c.time.ensures j) (value j))) in
-    let next = next_aside p cs cs' ss ss' ss'' ns n k x i.held.each aside grown at within is once set_is in
+    let set_is : ss'' ≡ set ss' n (with_point_staged (get_or ss' n no_column) p.time x.1) =
+    c.in_ok-prepare_at.ensures.ok ∙ (λ j. set ss' n (with_point_staged (get_or ss' n no_column) (c.time.ensures j) (value j))) in
+    let next = next_staged p cs cs' ss ss' ss'' ns n k x i.held.each staged grown at within is once set_is in
     record {
-      aside = rw c.in_ok-prepare_at.ensures.touched (subst (λ (fs : List (LinePart × ℤ)). AreAside cs' ss'' (ns ++ n ∷ []) (map (fact_of p) (take (k + 1) fs))) (sym e) next.0);
+      staged = rw c.in_ok-prepare_at.ensures.touched (subst (λ (fs : List (LinePart × ℤ)). AreStaged cs' ss'' (ns ++ n ∷ []) (map (fact_of p) (take (k + 1) fs))) (sym e) next.0);
       taken = subst (λ (fs : List (LinePart × ℤ)). AllByRecursion (MayBeTaken least_time) (map (fact_of p) (take (k + 1) fs))) (sym e)
           (subst (AllByRecursion (MayBeTaken least_time)) (facts_next p k x within is) (taken_more least_time (map (fact_of p) (take k p.fields)) (fact_of p x)
           (subst (λ (fs : List (LinePart × ℤ)). AllByRecursion (MayBeTaken least_time) (map (fact_of p) (take k fs))) e i.taken) taken));
@@ -100,7 +100,7 @@ loop-field-preserved g c =
 
 pub loop-field-init : goal.loop-field-init
 loop-field-init g c = record {
-  aside = subst (λ ns. AreAside c.args.index.now.columns c.args.columns.now.items ns []) (sym c.requires.none) tt;
+  staged = subst (λ ns. AreStaged c.args.index.now.columns c.args.columns.now.items ns []) (sym c.requires.none) tt;
   taken = tt;
   made = sym (append-nil (columns_in c.args.index.now c.args.columns.now.items));
   held = c.requires.held;
@@ -114,7 +114,7 @@ returns-clause-line g c =
     let i = c.loop-field.invariant in
     let all = take_all c.loop-field.field-index c.fields-field-items.result.now c.loop-field-test.false ∙ c.fields-field-items.ensures.value in
     record {
-      aside = subst (λ (fs : List (LinePart × ℤ)). AreAside c.loop-field.index.columns c.loop-field.columns.items c.loop-field.touched.items (map (fact_of c.args.line.now) fs)) all i.aside;
+      staged = subst (λ (fs : List (LinePart × ℤ)). AreStaged c.loop-field.index.columns c.loop-field.columns.items c.loop-field.touched.items (map (fact_of c.args.line.now) fs)) all i.staged;
       taken = subst (λ (fs : List (LinePart × ℤ)). AllByRecursion (MayBeTaken least_time) (map (fact_of c.args.line.now) fs)) all i.taken;
       all = subst (λ (fs : List (LinePart × ℤ)). MakesAll (columns_in c.args.index.now c.args.columns.now.items) (columns_in c.loop-field.index c.loop-field.columns.items) (map (fact_of c.args.line.now) fs)) all i.made;
       made = first_made c.args.line.now _ _ c.fields-field-items.result.now c.loop-field.field-index c.fields-field-items.ensures.value i.made;

@@ -4,27 +4,27 @@ use Rattle.ts_core.specs.settings.Settings.{Rule}
 use Rattle.ts_core.specs.store.StoreStates.{facts_of}
 use Rattle.ts_store.specs.store.ColumnStates.{with_points, point_maps}
 use Rattle.ts_store.specs.rollup.Rollups.{RollupState, cells_of}
-use Rattle.ts_store.proofs.write.PointsPut.{none_put, nowhere_put, all_put-more, lanes_more}
-use Rattle.ts_store.proofs.retain.RollupExpiry.{same_lanes}
+use Rattle.ts_store.proofs.write.PointsPut.{none_put, nowhere_put, all_put-more, series_list_more}
+use Rattle.ts_store.proofs.retain.RollupExpiry.{same_series_list}
 use Rattle.ts_store.proofs.write.putting.+put_under_all.Goals as goal
 
-pub returns-in_default-clause-lanes : goal.returns-in_default-clause-lanes
-returns-in_default-clause-lanes g t c = same_lanes c.args.rollups.now
+pub returns-in_default-clause-series_list : goal.returns-in_default-clause-series_list
+returns-in_default-clause-series_list g t c = same_series_list c.args.rollups.now
 
 pub returns-in_default-clause-cells : goal.returns-in_default-clause-cells
 returns-in_default-clause-cells g t c = λ cs before f time value each once a put live.
     none_put c.args.rules.now f (facts_of (with_points cs (point_maps c.args.columns.now))) (cells_of c.args.rollups.now) c.in_default.ensures.cases
 
-pub returns-in_default-split_first_mut-clause-lanes : goal.returns-in_default-split_first_mut-clause-lanes
-returns-in_default-split_first_mut-clause-lanes g t c = same_lanes c.args.rollups.now
+pub returns-in_default-split_first_mut-clause-series_list : goal.returns-in_default-split_first_mut-clause-series_list
+returns-in_default-split_first_mut-clause-series_list g t c = same_series_list c.args.rollups.now
 
 pub returns-in_default-split_first_mut-clause-cells : goal.returns-in_default-split_first_mut-clause-cells
 returns-in_default-split_first_mut-clause-cells g t c = λ cs before f time value each once a put live.
     nowhere_put c.args.rules.now f (facts_of (with_points cs (point_maps c.args.columns.now))) c.args.rollups.now c.in_default-split_first_mut.ensures.cases
 
-pub returns-in-Some-split_first_mut-clause-lanes : goal.returns-in-Some-split_first_mut-clause-lanes
-returns-in-Some-split_first_mut-clause-lanes g t c =
-    lanes_more c.in-Some-split_first_mut.rollup.now c.put_under.new.rollup c.in-Some-split_first_mut.rollups.now c.put_under_all.new.rollups c.args.rollups.now c.in-Some-split_first_mut.ensures.cases.0 c.put_under.ensures.lanes c.put_under_all.ensures.lanes
+pub returns-in-Some-split_first_mut-clause-series_list : goal.returns-in-Some-split_first_mut-clause-series_list
+returns-in-Some-split_first_mut-clause-series_list g t c =
+    series_list_more c.in-Some-split_first_mut.rollup.now c.put_under.new.rollup c.in-Some-split_first_mut.rollups.now c.put_under_all.new.rollups c.args.rollups.now c.in-Some-split_first_mut.ensures.cases.0 c.put_under.ensures.series_list c.put_under_all.ensures.series_list
 
 pub returns-in-Some-split_first_mut-clause-cells : goal.returns-in-Some-split_first_mut-clause-cells
 returns-in-Some-split_first_mut-clause-cells g t c = λ cs before f time value each once a put live.
@@ -39,5 +39,5 @@ pub put_under_all-requires : goal.put_under_all-requires
 put_under_all-requires g t c κs within =
     let longer : length c.args.rules.now ≡ suc (length c.in-Some.rules.now) = ap length c.in-Some.ensures.cases.0 in
     let intervals = subst (AllByRecursion (λ (r : Rule). pos 1 ≤ℤ r.interval)) c.in-Some.ensures.cases.0 c.requires.intervals in
-    let each = subst (AllByRecursion (λ (s : RollupState). length s.lanes ≡ length c.args.columns.now)) c.in-Some-split_first_mut.ensures.cases.0 c.requires.each in
+    let each = subst (AllByRecursion (λ (s : RollupState). length s.series_list ≡ length c.args.columns.now)) c.in-Some-split_first_mut.ensures.cases.0 c.requires.each in
     (omega arith, (within, (intervals.1, (c.requires.column, (each.1, c.requires.few)))))

@@ -6,8 +6,8 @@ use Rattle.ts_raw.specs.Columns.{ColumnState}
 use Rattle.ts_store.specs.store.ColumnStates.{with_points, point_maps, all_committed, AreReady}
 use Rattle.ts_store.specs.read.PointsRead.{number_of_points}
 use Rattle.ts_store.specs.rollup.Rollups.{RollupState, cells_of}
-use Rattle.ts_store.proofs.write.PointsPut.{PutsRest, next_ready, rest_put, rest_done, none_left, none_committed, lanes_then, wide_still}
-use Rattle.ts_store.proofs.retain.RollupExpiry.{same_lanes}
+use Rattle.ts_store.proofs.write.PointsPut.{PutsRest, next_ready, rest_put, rest_done, none_left, none_committed, series_list_then, wide_still}
+use Rattle.ts_store.proofs.retain.RollupExpiry.{same_series_list}
 use Rattle.ts_store.proofs.write.putting.put_points.Goals as goal
 
 pub loop-number-init : goal.loop-number-init
@@ -23,7 +23,7 @@ loop-number-init g c =
       same = ap length values ∙ c.requires.fields ∙ ap length (sym ids);
       long = refl;
       columns = ap (all_committed ss) ids;
-      lanes = same_lanes us;
+      series_list = same_series_list us;
       cells = λ cs after ends once rest.
           subst (λ (ms : List ℕ). PutsRest c.args.rules.now c.args.time ms c.args.fields.now cs ss us after ends) ids
           (subst (λ (xs : List (LinePart × ℤ)). PutsRest c.args.rules.now c.args.time ns xs cs ss us after ends) values rest);
@@ -36,8 +36,8 @@ put_point-requires-clause-ready g c =
 
 pub put_point-requires-clause-each : goal.put_point-requires-clause-each
 put_point-requires-clause-each g c =
-    wide_still (length c.loop-number.columns.items) c.args.rollups.now c.loop-number.rollups c.loop-number.invariant.lanes
-    (subst (λ n. AllByRecursion (λ (s : RollupState). length s.lanes ≡ n) c.args.rollups.now) (sym c.loop-number.invariant.long) c.requires.each)
+    wide_still (length c.loop-number.columns.items) c.args.rollups.now c.loop-number.rollups c.loop-number.invariant.series_list
+    (subst (λ n. AllByRecursion (λ (s : RollupState). length s.series_list ≡ n) c.args.rollups.now) (sym c.loop-number.invariant.long) c.requires.each)
 
 pub put_point-requires-clause-few : goal.put_point-requires-clause-few
 put_point-requires-clause-few g c =
@@ -70,9 +70,9 @@ loop-number-preserved g c =
       same = omega (arith, longer, wider, c.loop-number.invariant.same);
       long = next.1 ∙ c.loop-number.invariant.long;
       columns = ap (λ (zs : List ColumnState). all_committed zs ns) c.put_point.ensures.columns ∙ sym (ap (all_committed ss) ids) ∙ c.loop-number.invariant.columns;
-      lanes = lanes_then c.args.rollups.now us us' c.loop-number.invariant.lanes c.put_point.ensures.lanes;
+      series_list = series_list_then c.args.rollups.now us us' c.loop-number.invariant.series_list c.put_point.ensures.series_list;
       cells = λ cs after ends once others. c.loop-number.invariant.cells cs after ends once
-          (rest_put c.args.rules.now c.args.time cs ss ss' us us' n ns ns' x xs xs' (to_z w64 (of_z w64 c.value.result)) after ends ids values value c.put_point.ensures.columns c.put_point.ensures.lanes next.3 once
+          (rest_put c.args.rules.now c.args.time cs ss ss' us us' n ns ns' x xs xs' (to_z w64 (of_z w64 c.value.result)) after ends ids values value c.put_point.ensures.columns c.put_point.ensures.series_list next.3 once
           (λ f at of each have first live. c.put_point.ensures.cells cs f at of each once have first live) others);
     }
 
@@ -84,10 +84,10 @@ returns-clause-columns g c =
     none_committed c.loop-number.columns.items ns none ∙ c.loop-number.invariant.columns
 
 pub returns-clause-cells : goal.returns-clause-cells
-returns-clause-cells g c = λ cs fs fields each once have aside live.
+returns-clause-cells g c = λ cs fs fields each once have staged live.
     let ss : List ColumnState = c.loop-number.columns.items in
     let us : List RollupState = c.loop-number.rollups in
     let ns : List ℕ = c.loop-number.number-iterator.a.rest.now in
     let xs : List (LinePart × ℤ) = c.loop-number.number-iterator.b.rest.now in
     let none : length ns ≡ 0 = none_left ns xs c.loop-number.invariant.same (either_empty_from_Zip c.loop-number.number-iterator c.next.new.self c.next.result c.in-None.is c.next.ensures.steps) in
-    c.loop-number.invariant.cells cs (with_points cs (point_maps ss)) (cells_of us) once (rest_done c.args.rules.now c.args.time ns xs cs ss us none) fs fields each have aside live
+    c.loop-number.invariant.cells cs (with_points cs (point_maps ss)) (cells_of us) once (rest_done c.args.rules.now c.args.time ns xs cs ss us none) fs fields each have staged live

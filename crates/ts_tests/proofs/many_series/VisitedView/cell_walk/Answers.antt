@@ -15,4 +15,4 @@ no_cells (r ∷ rs) zero a b = refl
 no_cells (r ∷ rs) (suc n) a b = no_cells rs n a b
 
 pub returns : goal.returns
-returns g c = c.lent.ensures ∙ sym (no_cells c.args.self.now.settings.now.rules _ _ _)
+returns g c = c.from_slice.ensures ∙ sym (no_cells c.args.self.now.settings.now.rules _ _ _)

@@ -27,9 +27,9 @@ walk_outside c rs n a b there e = sym (rule_there c rs n a b there ∙ cell_outs
 pub returns-then-is_within : goal.returns-then-is_within
 returns-then-is_within g c =
     let here : is_within c.args.from.now c.args.to.now c.args.self.now.cell.cell.index ≡ true = search rules in
-    c.lent.ensures ∙ c.from_ref.ensures.value ∙ walk_inside c.args.self.now.cell _ _ _ _ c.requires here
+    c.from_slice.ensures ∙ c.from_ref.ensures.value ∙ walk_inside c.args.self.now.cell _ _ _ _ c.requires here
 
 pub returns-else-is_within : goal.returns-else-is_within
 returns-else-is_within g c =
     let here : is_within c.args.from.now c.args.to.now c.args.self.now.cell.cell.index ≡ false = search rules in
-    c.lent-else-is_within.ensures ∙ walk_outside c.args.self.now.cell _ _ _ _ c.requires here
+    c.from_slice-else-is_within.ensures ∙ walk_outside c.args.self.now.cell _ _ _ _ c.requires here

@@ -9,7 +9,7 @@ pub invariant_of-self-2 : goal.invariant_of-self-2
 invariant_of-self-2 g c =
     let links : List Link = c.self.inside.links.items in
     let before : ℕ → Option ℕ = get nat_eq c.self.inside.newest in
-    let place : c.in_ok-at.at ≡ length links = search rules in
+    let index : c.in_ok-at.at ≡ length links = search rules in
     let link : Link = record { hash = c.args.hash; older = c.in_ok-older.older } in
     let pushed : c.push.new.self.items ≡ links ++ record { hash = c.args.hash; older = before c.args.hash } ∷ [] =
     c.push.ensures.items ∙ ap (λ r. cond (is_ok r) (c.reserve_eighth.new.list.items ++ link ∷ []) c.reserve_eighth.new.list.items) c.unwrap.ensures
@@ -17,4 +17,4 @@ invariant_of-self-2 g c =
     ∙ ap (λ o. links ++ record { hash = c.args.hash; older = o } ∷ []) c.in_ok-older.ensures.old in
     subst (λ (ls : List Link). AreChained (get nat_eq c.insert.new.self) ls) (sym pushed)
     (chained_push before (get nat_eq c.insert.new.self) links c.args.hash c.self.invariant
-    (λ q. c.in_ok-older.ensures.updates.0 q ∙ ap (λ n. cond (nat_eq c.args.hash q) (Some n) (before q)) place))
+    (λ q. c.in_ok-older.ensures.updates.0 q ∙ ap (λ n. cond (nat_eq c.args.hash q) (Some n) (before q)) index))

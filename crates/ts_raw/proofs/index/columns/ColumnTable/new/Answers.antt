@@ -8,6 +8,6 @@ use Rattle.ts_raw.proofs.index.columns.ColumnTable.new.Goals as goal
 
 pub invariant_of-result : goal.invariant_of-result
 invariant_of-result g c =
-    let place : ℕ × ℕ → Option ℕ = get same_numbers c.new-2.result in
-    let none : (x : ℕ × ℕ) → place x ≡ None = λ x. ap (λ es. lookup (same_numbers x) es) c.new-2.ensures.empty in
-    columns_same place [] [] (columns_none place none) place c.new.result.items (lists_of c.new-3.result.items) (λ x. refl) c.new.ensures.items (ap lists_of c.new-3.ensures.items)
+    let index : ℕ × ℕ → Option ℕ = get same_numbers c.new-2.result in
+    let none : (x : ℕ × ℕ) → index x ≡ None = λ x. ap (λ es. lookup (same_numbers x) es) c.new-2.ensures.empty in
+    columns_same index [] [] (columns_none index none) index c.new.result.items (lists_of c.new-3.result.items) (λ x. refl) c.new.ensures.items (ap lists_of c.new-3.ensures.items)

@@ -2,7 +2,7 @@ use Rattle.std.proofs.Common.{◌≡◌, ℕ, List, [], ◌∷◌, ◌++◌, len
 use Rattle.std.proofs.lemmas.Result.{err_from_is_err_and}
 use Rattle.ts_core.specs.lists.Members.{Among}
 use Rattle.ts_core.specs.facts.Facts.{Text, Series}
-use Rattle.ts_core.specs.text.Texts.{lent_pairs}
+use Rattle.ts_core.specs.text.Texts.{borrowed_pairs}
 use Rattle.ts_raw.specs.Hashes.{hash_of_series}
 use Rattle.ts_raw.specs.Registering.{IsRegistered}
 use Rattle.ts_raw.specs.TagChains.{IsSeriesTable, AllLead}
@@ -53,7 +53,7 @@ invariant_of-self-2 g c =
     let lead : AllLead c.push_all.new.self key.measurement key.tags (length before) =
     subst (λ n. AllLead c.push_all.new.self key.measurement key.tags n) number
     (subst (λ (ts : List (Text × Text)). AllLead c.push_all.new.self key.measurement ts c.in_ok-number.number) c.tags.ensures
-    (subst (λ (m : Text). AllLead c.push_all.new.self m (lent_pairs c.tags.result.now) c.in_ok-number.number) c.measurement.ensures c.in_ok-push_all.ensures.ok)) in
+    (subst (λ (m : Text). AllLead c.push_all.new.self m (borrowed_pairs c.tags.result.now) c.in_ok-number.number) c.measurement.ensures c.in_ok-push_all.ensures.ok)) in
     subst (λ (xs : List Series). IsSeriesTable xs c.push.new.self c.push_all.new.self) (sym (pushed g c)) (record {
       table = subst (IsTable hash_of_series (before ++ key ∷ [])) (sym hashed) (table_more hash_of_series before hashes key c.self.invariant.table absent);
       tagged = tagged_more before c.self.inside.tags c.push_all.new.self c.self.invariant.tagged c.in_ok-push_all.ensures.kept key lead;

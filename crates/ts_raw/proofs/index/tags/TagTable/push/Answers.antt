@@ -10,13 +10,13 @@ pushed g c = search rules
 
 moved : (g : Over) (c : goal.After-unwrap g) (q : ℕ) → head_of c.insert.new.self.entries q ≡ cond (nat_eq c.args.hash q) (Some (length c.self.inside.links.items)) (head_of c.self.inside.newest.entries q)
 moved g c q =
-    let place : c.in_ok-at.at ≡ length c.self.inside.links.items = search rules in
-    c.in_ok-older.ensures.updates.0 q ∙ ap (λ n. cond (nat_eq c.args.hash q) (Some n) (head_of c.self.inside.newest.entries q)) place
+    let index : c.in_ok-at.at ≡ length c.self.inside.links.items = search rules in
+    c.in_ok-older.ensures.updates.0 q ∙ ap (λ n. cond (nat_eq c.args.hash q) (Some n) (head_of c.self.inside.newest.entries q)) index
 
 older : (g : Over) (c : goal.After-unwrap g) → c.unwrap_or-older.result ≡ unwrap_or (head_of c.self.inside.newest.entries c.args.hash) (length c.self.inside.links.items)
 older g c =
-    let place : c.in_ok-at.at ≡ length c.self.inside.links.items = search rules in
-    c.unwrap_or-older.ensures ∙ ap (λ o. unwrap_or o c.in_ok-at.at) c.in_ok-older.ensures.old ∙ ap (unwrap_or (head_of c.self.inside.newest.entries c.args.hash)) place
+    let index : c.in_ok-at.at ≡ length c.self.inside.links.items = search rules in
+    c.unwrap_or-older.ensures ∙ ap (λ o. unwrap_or o c.in_ok-at.at) c.in_ok-older.ensures.old ∙ ap (unwrap_or (head_of c.self.inside.newest.entries c.args.hash)) index
 
 pub returns-clause-kept : goal.returns-clause-kept
 returns-clause-kept g c =

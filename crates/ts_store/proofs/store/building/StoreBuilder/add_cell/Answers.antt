@@ -2,7 +2,7 @@ use Rattle.std.proofs.Common.{◌≡◌, ◌<◌, ◌∙◌, length, map, None, 
 use Rattle.std.specs.FinMap as finmap
 use Rattle.ts_core.specs.store.Cells.{Cell}
 use Rattle.ts_core.specs.store.StoreStates.{column_of}
-use Rattle.ts_cells.specs.Grids.{cell_at, lane_named}
+use Rattle.ts_cells.specs.Grids.{cell_at, rollup_series_named}
 use Rattle.ts_store.specs.image.Building.{Built, cell_map_at, with_cell}
 use Rattle.ts_store.specs.rollup.Rollups.{cells_of}
 use Rattle.ts_store.proofs.image.BuildersKept.{order_cell-either, built_cell, built_same, with_one}
@@ -19,18 +19,18 @@ add_cell-requires-clause-rule g c =
 
 pub add_cell-requires-clause-absent : goal.add_cell-requires-clause-absent
 add_cell-requires-clause-absent g c =
-    subst (λ (b : Built). finmap.get (cell_map_at b.cells c.args.rule) (cell_at c.args.index.now (lane_named c.args.field.now c.args.group.now)) ≡ None) (sym c.self.view_is) c.requires.absent
+    subst (λ (b : Built). finmap.get (cell_map_at b.cells c.args.rule) (cell_at c.args.index.now (rollup_series_named c.args.field.now c.args.group.now)) ≡ None) (sym c.self.view_is) c.requires.absent
 
 pub invariant_of-self : goal.invariant_of-self
 invariant_of-self g c =
     let i = c.self.inside in
-    order_cell-either c.add_cell.result i.settings i.facts c.add_cell.new.self i.passed.items c.args.rule (cell_at c.args.index.now (lane_named c.args.field.now c.args.group.now)) c.args.frozen c.add_cell.ensures.columns c.add_cell.ensures.series c.add_cell.ensures.ok c.add_cell.ensures.err
+    order_cell-either c.add_cell.result i.settings i.facts c.add_cell.new.self i.passed.items c.args.rule (cell_at c.args.index.now (rollup_series_named c.args.field.now c.args.group.now)) c.args.frozen c.add_cell.ensures.columns c.add_cell.ensures.series c.add_cell.ensures.ok c.add_cell.ensures.err
     (c.add_cell.ensures.rollups i.settings.rules c.self.invariant.rollups) c.self.invariant
 
 pub returns-clause-ok : goal.returns-clause-ok
 returns-clause-ok g c =
     let i = c.self.inside in
-    let q : Cell = cell_at c.args.index.now (lane_named c.args.field.now c.args.group.now) in
+    let q : Cell = cell_at c.args.index.now (rollup_series_named c.args.field.now c.args.group.now) in
     ok_then c.add_cell.result c.add_cell.ensures.ok
     (λ (e : cells_of c.add_cell.new.self.rollups ≡ with_one (cells_of i.facts.rollups) c.args.rule q c.args.frozen).
     built_cell i.settings i.marks i.running i.accepted i.facts c.add_cell.new.self i.passed.items c.args.rule q c.args.frozen c.add_cell.ensures.columns c.add_cell.ensures.series e ∙ ap (with_cell c.args.rule q c.args.frozen) c.self.view_is)

@@ -4,7 +4,7 @@ use Rattle.ts_core.specs.aggregates.Aggregates.{empty_aggregate}
 use Rattle.ts_core.specs.store.Cells.{Cell}
 use Rattle.ts_core.specs.store.StoreStates.{CellParts, column_of}
 use Rattle.ts_core.specs.store.StoreData.{CellMap}
-use Rattle.ts_cells.specs.Grids.{cell_at, lane_named}
+use Rattle.ts_cells.specs.Grids.{cell_at, rollup_series_named}
 use Rattle.ts_store.specs.image.Building.{cell_map_at}
 use Rattle.ts_store.specs.store.ColumnStates.{StoreContent}
 use Rattle.ts_store.specs.rollup.Rollups.{RollupState, AreRollups, cells_of}
@@ -13,7 +13,7 @@ use Rattle.ts_store.proofs.store.column_facts.ColumnFacts.add_cell.Goals as goal
 
 pub add_cell-requires : goal.add_cell-requires
 add_cell-requires g c =
-    let q : Cell = cell_at c.args.index.now (lane_named c.args.field.now c.args.group.now) in
+    let q : Cell = cell_at c.args.index.now (rollup_series_named c.args.field.now c.args.group.now) in
     let us : List RollupState = c.self.inside.rollups.items in
     let shown : us ≡ c.args.self.now.rollups = ap (λ (h : StoreContent). h.rollups) c.self.view_is in
     let within : c.args.rule < length us = let e = ap (λ (xs : List RollupState). length xs) shown in omega (arith, e, c.requires.rule) in
@@ -23,12 +23,12 @@ pub returns-clause-rollups : goal.returns-clause-rollups
 returns-clause-rollups g c = λ rules h.
     let us : List RollupState = c.self.inside.rollups.items in
     let shown : us ≡ c.args.self.now.rollups = ap (λ (h : StoreContent). h.rollups) c.self.view_is in
-    rollups-set rules (map column_of c.args.self.now.columns) us c.args.rule c.index_mut.result.now c.add_cell.new.self c.index_mut.ensures.value c.add_cell.ensures.made c.add_cell.ensures.lanes
+    rollups-set rules (map column_of c.args.self.now.columns) us c.args.rule c.index_mut.result.now c.add_cell.new.self c.index_mut.ensures.value c.add_cell.ensures.made c.add_cell.ensures.series_list
     (subst (AreRollups rules (map column_of c.args.self.now.columns)) (sym shown) h)
 
 pub returns-clause-ok : goal.returns-clause-ok
 returns-clause-ok g c =
-    let q : Cell = cell_at c.args.index.now (lane_named c.args.field.now c.args.group.now) in
+    let q : Cell = cell_at c.args.index.now (rollup_series_named c.args.field.now c.args.group.now) in
     let x : CellParts = record { frozen = c.args.frozen; live = empty_aggregate } in
     let us : List RollupState = c.self.inside.rollups.items in
     let n = c.args.rule in

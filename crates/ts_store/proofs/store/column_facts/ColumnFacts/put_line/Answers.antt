@@ -7,7 +7,7 @@ use Rattle.ts_core.specs.settings.Settings.{Rule}
 use Rattle.ts_core.specs.facts.Times.{least_time}
 use Rattle.ts_core.specs.store.History.{MayBeTaken}
 use Rattle.ts_core.specs.store.StoreStates.{ColumnPoints, column_of, facts_of}
-use Rattle.ts_core.specs.moves.StoreMoves.{PutsFacts, HaveRoom}
+use Rattle.ts_core.specs.moves.StoreMoves.{PutsFacts, GainEmptyCells}
 use Rattle.ts_line.specs.Parts.{LinePart, Parts, series_of, fact_of, line_facts}
 use Rattle.ts_raw.specs.Columns.{ColumnState}
 use Rattle.ts_raw.specs.Indexed.{Indexed, IsSoundIndex}
@@ -15,22 +15,22 @@ use Rattle.ts_core.specs.lists.Numbered.{Gains}
 use Rattle.ts_core.proofs.lists.Results.{on_any_err}
 use Rattle.ts_store.specs.write.LinesInColumns.{GrowsForLine}
 use Rattle.ts_store.specs.write.Registered.{MayGain, MakesFirst, with_columns, new_columns}
-use Rattle.ts_store.specs.store.ColumnStates.{StoreContent, IsSoundContent, content_of, columns_in, with_points, point_maps, AreAside}
-use Rattle.ts_store.proofs.write.ColumnsAside.{ready_of, numbers_distinct, line_columns, all_committed-length, same_facts}
+use Rattle.ts_store.specs.store.ColumnStates.{StoreContent, IsSoundContent, content_of, columns_in, with_points, point_maps, AreStaged}
+use Rattle.ts_store.proofs.write.StagedColumns.{ready_of, numbers_distinct, line_columns, all_committed-length, same_facts}
 use Rattle.std.specs.List.{AllByRecursion}
 use Rattle.ts_core.specs.store.StoreData.{CellMap, AreLive}
 use Rattle.ts_store.specs.rollup.Rollups.{RollupState, AreRollups, cells_of}
 use Rattle.ts_store.specs.write.LivePuts.{AreOfFields}
 use Rattle.ts_store.specs.retain.RollupSteps.{with_frozen_all}
-use Rattle.ts_store.specs.write.Rooms.{roomed_under, AreRoomedInPart, KeepLanes}
+use Rattle.ts_store.specs.write.CellsCreated.{cells_created_under, AreCreatedInPart, KeepRollupSeries}
 use Rattle.ts_store.specs.write.LinesPut.{OfEachRule, GainsCells}
 use Rattle.ts_store.proofs.write.CellsMade.{gain_nothing, line_cells}
 use Rattle.ts_store.proofs.read.ColumnsReads.{facts-length}
-use Rattle.ts_store.proofs.write.PointsPut.{of_fields, aside_length, wide_of, live_same}
+use Rattle.ts_store.proofs.write.PointsPut.{of_fields, staged_length, wide_of, live_same}
 use Rattle.ts_store.proofs.retain.RollupMoves.{rollups_with}
 use Rattle.ts_store.proofs.rollup.RollupsGrow.{numbers_inside}
-use Rattle.ts_store.proofs.write.RoomLemmas.{rooms_same, rollups_stay, part_rooms}
-use Rattle.ts_store.proofs.write.RollupsPut.{rollups_held, aside_inside, line_rooms, line_gains, all_gained}
+use Rattle.ts_store.proofs.write.CellsCreatedLemmas.{rooms_same, rollups_stay, part_rooms}
+use Rattle.ts_store.proofs.write.RollupsPut.{rollups_held, staged_inside, line_rooms, line_gains, all_gained}
 use Rattle.ts_store.proofs.store.ColumnsLemmas.{known_of, names_held}
 use Rattle.ts_store.proofs.store.column_facts.ColumnFacts.put_line.Goals as goal
 
@@ -42,7 +42,7 @@ none_made columns facts = record { made = []; others = new_columns (map column_o
 still_held : (before after : Indexed) (states : List ColumnState) → IsSoundIndex after → after.columns ≡ before.columns → IsSoundContent before states → IsSoundContent after states
 still_held before after states sound same held = record { sound = sound; each = held.each ∙ sym (ap length same) }
 
--- its columns still have their lanes
+-- its columns still have their rollup series
 still_rollups : (rules : List Rule) (old : StoreContent) (before after : Indexed) (states : List ColumnState) (us : List RollupState) → content_of before states us ≡ old → after.columns ≡ before.columns → IsSoundContent before states
     → AreRollups rules (map column_of old.columns) old.rollups → AreRollups rules after.columns us
 still_rollups rules old before after states us was same held have =
@@ -52,16 +52,16 @@ still_rollups rules old before after states us was same held have =
 -- the state after the call ran out of memory
 grown : (rules : List Rule) (lows : List ℤ) (p : Parts) (key : Series) (old : StoreContent) (before between after : Indexed) (states states' : List ColumnState) (us us' us'' : List RollupState) → key ≡ series_of p → content_of before states us ≡ old
     → MayGain before.series between.series key → between.columns ≡ before.columns → after.series ≡ between.series → MakesFirst (columns_in between states) (columns_in after states') (line_facts p)
-    → IsSoundContent after states' → us'' ≡ us' → AreRollups rules after.columns us' → HaveRoom rules lows [] (cells_of us) (cells_of us')
+    → IsSoundContent after states' → us'' ≡ us' → AreRollups rules after.columns us' → GainEmptyCells rules lows [] (cells_of us) (cells_of us')
     → OfEachRule (GainsCells (line_facts p)) rules lows (cells_of us) (cells_of us') → (cells_of us' ≡ cells_of us) ⊎ AllByRecursion (MayBeTaken least_time) (line_facts p) → GrowsForLine rules lows old (content_of after states' us'') p
-grown rules lows p key old before between after states states' us us' us'' named was gains same series made held is rollups rooms cells taken =
+grown rules lows p key old before between after states states' us us' us'' named was gains same series made held is rollups has_cells cells taken =
     subst (λ (h : StoreContent). GrowsForLine rules lows h (content_of after states' us'') p) was
     (subst (λ (vs : List RollupState). GrowsForLine rules lows (content_of before states us) (content_of after states' vs) p) (sym is) (record {
       series = subst (λ (xs : List Series). MayGain before.series xs (series_of p)) (sym series) (subst (MayGain before.series between.series) named gains);
       columns = subst (λ (cs : List Column). MakesFirst (with_points cs (point_maps states)) (columns_in after states') (line_facts p)) same made;
       known = known_of after states' us' held;
       rollups = rollups_held rules after states' us' held.each rollups;
-      rooms = rooms;
+      has_cells = has_cells;
       cells = cells;
       taken = taken;
     }))
@@ -72,9 +72,9 @@ put_points-requires-clause-ready g c =
     let cs : List Column = c.prepare_line.new.index.columns in
     let ss : List ColumnState = c.prepare_line.new.columns.items in
     let ns : List ℕ = c.prepare_line.new.touched.items in
-    let aside = c.in_ok-prepare_line.ensures.line.aside in
-    let once : AllDistinct ns = numbers_distinct cs ss ns (line_facts p) aside (line_columns p p.fields (rw c.fields.ensures.value at c.fields.ensures.once)) in
-    rw c.as_slice-2.ensures.value (ready_of cs ss ns (line_facts p) c.prepare_line.ensures.line.held.each aside once)
+    let staged = c.in_ok-prepare_line.ensures.line.staged in
+    let once : AllDistinct ns = numbers_distinct cs ss ns (line_facts p) staged (line_columns p p.fields (rw c.fields.ensures.value at c.fields.ensures.once)) in
+    rw c.as_slice-2.ensures.value (ready_of cs ss ns (line_facts p) c.prepare_line.ensures.line.held.each staged once)
 
 pub put_points-requires-clause-fields : goal.put_points-requires-clause-fields
 put_points-requires-clause-fields g c =
@@ -82,7 +82,7 @@ put_points-requires-clause-fields g c =
     let cs : List Column = c.prepare_line.new.index.columns in
     let ss : List ColumnState = c.prepare_line.new.columns.items in
     let ns : List ℕ = c.prepare_line.new.touched.items in
-    ap length c.fields-2.ensures.value ∙ sym (length-map p.fields (fact_of p)) ∙ sym (aside_length cs ss ns (line_facts p) c.in_ok-prepare_line.ensures.line.aside) ∙ sym (ap length c.as_slice-2.ensures.value)
+    ap length c.fields-2.ensures.value ∙ sym (length-map p.fields (fact_of p)) ∙ sym (staged_length cs ss ns (line_facts p) c.in_ok-prepare_line.ensures.line.staged) ∙ sym (ap length c.as_slice-2.ensures.value)
 
 pub put_points-requires-clause-each : goal.put_points-requires-clause-each
 put_points-requires-clause-each g c =
@@ -91,10 +91,10 @@ put_points-requires-clause-each g c =
     let us : List RollupState = c.prepare_line.new.rollups in
     let long : length us ≡ c.self.inside.rollups.len = omega (arith, c.prepare_line.auto.rollups, ap length c.as_mut_slice.ensures.value, c.self.inside.rollups.ok.0) in
     let lent : c.as_mut_slice-2.result.now ≡ us = c.as_mut_slice-2.ensures.value ∙ with_items_is c.self.inside.rollups us long in
-    let still : length c.make_rooms.new.rollups ≡ c.self.inside.rollups.len = omega (arith, c.make_rooms.auto.rollups, ap length lent, long) in
-    let lent' : c.as_mut_slice-3.result.now ≡ c.make_rooms.new.rollups = c.as_mut_slice-3.ensures.value ∙ with_items_is (with_items c.self.inside.rollups us) c.make_rooms.new.rollups still in
-    let have : AreRollups c.args.rules.now cs c.make_rooms.new.rollups = rollups_stay c.args.rules.now cs us c.make_rooms.new.rollups c.prepare_line.ensures.rollups (subst (λ (xs : List RollupState). KeepLanes xs c.make_rooms.new.rollups) lent c.make_rooms.ensures.lanes) in
-    subst (AllByRecursion (λ (s : RollupState). length s.lanes ≡ length ss)) (sym lent') (wide_of c.args.rules.now cs (length ss) c.make_rooms.new.rollups have c.prepare_line.ensures.line.held.each)
+    let still : length c.create_cells.new.rollups ≡ c.self.inside.rollups.len = omega (arith, c.create_cells.auto.rollups, ap length lent, long) in
+    let lent' : c.as_mut_slice-3.result.now ≡ c.create_cells.new.rollups = c.as_mut_slice-3.ensures.value ∙ with_items_is (with_items c.self.inside.rollups us) c.create_cells.new.rollups still in
+    let have : AreRollups c.args.rules.now cs c.create_cells.new.rollups = rollups_stay c.args.rules.now cs us c.create_cells.new.rollups c.prepare_line.ensures.rollups (subst (λ (xs : List RollupState). KeepRollupSeries xs c.create_cells.new.rollups) lent c.create_cells.ensures.series_list) in
+    subst (AllByRecursion (λ (s : RollupState). length s.series_list ≡ length ss)) (sym lent') (wide_of c.args.rules.now cs (length ss) c.create_cells.new.rollups have c.prepare_line.ensures.line.held.each)
 
 pub put_points-requires-clause-few : goal.put_points-requires-clause-few
 put_points-requires-clause-few g c =
@@ -109,7 +109,7 @@ put_points-requires-clause-few g c =
     let same : facts_of (with_points cs (point_maps ss)) ≡ facts_of c.args.self.now.columns = ap facts_of made ∙ same_facts c.args.self.now.columns (new_columns (map column_of c.args.self.now.columns) (line_facts p)) in
     let count = facts-length cs ss c.prepare_line.ensures.line.held.each in
     let many = ap length same in
-    let wide = aside_length cs ss ns (line_facts p) c.in_ok-prepare_line.ensures.line.aside in
+    let wide = staged_length cs ss ns (line_facts p) c.in_ok-prepare_line.ensures.line.staged in
     let lent = ap length c.as_slice-2.ensures.value in
     let fit = c.requires.fit in
     omega (arith, count, many, wide, lent, fit)
@@ -131,33 +131,33 @@ returns-clause-ok g c =
     let old : List ColumnPoints = c.args.self.now.columns in
     let gains : Gains c.self.inside.index.series c.register.new.self.series (series_of p) = subst (λ (s : Series). Gains c.self.inside.index.series c.register.new.self.series s) c.requires.key c.in-Ok.ensures.registered.gains in
     let us : List RollupState = c.prepare_line.new.rollups in
-    let vs : List RollupState = c.make_rooms.new.rollups in
+    let vs : List RollupState = c.create_cells.new.rollups in
     let ws : List RollupState = c.put_points.new.rollups in
     let long : length us ≡ c.self.inside.rollups.len = omega (arith, c.prepare_line.auto.rollups, ap length c.as_mut_slice.ensures.value, c.self.inside.rollups.ok.0) in
     let lent : c.as_mut_slice-2.result.now ≡ us = c.as_mut_slice-2.ensures.value ∙ with_items_is c.self.inside.rollups us long in
-    let still : length vs ≡ c.self.inside.rollups.len = omega (arith, c.make_rooms.auto.rollups, ap length lent, long) in
+    let still : length vs ≡ c.self.inside.rollups.len = omega (arith, c.create_cells.auto.rollups, ap length lent, long) in
     let lent' : c.as_mut_slice-3.result.now ≡ vs = c.as_mut_slice-3.ensures.value ∙ with_items_is (with_items c.self.inside.rollups us) vs still in
     let yet : length ws ≡ c.self.inside.rollups.len = omega (arith, c.put_points.auto.rollups, ap length lent', still) in
     let written : (with_items (with_items (with_items c.self.inside.rollups us) vs) ws).items ≡ ws = with_items_is (with_items (with_items c.self.inside.rollups us) vs) ws yet in
-    let aside = c.in_ok-prepare_line.ensures.line.aside in
+    let staged = c.in_ok-prepare_line.ensures.line.staged in
     let before : columns_in c.register.new.self c.self.inside.columns.items ≡ old =
     ap (λ (xs : List Column). with_points xs (point_maps c.self.inside.columns.items)) c.register.ensures.columns ∙ ap (λ (h : StoreContent). h.columns) c.self.view_is in
     let made : with_points cs (point_maps ss) ≡ with_columns old (new_columns (map column_of old) (line_facts p)) =
     c.in_ok-prepare_line.ensures.line.all ∙ ap (λ (b : List ColumnPoints). with_columns b (new_columns (map column_of b) (line_facts p))) before in
-    let rooms : HaveRoom rs lows (line_facts p) (cells_of c.args.self.now.rollups) (cells_of vs) = line_rooms rs lows cs ss p c.time.result ns (cells_of c.args.self.now.rollups) us vs c.prepare_line.ensures.rollups aside c.time.ensures
+    let has_cells : GainEmptyCells rs lows (line_facts p) (cells_of c.args.self.now.rollups) (cells_of vs) = line_rooms rs lows cs ss p c.time.result ns (cells_of c.args.self.now.rollups) us vs c.prepare_line.ensures.rollups staged c.time.ensures
     (c.prepare_line.ensures.cells ∙ ap cells_of (c.as_mut_slice.ensures.value ∙ ap (λ (h : StoreContent). h.rollups) c.self.view_is))
-    (c.in_ok-make_rooms.ensures.ok ∙ (λ i. roomed_under rs lows c.time.result (c.as_slice.ensures.value i) (lent i))) in
-    let gains' : OfEachRule (GainsCells (line_facts p)) rs lows (cells_of c.args.self.now.rollups) (cells_of vs) = line_gains rs lows cs ss p c.time.result ns (cells_of c.args.self.now.rollups) us vs c.prepare_line.ensures.rollups aside c.time.ensures
+    (c.in_ok-create_cells.ensures.ok ∙ (λ i. cells_created_under rs lows c.time.result (c.as_slice.ensures.value i) (lent i))) in
+    let gains' : OfEachRule (GainsCells (line_facts p)) rs lows (cells_of c.args.self.now.rollups) (cells_of vs) = line_gains rs lows cs ss p c.time.result ns (cells_of c.args.self.now.rollups) us vs c.prepare_line.ensures.rollups staged c.time.ensures
     (c.prepare_line.ensures.cells ∙ ap cells_of (c.as_mut_slice.ensures.value ∙ ap (λ (h : StoreContent). h.rollups) c.self.view_is))
-    (all_gained rs lows c.time.result ns us vs (c.in_ok-make_rooms.ensures.ok ∙ (λ i. roomed_under rs lows c.time.result (c.as_slice.ensures.value i) (lent i)))) in
-    let have : AreRollups rs cs vs = rollups_stay rs cs us vs c.prepare_line.ensures.rollups (subst (λ (xs : List RollupState). KeepLanes xs vs) lent c.make_rooms.ensures.lanes) in
+    (all_gained rs lows c.time.result ns us vs (c.in_ok-create_cells.ensures.ok ∙ (λ i. cells_created_under rs lows c.time.result (c.as_slice.ensures.value i) (lent i)))) in
+    let have : AreRollups rs cs vs = rollups_stay rs cs us vs c.prepare_line.ensures.rollups (subst (λ (xs : List RollupState). KeepRollupSeries xs vs) lent c.create_cells.ensures.series_list) in
     let live : AreLive (with_points cs (point_maps ss)) rs (cells_of vs) =
-    live_same old (with_points cs (point_maps ss)) (sym (ap facts_of made ∙ same_facts old (new_columns (map column_of old) (line_facts p)))) rs (cells_of vs) (c.requires.live (line_facts p) (cells_of vs) rooms) in
+    live_same old (with_points cs (point_maps ss)) (sym (ap facts_of made ∙ same_facts old (new_columns (map column_of old) (line_facts p)))) rs (cells_of vs) (c.requires.live (line_facts p) (cells_of vs) has_cells) in
     let fields : AreOfFields c.time-2.result c.fields-2.result.now (line_facts p) = subst (λ (xs : List (LinePart × ℤ)). AreOfFields c.time-2.result xs (line_facts p)) (sym c.fields-2.ensures.value) (of_fields p c.time-2.result (sym c.time-2.ensures) p.fields) in
     let puts : PutsFacts rs (with_points cs (point_maps ss)) (cells_of c.as_mut_slice-3.result.now) (with_points cs (point_maps c.put_points.new.columns.items)) (cells_of ws) (line_facts p) =
     c.put_points.ensures.cells cs (line_facts p) fields c.prepare_line.ensures.line.held.each c.prepare_line.ensures.line.held.sound.columns_once (subst (AreRollups rs cs) (sym lent') have)
-    (subst (λ (ms : List ℕ). AreAside cs ss ms (line_facts p)) (sym c.as_slice-2.ensures.value) aside) (subst (λ (xs : List RollupState). AreLive (with_points cs (point_maps ss)) rs (cells_of xs)) (sym lent') live) in
-    let lanes : ws ≡ with_frozen_all (cells_of ws) vs = c.put_points.ensures.lanes ∙ ap (with_frozen_all (cells_of ws)) lent' in
+    (subst (λ (ms : List ℕ). AreStaged cs ss ms (line_facts p)) (sym c.as_slice-2.ensures.value) staged) (subst (λ (xs : List RollupState). AreLive (with_points cs (point_maps ss)) rs (cells_of xs)) (sym lent') live) in
+    let series_list : ws ≡ with_frozen_all (cells_of ws) vs = c.put_points.ensures.series_list ∙ ap (with_frozen_all (cells_of ws)) lent' in
     let each : length c.put_points.new.columns.items ≡ length cs = ap length c.put_points.ensures.columns ∙ all_committed-length ss c.as_slice-2.result.now ∙ c.prepare_line.ensures.line.held.each in
     let facts : PutsFacts rs (with_columns old (new_columns (map column_of old) (line_facts p))) (cells_of vs) (with_points cs (point_maps c.put_points.new.columns.items)) (cells_of (with_items (with_items (with_items c.self.inside.rollups us) vs) ws).items) (line_facts p) =
     subst (λ (xs : List RollupState). PutsFacts rs (with_columns old (new_columns (map column_of old) (line_facts p))) (cells_of vs) (with_points cs (point_maps c.put_points.new.columns.items)) (cells_of xs) (line_facts p)) (sym written)
@@ -166,28 +166,28 @@ returns-clause-ok g c =
     record {
       series = subst (λ (xs : List Series). Gains c.args.self.now.series xs (series_of p)) (sym c.prepare_line.ensures.line.series)
           (subst (λ (xs : List Series). Gains xs c.register.new.self.series (series_of p)) (ap (λ (h : StoreContent). h.series) c.self.view_is) gains);
-      roomy = cells_of vs;
+      cells_between = cells_of vs;
       facts = facts;
       taken = c.in_ok-prepare_line.ensures.line.taken;
       known = known_of c.prepare_line.new.index c.put_points.new.columns.items _ (record { sound = c.prepare_line.ensures.line.held.sound; each = each });
       rollups = subst (λ (xs : List RollupState). AreRollups rs (map column_of (columns_in c.prepare_line.new.index c.put_points.new.columns.items)) xs) (sym written)
-          (rollups_held rs c.prepare_line.new.index c.put_points.new.columns.items ws each (subst (AreRollups rs cs) (sym lanes) (rollups_with rs cs (cells_of ws) vs have)));
-      rooms = rooms;
+          (rollups_held rs c.prepare_line.new.index c.put_points.new.columns.items ws each (subst (AreRollups rs cs) (sym series_list) (rollups_with rs cs (cells_of ws) vs have)));
+      has_cells = has_cells;
       cells = line_cells rs lows (line_facts p) (with_columns old (new_columns (map column_of old) (line_facts p))) (columns_in c.prepare_line.new.index c.put_points.new.columns.items) (cells_of c.args.self.now.rollups) (cells_of vs)
-          _ gains' rooms facts;
+          _ gains' has_cells facts;
     }
 
-pub make_rooms-requires-clause-inside : goal.make_rooms-requires-clause-inside
-make_rooms-requires-clause-inside g c =
+pub create_cells-requires-clause-inside : goal.create_cells-requires-clause-inside
+create_cells-requires-clause-inside g c =
     let cs : List Column = c.prepare_line.new.index.columns in
     let ns : List ℕ = c.prepare_line.new.touched.items in
     let long : length c.prepare_line.new.rollups ≡ c.self.inside.rollups.len = omega (arith, c.prepare_line.auto.rollups, ap length c.as_mut_slice.ensures.value, c.self.inside.rollups.ok.0) in
     let written : (with_items c.self.inside.rollups c.prepare_line.new.rollups).items ≡ c.prepare_line.new.rollups = with_items_is c.self.inside.rollups c.prepare_line.new.rollups long in
     let lent : c.as_mut_slice-2.result.now ≡ c.prepare_line.new.rollups = c.as_mut_slice-2.ensures.value ∙ written in
     let inside = numbers_inside c.args.rules.now cs c.prepare_line.new.rollups ns c.prepare_line.ensures.rollups
-    (aside_inside cs c.prepare_line.new.columns.items ns (line_facts c.args.line.now) c.in_ok-prepare_line.ensures.line.aside) in
-    subst (λ (us : List RollupState). AllByRecursion (λ (s : RollupState). AllByRecursion (λ n. n < length s.lanes) c.as_slice.result.now) us) (sym lent)
-    (subst (λ (ks : List ℕ). AllByRecursion (λ (s : RollupState). AllByRecursion (λ n. n < length s.lanes) ks) c.prepare_line.new.rollups) (sym c.as_slice.ensures.value) inside)
+    (staged_inside cs c.prepare_line.new.columns.items ns (line_facts c.args.line.now) c.in_ok-prepare_line.ensures.line.staged) in
+    subst (λ (us : List RollupState). AllByRecursion (λ (s : RollupState). AllByRecursion (λ n. n < length s.series_list) c.as_slice.result.now) us) (sym lent)
+    (subst (λ (ks : List ℕ). AllByRecursion (λ (s : RollupState). AllByRecursion (λ n. n < length s.series_list) ks) c.prepare_line.new.rollups) (sym c.as_slice.ensures.value) inside)
 
 pub prepare_line-requires-clause-rollups : goal.prepare_line-requires-clause-rollups
 prepare_line-requires-clause-rollups g c =
@@ -228,26 +228,26 @@ returns-in_err-prepare_line-clause-err g c =
     (grown c.args.rules.now c.args.lows.now c.args.line.now c.args.key.now c.args.self.now c.self.inside.index c.register.new.self c.prepare_line.new.index c.self.inside.columns.items c.prepare_line.new.columns.items c.self.inside.rollups.items us
     (with_items c.self.inside.rollups us).items c.requires.key c.self.view_is (inr c.in-Ok.ensures.registered.gains) c.register.ensures.columns c.prepare_line.ensures.line.series c.prepare_line.ensures.line.made
     c.prepare_line.ensures.line.held (with_items_is c.self.inside.rollups us long) c.prepare_line.ensures.rollups
-    (subst (λ (ms : List CellMap). HaveRoom c.args.rules.now c.args.lows.now [] ms (cells_of us)) (c.prepare_line.ensures.cells ∙ ap cells_of c.as_mut_slice.ensures.value) (rooms_same c.args.rules.now c.args.lows.now (cells_of us)))
+    (subst (λ (ms : List CellMap). GainEmptyCells c.args.rules.now c.args.lows.now [] ms (cells_of us)) (c.prepare_line.ensures.cells ∙ ap cells_of c.as_mut_slice.ensures.value) (rooms_same c.args.rules.now c.args.lows.now (cells_of us)))
     (subst (λ (ms : List CellMap). OfEachRule (GainsCells (line_facts c.args.line.now)) c.args.rules.now c.args.lows.now ms (cells_of us)) (c.prepare_line.ensures.cells ∙ ap cells_of c.as_mut_slice.ensures.value)
     (gain_nothing (line_facts c.args.line.now) c.args.rules.now c.args.lows.now (cells_of us))) (inl (c.prepare_line.ensures.cells ∙ ap cells_of c.as_mut_slice.ensures.value)))
 
-pub returns-in_err-make_rooms-clause-err : goal.returns-in_err-make_rooms-clause-err
-returns-in_err-make_rooms-clause-err g c =
-    let us : List RollupState = c.make_rooms.new.rollups in
+pub returns-in_err-create_cells-clause-err : goal.returns-in_err-create_cells-clause-err
+returns-in_err-create_cells-clause-err g c =
+    let us : List RollupState = c.create_cells.new.rollups in
     let long : length c.prepare_line.new.rollups ≡ c.self.inside.rollups.len = omega (arith, c.prepare_line.auto.rollups, ap length c.as_mut_slice.ensures.value, c.self.inside.rollups.ok.0) in
     let lent : c.as_mut_slice-2.result.now ≡ c.prepare_line.new.rollups = c.as_mut_slice-2.ensures.value ∙ with_items_is c.self.inside.rollups c.prepare_line.new.rollups long in
-    let still : length us ≡ c.self.inside.rollups.len = omega (arith, c.make_rooms.auto.rollups, ap length lent, long) in
+    let still : length us ≡ c.self.inside.rollups.len = omega (arith, c.create_cells.auto.rollups, ap length lent, long) in
     let ns : List ℕ = c.prepare_line.new.touched.items in
-    let part : AreRoomedInPart c.args.rules.now c.args.lows.now c.time.result ns c.prepare_line.new.rollups us =
-    subst (λ (vs : List RollupState). AreRoomedInPart c.args.rules.now c.args.lows.now c.time.result ns vs us) lent
-    (subst (λ (ks : List ℕ). AreRoomedInPart c.args.rules.now c.args.lows.now c.time.result ks c.as_mut_slice-2.result.now us) c.as_slice.ensures.value c.in_err-make_rooms.ensures.err) in
+    let part : AreCreatedInPart c.args.rules.now c.args.lows.now c.time.result ns c.prepare_line.new.rollups us =
+    subst (λ (vs : List RollupState). AreCreatedInPart c.args.rules.now c.args.lows.now c.time.result ns vs us) lent
+    (subst (λ (ks : List ℕ). AreCreatedInPart c.args.rules.now c.args.lows.now c.time.result ks c.as_mut_slice-2.result.now us) c.as_slice.ensures.value c.in_err-create_cells.ensures.err) in
     let before : cells_of c.prepare_line.new.rollups ≡ cells_of c.self.inside.rollups.items = c.prepare_line.ensures.cells ∙ ap cells_of c.as_mut_slice.ensures.value in
-    on_any_err c.from_residual-in_err-make_rooms.result
+    on_any_err c.from_residual-in_err-create_cells.result
     (grown c.args.rules.now c.args.lows.now c.args.line.now c.args.key.now c.args.self.now c.self.inside.index c.register.new.self c.prepare_line.new.index c.self.inside.columns.items c.prepare_line.new.columns.items c.self.inside.rollups.items us
     (with_items (with_items c.self.inside.rollups c.prepare_line.new.rollups) us).items c.requires.key c.self.view_is (inr c.in-Ok.ensures.registered.gains) c.register.ensures.columns c.prepare_line.ensures.line.series c.prepare_line.ensures.line.made
     c.prepare_line.ensures.line.held (with_items_is (with_items c.self.inside.rollups c.prepare_line.new.rollups) us still)
-    (rollups_stay c.args.rules.now c.prepare_line.new.index.columns c.prepare_line.new.rollups us c.prepare_line.ensures.rollups (subst (λ (xs : List RollupState). KeepLanes xs us) lent c.make_rooms.ensures.lanes))
-    (subst (λ (ms : List CellMap). HaveRoom c.args.rules.now c.args.lows.now [] ms (cells_of us)) before (part_rooms c.args.rules.now c.args.lows.now c.time.result ns c.prepare_line.new.rollups us part))
+    (rollups_stay c.args.rules.now c.prepare_line.new.index.columns c.prepare_line.new.rollups us c.prepare_line.ensures.rollups (subst (λ (xs : List RollupState). KeepRollupSeries xs us) lent c.create_cells.ensures.series_list))
+    (subst (λ (ms : List CellMap). GainEmptyCells c.args.rules.now c.args.lows.now [] ms (cells_of us)) before (part_rooms c.args.rules.now c.args.lows.now c.time.result ns c.prepare_line.new.rollups us part))
     (line_gains c.args.rules.now c.args.lows.now c.prepare_line.new.index.columns c.prepare_line.new.columns.items c.args.line.now c.time.result ns (cells_of c.self.inside.rollups.items) c.prepare_line.new.rollups us c.prepare_line.ensures.rollups
-    c.in_ok-prepare_line.ensures.line.aside c.time.ensures before part) (inr c.in_ok-prepare_line.ensures.line.taken))
+    c.in_ok-prepare_line.ensures.line.staged c.time.ensures before part) (inr c.in_ok-prepare_line.ensures.line.taken))

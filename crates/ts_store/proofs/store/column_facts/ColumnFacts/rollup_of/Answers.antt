@@ -23,7 +23,7 @@ wide_rule r rs e w = subst (AllByRecursion (λ (q : Rule). pos 1 ≤ℤ q.interv
 
 pub make_all_cells-requires-clause-intervals : goal.make_all_cells-requires-clause-intervals
 make_all_cells-requires-clause-intervals g c =
-    let is : c.as_slice.result.now ≡ c.args.rule.now ∷ [] = c.as_slice.ensures.value ∙ c.in_ok-rules.ensures ∙ ap (λ (q : Rule). q ∷ []) c.in_ok-copied.ensures in
+    let is : c.as_slice.result.now ≡ c.args.rule.now ∷ [] = c.as_slice.ensures.value ∙ c.in_ok-rules.ensures ∙ ap (λ (q : Rule). q ∷ []) c.in_ok-try_clone.ensures in
     wide_rule c.args.rule.now c.as_slice.result.now is c.requires.interval
 
 pub make_all_cells-requires-clause-each : goal.make_all_cells-requires-clause-each
@@ -35,7 +35,7 @@ make_all_cells-requires-clause-each g c =
 
 pub add_all_points-requires-clause-intervals : goal.add_all_points-requires-clause-intervals
 add_all_points-requires-clause-intervals g c =
-    let is : c.as_slice-2.result.now ≡ c.args.rule.now ∷ [] = c.as_slice-2.ensures.value ∙ c.in_ok-rules.ensures ∙ ap (λ (q : Rule). q ∷ []) c.in_ok-copied.ensures in
+    let is : c.as_slice-2.result.now ≡ c.args.rule.now ∷ [] = c.as_slice-2.ensures.value ∙ c.in_ok-rules.ensures ∙ ap (λ (q : Rule). q ∷ []) c.in_ok-try_clone.ensures in
     wide_rule c.args.rule.now c.as_slice-2.result.now is c.requires.interval
 
 pub add_all_points-requires-clause-each : goal.add_all_points-requires-clause-each
@@ -47,9 +47,9 @@ add_all_points-requires-clause-each g c =
     let counted = c.in_ok-rollups.rollups.ok.0 in
     let long : length vs ≡ c.in_ok-rollups.rollups.len = cc (c.make_all_cells.auto.rollups, c.as_mut_slice.ensures.value, counted) in
     let lent : n ≡ length c.self.inside.columns.items = ap (λ (xs : List ColumnState). length xs) c.as_slice-columns.ensures.value in
-    let lanes : vs ≡ with_frozen_all (cells_of vs) us = subst (λ (xs : List RollupState). vs ≡ with_frozen_all (cells_of vs) xs) c.as_mut_slice.ensures.value c.make_all_cells.ensures.lanes in
-    subst (AllByRecursion (λ (u : RollupState). length u.lanes ≡ n)) (sym (c.as_mut_slice-2.ensures.value ∙ with_items_is c.in_ok-rollups.rollups vs long))
-    (wide_still n us vs lanes (alone_wide n s us c.in_ok-rollups.ensures (c.in_ok-rollup_over.ensures.many ∙ sym c.self.invariant.each ∙ sym lent)))
+    let series_list : vs ≡ with_frozen_all (cells_of vs) us = subst (λ (xs : List RollupState). vs ≡ with_frozen_all (cells_of vs) xs) c.as_mut_slice.ensures.value c.make_all_cells.ensures.series_list in
+    subst (AllByRecursion (λ (u : RollupState). length u.series_list ≡ n)) (sym (c.as_mut_slice-2.ensures.value ∙ with_items_is c.in_ok-rollups.rollups vs long))
+    (wide_still n us vs series_list (alone_wide n s us c.in_ok-rollups.ensures (c.in_ok-rollup_over.ensures.many ∙ sym c.self.invariant.each ∙ sym lent)))
 
 pub add_all_points-requires-clause-few : goal.add_all_points-requires-clause-few
 add_all_points-requires-clause-few g c =
@@ -77,8 +77,8 @@ returns g c =
     let t : RollupState = c.unwrap.result in
     let counted = c.in_ok-rollups.rollups.ok.0 in
     let single : us ≡ s ∷ [] = c.in_ok-rollups.ensures in
-    let one_rule : c.as_slice.result.now ≡ r ∷ [] = c.as_slice.ensures.value ∙ c.in_ok-rules.ensures ∙ ap (λ (q : Rule). q ∷ []) c.in_ok-copied.ensures in
-    let same_rule : c.as_slice-2.result.now ≡ r ∷ [] = c.as_slice-2.ensures.value ∙ c.in_ok-rules.ensures ∙ ap (λ (q : Rule). q ∷ []) c.in_ok-copied.ensures in
+    let one_rule : c.as_slice.result.now ≡ r ∷ [] = c.as_slice.ensures.value ∙ c.in_ok-rules.ensures ∙ ap (λ (q : Rule). q ∷ []) c.in_ok-try_clone.ensures in
+    let same_rule : c.as_slice-2.result.now ≡ r ∷ [] = c.as_slice-2.ensures.value ∙ c.in_ok-rules.ensures ∙ ap (λ (q : Rule). q ∷ []) c.in_ok-try_clone.ensures in
     let one_low : c.from_ref.result.now ≡ low ∷ [] = c.from_ref.ensures.value in
     let long : length vs ≡ c.in_ok-rollups.rollups.len = cc (c.make_all_cells.auto.rollups, c.as_mut_slice.ensures.value, counted) in
     let written : (with_items c.in_ok-rollups.rollups vs).items ≡ vs = with_items_is c.in_ok-rollups.rollups vs long in
@@ -86,8 +86,8 @@ returns g c =
     let longer : length ws ≡ c.in_ok-rollups.rollups.len = c.add_all_points.auto.rollups ∙ ap (λ (xs : List RollupState). length xs) between ∙ long in
     let begins : c.as_mut_slice.result.now ≡ s ∷ [] = c.as_mut_slice.ensures.value ∙ single in
     let lent : c.as_slice-columns.result.now ≡ ss = c.as_slice-columns.ensures.value in
-    let one : vs ≡ with_frozen_all (cells_of vs) (s ∷ []) = subst (λ (xs : List RollupState). vs ≡ with_frozen_all (cells_of vs) xs) begins c.make_all_cells.ensures.lanes in
-    let two : ws ≡ with_frozen_all (cells_of ws) vs = subst (λ (xs : List RollupState). ws ≡ with_frozen_all (cells_of ws) xs) between c.add_all_points.ensures.lanes in
+    let one : vs ≡ with_frozen_all (cells_of vs) (s ∷ []) = subst (λ (xs : List RollupState). vs ≡ with_frozen_all (cells_of vs) xs) begins c.make_all_cells.ensures.series_list in
+    let two : ws ≡ with_frozen_all (cells_of ws) vs = subst (λ (xs : List RollupState). ws ≡ with_frozen_all (cells_of ws) xs) between c.add_all_points.ensures.series_list in
     let make : Makes (r ∷ []) (low ∷ []) vs ss (s ∷ []) =
     subst (λ (qs : List Rule). Makes qs (low ∷ []) vs ss (s ∷ [])) one_rule
     (subst (λ (ls : List ℤ). Makes c.as_slice.result.now ls vs ss (s ∷ [])) one_low

@@ -1,0 +1,51 @@
+-- The rollup series of a rule, indexed in creation order, found by their hashes, and sorted by their texts. (Own
+-- rules.)
+use Rattle.std.specs.Prelude.{◌≡◌, ℕ, ◌<◌, T, List, [], ◌∷◌, map, length, get_or, Option, Some, None}
+use Rattle.std.specs.Hash.FoldHasher.{initial, write, finish}
+use Rattle.std.specs.declared.hash.FoldHasher.{FoldHasher}
+use Rattle.std.specs.declared.cmp.Ordering.{Ordering}
+use Rattle.std.specs.declared.cmp.Ordering.TheVariants.{Less}
+use Rattle.std.specs.Ordering.{ordering_then}
+use Rattle.std.specs.Cmp.Lexicographic.{slice_cmp}
+use Rattle.std.specs.List.{AllByRecursion}
+use Rattle.std.specs.FinMap.{is_sorted, find}
+use Rattle.ts_core.specs.facts.Facts.{Text, text_cmp}
+use Rattle.ts_core.specs.lists.Tables.{IsTable}
+use Rattle.ts_cells.specs.Grids.{RollupSeries, no_rollup_series}
+
+-- rollup series are ordered by field, then group
+abbrev pub rollup_series_cmp : RollupSeries → RollupSeries → Ordering
+rollup_series_cmp a b = ordering_then (text_cmp a.field b.field) (slice_cmp text_cmp a.group b.group)
+
+-- compares the result of a look-up with a rollup series; a missing rollup series comes first
+abbrev pub found_cmp : Option RollupSeries → RollupSeries → Ordering
+found_cmp None l = Less
+found_cmp (Some m) l = rollup_series_cmp m l
+
+-- the rollup series with these indices, each with its index
+abbrev pub series_numbered : List RollupSeries → List ℕ → List (RollupSeries × ℕ)
+series_numbered series_list order = map (λ (n : ℕ). (get_or series_list n no_rollup_series, n)) order
+
+-- the indices are in range
+abbrev pub AreInside : List RollupSeries → List ℕ → Type 0
+AreInside series_list order = AllByRecursion (λ (n : ℕ). n < length series_list) order
+
+-- the indices of all rollup series, in the order of the rollup series
+pub record IsOrdered (series_list : List RollupSeries) (order : List ℕ) : Type 0 where
+  pub rising : T (is_sorted rollup_series_cmp (series_numbered series_list order))
+  pub inside : AreInside series_list order
+  pub all : (j : ℕ) → j < length series_list → find rollup_series_cmp (get_or series_list j no_rollup_series) (series_numbered series_list order) ≡ Some j
+
+-- ---- hashes of rollup series; their values have no meaning
+
+abbrev pub hash_of_texts : FoldHasher → List Text → FoldHasher
+hash_of_texts h [] = h
+hash_of_texts h (t ∷ ts) = hash_of_texts (write h t) ts
+
+unfoldable pub hash_of_rollup_series : RollupSeries → ℕ
+hash_of_rollup_series l = finish (hash_of_texts (write initial l.field) l.group)
+
+-- rollup series with their hashes and their order
+pub record AreFound (series_list : List RollupSeries) (hashes order : List ℕ) : Type 0 where
+  pub table : IsTable hash_of_rollup_series series_list hashes
+  pub ordered : IsOrdered series_list order

@@ -1,0 +1,139 @@
+//! The rollup series of a rule, indexed in creation order: a hash table by field and group, with a sorted list.
+ghost use Rattle.std.specs.Prelude.{◌≡◌, ◌≤◌, [], length, IsOk, IfSome, IfNone, IfOk, OnOk, OnErr, slice_get};
+ghost use Rattle.std.specs.declared.cmp.Ordering.{Ordering};
+ghost use Rattle.std.specs.List.Sorted.{IsPartitionPoint};
+ghost use Rattle.ts_core.specs.lists.Members.{Among};
+ghost use Rattle.ts_core.specs.lists.Numbered.{IsAt, Gains};
+ghost use Rattle.ts_cells.specs.Grids.{rollup_series_named};
+ghost use Rattle.ts_cells.specs.RollupSeriesTable.{found_cmp, IsOrdered};
+
+use crate::rollup_series::{RollupSeries, hash_rollup_series};
+use std::alloc::{AllocError, Allocator};
+use std::cmp::Ordering;
+use std::marker::Model;
+use ts_core::{Chains, next_id, reserve_eighth};
+
+/// Hash table of rollup series, indexed in creation order.
+#[derive(Drop)]
+pub(crate) struct RollupSeriesTable<A: Allocator> {
+    series_list: Vec<RollupSeries<A>, A>,
+    /// Hash chains over the rollup series.
+    chains: Chains<A>,
+    /// Indices of all rollup series, sorted by field and group. Iterators follow it.
+    order: Vec<u32, A>,
+}
+
+impl<A: Allocator> Model for RollupSeriesTable<A> {
+    ghost use Rattle.std.specs.Prelude.{List};
+    ghost use Rattle.std.specs.Coded.{coded_list};
+    ghost use Rattle.ts_cells.specs.Grids.{RollupSeries as RollupSeriesValue, coded_rollup_series};
+    ghost use Rattle.ts_cells.specs.RollupSeriesTable.{AreFound};
+
+    ghost Value = { List RollupSeriesValue };
+
+    ghost coded = { coded_list coded_rollup_series };
+
+    ghost view = { λ s. s.series_list.items };
+
+    ghost invariant = { λ s. AreFound s.series_list.items s.chains s.order.items };
+}
+
+/// Compares the rollup series with this index with that of a field and a group. A missing rollup series comes first.
+fn compare_at<A: Allocator + Copy>(
+    series_list: &[RollupSeries<A>],
+    number: u32,
+    field: &str,
+    group: &[&str],
+) -> Ordering
+    ensures { result ≡ found_cmp (slice_get series_list.now number) (rollup_series_named field.now group.now) }
+{
+    match series_list.get(number as usize) {
+        Some(series) => series.compare(field, group),
+        None => Ordering::Less,
+    }
+}
+
+/// Finds the index in `order` at which to insert a new rollup series, by binary search.
+fn index_in_order<A: Allocator + Copy>(
+    series_list: &[RollupSeries<A>],
+    order: &[u32],
+    field: &str,
+    group: &[&str],
+) -> usize
+    requires ordered { IsOrdered series_list.now order.now }
+    requires absent { Among (rollup_series_named field.now group.now) series_list.now → ⊥ }
+    ensures bound { result ≤ length order.now }
+    ensures slot { IsPartitionPoint (λ n. found_cmp (slice_get series_list.now n) (rollup_series_named field.now group.now) ≡ Ordering.Less) (λ n. found_cmp (slice_get series_list.now n) (rollup_series_named field.now group.now) ≡ Ordering.Greater) order.now result }
+{
+    order.partition_point(|number| compare_at(series_list, *number, field, group).is_lt())
+}
+
+impl<A: Allocator + Copy> RollupSeriesTable<A> {
+    /// Creates an empty table. Does not allocate.
+    pub(crate) fn new(alloc: A) -> RollupSeriesTable<A>
+        ensures { result ≡ [] }
+    {
+        RollupSeriesTable {
+            series_list: Vec::new(alloc),
+            chains: Chains::new(alloc),
+            order: Vec::new(alloc),
+        }
+    }
+
+    /// Returns the rollup series in creation order.
+    pub(crate) fn as_slice(&self) -> &[RollupSeries<A>]
+        ensures { result.now ≡ self.now }
+    {
+        self.series_list.as_slice()
+    }
+
+    /// Returns the indices of all rollup series, sorted by field and group.
+    pub(crate) fn order(&self) -> &[u32]
+        ensures { IsOrdered self.now result.now }
+    {
+        self.order.as_slice()
+    }
+
+    /// Looks up the rollup series of a field and a group; returns its index.
+    fn lookup(&self, field: &str, group: &[&str]) -> Option<u32>
+        ensures found { IfSome result (λ n. IsAt self.now n (rollup_series_named field.now group.now)) }
+        ensures absent { IfNone result (Among (rollup_series_named field.now group.now) self.now → ⊥) }
+    {
+        let mut next = self.chains.newest(hash_rollup_series(field, group));
+        while let Some(at) = next {
+            let series = &self.series_list[at as usize];
+            if series.is(field, group) {
+                return Some(at);
+            }
+            next = self.chains.older(at);
+        }
+        None
+    }
+
+    /// Returns the index of the rollup series of a field and a group, creating the rollup series if needed. Doesn't
+    /// fail if it exists.
+    pub(crate) fn register(&mut self, field: &str, group: &[&str]) -> Result<u32, AllocError>
+        ensures number { IfOk result (λ n. IsAt self.new n (rollup_series_named field.now group.now)) }
+        ensures ok { OnOk result (Gains self.old self.new (rollup_series_named field.now group.now)) }
+        ensures err { OnErr result (self.new ≡ self.old) }
+        ensures known { Among (rollup_series_named field.now group.now) self.old → IsOk result }
+    {
+        if let Some(number) = self.lookup(field, group) {
+            return Ok(number);
+        }
+        let number = next_id(self.series_list.len())?;
+        let series = RollupSeries::new(*self.series_list.allocator(), field, group)?;
+        reserve_eighth(&mut self.series_list, 1)?;
+        reserve_eighth(&mut self.order, 1)?;
+        let at = index_in_order(
+            self.series_list.as_slice(),
+            self.order.as_slice(),
+            field,
+            group,
+        );
+        self.chains.push(hash_rollup_series(field, group))?;
+        self.series_list.push(series).unwrap();
+        self.order.insert(at, number).unwrap();
+        Ok(number)
+    }
+}

@@ -1,6 +1,0 @@
--- Values of borrowed texts. (Own rule.)
-use Rattle.std.specs.Prelude.{List, map}
-use Rattle.std.specs.Borrow.{Bor}
-
-abbrev pub lent : {X : Type 0} → List (Bor X) → List X
-lent {X} xs = map (λ (x : Bor X). x.now) xs
