@@ -3,6 +3,7 @@ use Rattle.std.proofs.Common.{◌≡◌, ℕ, zero, suc, ◌+◌, ◌-◌, ◌<�
 use Rattle.std.proofs.lemmas.List.{take-append-drop, length-take-le}
 use Rattle.std.proofs.Math.Seq.{drop-append_seam, take-length, take-append_seam}
 use Rattle.std.specs.List.{AllByRecursion}
+use Rattle.ts_core.specs.aggregates.Aggregates.{aggregate_of_points}
 use Rattle.ts_block.specs.Blocks.{times_of, ArePoints, IsBlockOf, last_of}
 use Rattle.ts_block.specs.Appending.{EndsInBlock, values_start, last_time}
 use Rattle.ts_block.proofs.DecodingLemmas.{values_inside}
@@ -110,17 +111,18 @@ text_size : (bytes : List ℕ) (m : BlockHandle) → m.start < m.end → m.end �
 text_size bytes m s h = length-take-le (m.end - m.start) (drop m.start bytes) (let e = length-drop m.start bytes in omega arith)
 
 -- the bytes of a block at the end of others
-pub mark_copied : (src old new : List ℕ) (m n : BlockHandle) → IsBlockHandle src m → new ≡ old ++ text_at src m → n.start ≡ length old → n.end ≡ length new → n.values ≡ m.values → n.count ≡ m.count → n.last ≡ m.last → IsBlockHandle new n × (points_at new n ≡ points_at src m)
-mark_copied src old new m n h is s e v k l =
+pub mark_copied : (src old new : List ℕ) (m n : BlockHandle) → IsBlockHandle src m → new ≡ old ++ text_at src m → n.start ≡ length old → n.end ≡ length new → n.values ≡ m.values → n.count ≡ m.count → n.last ≡ m.last → n.summary ≡ m.summary
+    → IsBlockHandle new n × (points_at new n ≡ points_at src m)
+mark_copied src old new m n h is s e v k l a =
     let size = text_size src m h.some h.within in
     let all = ap length is ∙ length-append old (text_at src m) in
     let some = h.some in
     let width : n.end - n.start ≡ length (text_at src m) = omega arith in
     let text : text_at new n ≡ text_at src m = (λ i. take (width i) (drop (s i) (is i))) ∙ ap (take (length (text_at src m))) (drop-append_seam old (text_at src m)) ∙ take-length (text_at src m) in
-    mark_moved src new m n h text (omega arith) (omega arith) v k l
+    mark_moved src new m n h text (omega arith) (omega arith) v k l a
 
 module _ (old new : List ℕ) (ms : List BlockHandle) (m n : BlockHandle) (h : AreBlockHandles old 0 (ms ++ m ∷ [])) (is : new ≡ old ++ text_at old m)
-    (s : n.start ≡ length old) (e : n.end ≡ length new) (v : n.values ≡ m.values) (k : n.count ≡ m.count) (b : n.before ≡ m.before) (l : n.last ≡ m.last) where
+    (s : n.start ≡ length old) (e : n.end ≡ length new) (v : n.values ≡ m.values) (k : n.count ≡ m.count) (b : n.before ≡ m.before) (l : n.last ≡ m.last) (a : n.summary ≡ m.summary) where
   front : take (length old) new ≡ old
   front = ap (take (length old)) is ∙ take-append_seam old (text_at old m)
 
@@ -131,7 +133,7 @@ module _ (old new : List ℕ) (ms : List BlockHandle) (m n : BlockHandle) (h : A
   stay = marks_stay old new ms front old_parts.0
 
   moved : IsBlockHandle new n × (points_at new n ≡ points_at old m)
-  moved = mark_copied old old new m n old_parts.1 is s e v k l
+  moved = mark_copied old old new m n old_parts.1 is s e v k l a
 
   pub moved_marked : AreBlockHandles new 0 (ms ++ n ∷ [])
   moved_marked = marks_push new n ms 0 stay.0 moved.0 (let a = old_parts.2 in let c = ap length (same_points old new ms ms stay.1) in omega arith)
@@ -163,13 +165,13 @@ take_next (x ∷ xs) (suc i) d l =
 
 -- one more block is copied
 pub copied_more : (src old new : List ℕ) (all ms : List BlockHandle) (i : ℕ) (n d : BlockHandle) → AreBlockHandles src 0 all → i < length all → AreBlockHandles old 0 ms → blocks_at old ms ≡ blocks_at src (take i all) → new ≡ old ++ text_at src (get_or all i d)
-    → n.start ≡ length old → n.end ≡ length new → n.values ≡ (get_or all i d).values → n.count ≡ (get_or all i d).count → n.before ≡ (get_or all i d).before → n.last ≡ (get_or all i d).last
+    → n.start ≡ length old → n.end ≡ length new → n.values ≡ (get_or all i d).values → n.count ≡ (get_or all i d).count → n.before ≡ (get_or all i d).before → n.last ≡ (get_or all i d).last → n.summary ≡ (get_or all i d).summary
     → AreBlockHandles new 0 (ms ++ n ∷ []) × (blocks_at new (ms ++ n ∷ []) ≡ blocks_at src (take (i + 1) all))
-copied_more src old new all ms i n d h l marked blocks is s e v k b last =
+copied_more src old new all ms i n d h l marked blocks is s e v k b last summary =
     let m : BlockHandle = get_or all i d in
     let front : take (length old) new ≡ old = ap (take (length old)) is ∙ take-append_seam old (text_at src m) in
     let stay = marks_stay old new ms front marked in
-    let here = mark_copied src old new m n (mark_at src all 0 i d h l) is s e v k last in
+    let here = mark_copied src old new m n (mark_at src all 0 i d h l) is s e v k last summary in
     let count = before_at src all 0 i d h l in
     let same = ap length (same_points src new (take i all) ms (stay.1 ∙ blocks)) in (
       marks_push new n ms 0 stay.0 here.0 (omega arith),
@@ -186,17 +188,18 @@ pub last_point : (ps : List (ℤ × ℤ)) (d : ℤ × ℤ) → ArePoints ps → 
 last_point [] d h = absurd h
 last_point (p ∷ ps) d h = ap (λ k. (get_or (p ∷ ps) k d).0) (let n : suc (length ps) - 1 ≡ length ps = omega arith in n) ∙ last_at p ps d
 
-pub block_at_end : (old block new : List ℕ) (ps : List (ℤ × ℤ)) (m : BlockHandle) → IsBlockOf block ps → new ≡ old ++ block → m.start ≡ length old → m.end ≡ length new → m.values ≡ values_start ps → m.count ≡ length ps → m.last ≡ last_time ps → IsEncoded new m ps
-block_at_end old block new ps m b is s e v k l =
+pub block_at_end : (old block new : List ℕ) (ps : List (ℤ × ℤ)) (m : BlockHandle) → IsBlockOf block ps → new ≡ old ++ block → m.start ≡ length old → m.end ≡ length new → m.values ≡ values_start ps → m.count ≡ length ps → m.last ≡ last_time ps → m.summary ≡ aggregate_of_points ps
+    → IsEncoded new m ps
+block_at_end old block new ps m b is s e v k l a =
     let rest : drop m.start new ≡ block = (λ i. drop (s i) (is i)) ∙ drop-append_seam old block in
     let some : 0 < length block = let w = values_inside block ps b (values_start ps) refl in let n = nine ps b.points_are in omega arith in
     let ends : EndsInBlock new m.start (m.start + m.values) m.last ps = record {
-      within = let a = ap length is ∙ length-append old block in omega arith;
+      within = let n = ap length is ∙ length-append old block in omega arith;
       block = subst (λ (x : List ℕ). IsBlockOf x ps) (sym rest) b;
       values_at = ap (λ n. m.start + n) v;
       last_is = l;
     } in
-    let both = new_mark new m ps ends e k in
+    let both = new_mark new m ps ends e k a in
     record { handle = both.0; points_are = both.1 }
   where
     nine : (ps : List (ℤ × ℤ)) → ArePoints ps → 0 < values_start ps

@@ -21,10 +21,12 @@ none_some x e h = true≢false (sym h ∙ ap is_some e)
 
 module _ (b u : ColumnState) (b_none : b.staged ≡ None) (u_none : u.staged ≡ None) where
   pub settled : IsRising (entries b.points ++ entries u.points) → (length (entries u.points) ≡ 0 → length (entries b.points) ≡ 0)
-      → length (entries b.points) + length (entries u.points) ≤ 18446744073709551615 → IsBufferedColumn b u
-  settled rising some few = record {
+      → length (entries u.points) ≤ 512 → length (entries b.points) + length (entries u.points) ≤ 18446744073709551615 → IsBufferedColumn b u
+  settled rising some fits few = record {
     rising = rising;
     some = some;
+    fits = fits;
+    spare = λ h. absurd (none_some u.staged u_none h);
     few = few;
     one_more = λ h. absurd (none_some (one_staged b.staged u.staged) (λ i. one_staged (b_none i) (u_none i)) h);
     late = subst (λ (x : Option (ℤ × ℤ)). IfSome x (λ p. IsLate p u)) (sym b_none) tt;
@@ -42,6 +44,7 @@ unstaged b u c v h e f c_none v_none =
     settled c v c_none v_none
     (subst IsRising (λ i. sym xs i ++ sym ys i) h.rising)
     (λ z. n ∙ h.some (sym m ∙ z))
+    (let fits = h.fits in omega arith)
     (omega arith)
 
 -- ---- the staged point is inserted
@@ -72,6 +75,7 @@ module _ (b u : ColumnState) (p : ℤ × ℤ) (h : IsBufferedColumn b u) where
         settled c u none late.alone
         (subst IsRising (sym there) (rising-put (xs ++ ys) h.rising p.0 p.1))
         (λ z. absurd (omega arith))
+        h.fits
         (let most = size.0 in omega arith)
 
     pub late_put : both_points c.points u.points ≡ map.insert (both_points b.points u.points) p.0 p.1
@@ -92,6 +96,7 @@ module _ (b u : ColumnState) (p : ℤ × ℤ) (h : IsBufferedColumn b u) where
         settled b v b_none none
         (subst IsRising (sym here) (rising-put (xs ++ ys) h.rising p.0 p.1))
         (λ z. absurd (let some = size.1 in omega arith))
+        (let spare = h.spare (ap is_some staged) in let most = size.0 in omega arith)
         (let most = size.0 in omega arith)
 
     pub latest_put : both_points b.points v.points ≡ map.insert (both_points b.points u.points) p.0 p.1
@@ -143,7 +148,7 @@ module _ (b u c v : ColumnState) (h : IsBufferedColumn b u) (k : ℕ) (more : k 
       let d = length-append (entries b.points) (entries u.points) in
       let l = ap length left ∙ length-drop k (entries u.points) in
       let few = h.few in
-      settled c v c_none v_none (subst IsRising (sym same) h.rising) (λ z. absurd (omega arith)) (omega arith)
+      settled c v c_none v_none (subst IsRising (sym same) h.rising) (λ z. absurd (omega arith)) (let fits = h.fits in omega arith) (omega arith)
 
 -- ---- the points from a mark on are kept
 
@@ -169,4 +174,5 @@ module _ (b u c v : ColumnState) (h : IsBufferedColumn b u) (handle : ℤ) (e : 
       settled c v c_none v_none
       (subst IsRising (sym parts) (is_sorted-where_key int_cmp (int_le handle) (entries b.points ++ entries u.points) h.rising))
       (λ z. n ∙ none_kept handle (entries b.points) (entries u.points) h.rising h.some (sym m ∙ z))
+      (let fits = h.fits in omega arith)
       (omega arith)

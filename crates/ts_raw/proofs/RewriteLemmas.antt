@@ -146,7 +146,7 @@ module _ (bytes : List ℕ) where
   pub numbered_marks : (before : ℕ) (ms : List BlockHandle) → AreBlocks bytes ms → AreBlockHandles bytes before (with_starts before ms)
   numbered_marks before [] h = tt
   numbered_marks before (m ∷ ms) h = (
-    record { some = h.0.some; within = h.0.within; block = h.0.block; values_at = h.0.values_at; count_is = h.0.count_is; last_is = h.0.last_is },
+    record { some = h.0.some; within = h.0.within; block = h.0.block; values_at = h.0.values_at; count_is = h.0.count_is; last_is = h.0.last_is; summary_is = h.0.summary_is },
     refl,
     subst (λ n. AreBlockHandles bytes (before + n) (with_starts (before + m.count) ms)) h.0.count_is (numbered_marks (before + m.count) ms h.1),
   )
@@ -156,7 +156,7 @@ module _ (bytes : List ℕ) where
   numbered_blocks before (m ∷ ms) = ap (λ (x : List (List (ℤ × ℤ))). points_at bytes m ∷ x) (numbered_blocks (before + m.count) ms)
 
 unfoldable pub with_before : ℕ → BlockHandle → BlockHandle
-with_before n m = record { start = m.start; values = m.values; end = m.end; count = m.count; before = n; last = m.last }
+with_before n m = record m { before = n }
 
 numbered_push : (before : ℕ) (ms : List BlockHandle) (m : BlockHandle) → with_starts before (ms ++ m ∷ []) ≡ with_starts before ms ++ with_before (before + count_in_blocks ms) m ∷ []
 unfolding with_before
@@ -302,7 +302,7 @@ pub marks_numbered : (bytes : List ℕ) (before : ℕ) (ms : List BlockHandle) �
 marks_numbered bytes before [] h = refl
 marks_numbered bytes before (m ∷ ms) h =
     let next : before + m.count ≡ before + length (points_at bytes m) = let a = h.0.count_is in omega arith in
-    (λ i. record { start = m.start; values = m.values; end = m.end; count = m.count; before = sym h.1 i; last = m.last } ∷ with_starts (next i) ms)
+    (λ i. record m { before = sym h.1 i } ∷ with_starts (next i) ms)
     ∙ ap (λ (x : List BlockHandle). m ∷ x) (marks_numbered bytes (before + length (points_at bytes m)) ms h.2)
 
 -- the count up to a numbered block, and its own

@@ -16,7 +16,7 @@ use Rattle.ts_raw.proofs.ColumnBlocks.{rising_rest, ordered_from}
 
 -- the mark of an encoded block, with the number of points before it
 abbrev pub counted_mark : BlockHandle → ℕ → BlockHandle
-counted_mark m before = record { start = m.start; values = m.values; end = m.end; count = m.count; before = before; last = m.last }
+counted_mark m before = record m { before = before }
 
 pub timed_join : (ps qs : List (ℤ × ℤ)) → AreTimed ps → AreTimed qs → AreTimed (ps ++ qs)
 timed_join [] qs h k = k
@@ -27,7 +27,7 @@ pub sealed : (old new : List ℕ) (ms : List BlockHandle) (m : BlockHandle) (tot
 sealed old new ms m total ps c front e are rising =
     let n : BlockHandle = counted_mark m total in
     let stay = marks_stay old new ms front c.coded.marked in
-    let here : IsBlockHandle new n × (points_at new n ≡ points_at new m) = mark_moved new new m n e.handle refl e.handle.some e.handle.within refl refl refl in
+    let here : IsBlockHandle new n × (points_at new n ≡ points_at new m) = mark_moved new new m n e.handle refl e.handle.some e.handle.within refl refl refl refl in
     let same : coded_points new ms ≡ coded_points old ms = same_points old new ms ms stay.1 in
     let before : total ≡ 0 + length (coded_points new ms) = let a = c.total_is in let b = ap length same in omega arith in
     let marked = marks_push new n ms 0 stay.0 here.0 before in

@@ -28,10 +28,12 @@ pub record IsLate (p : ℤ × ℤ) (buffer : ColumnState) : Type 0 where
   pub some : 0 < length (map.entries buffer.points)
   pub after : AreAfter p.0 (map.entries buffer.points)
 
--- the buffer's points are after those of the blocks, and it has some if the blocks have
+-- the buffer's points are after those of the blocks. It has at most 512, and some if the blocks have
 pub record IsBufferedColumn (blocks buffer : ColumnState) : Type 0 where
   pub rising : IsRising (map.entries blocks.points ++ map.entries buffer.points)
   pub some : length (map.entries buffer.points) ≡ 0 → length (map.entries blocks.points) ≡ 0
+  pub fits : length (map.entries buffer.points) ≤ 512
+  pub spare : IsSome buffer.staged → length (map.entries buffer.points) < 512
   pub few : length (map.entries blocks.points) + length (map.entries buffer.points) ≤ 18446744073709551615
   pub one_more : IsSome (one_staged blocks.staged buffer.staged) → length (map.entries blocks.points) + length (map.entries buffer.points) < 18446744073709551615
   pub late : IfSome blocks.staged (λ p. IsLate p buffer)

@@ -9,7 +9,7 @@ use Rattle.ts_raw.specs.Columns.{AreTimed}
 use Rattle.ts_raw.specs.PlainColumns.{IsRising}
 use Rattle.ts_raw.specs.CodedPoints.{IsBlockHandle, AreBlocks, points_at, coded_points, AllEndBefore}
 
--- the mark is that of the block of these points
+-- the handle is that of the block of these points
 pub record IsEncoded (bytes : List ℕ) (m : BlockHandle) (points : List (ℤ × ℤ)) : Type 0 where
   pub handle : IsBlockHandle bytes m
   pub points_are : points_at bytes m ≡ points
@@ -25,7 +25,7 @@ pub record AreEncodable (points : List (ℤ × ℤ)) : Type 0 where
 abbrev pub blocks_of : Rewritten → List BlockHandle
 blocks_of r = r.first ∷ option_to_list r.second
 
--- the marks with the old one replaced by the new ones
+-- the handles with the old one replaced by the new ones
 abbrev pub handles_replaced : Rewritten → List BlockHandle → List BlockHandle
 handles_replaced r handles = take r.at handles ++ (blocks_of r ++ drop (r.at + 1) handles)
 

@@ -5,7 +5,7 @@ ghost use Rattle.ts_raw.specs.CodedPoints.{AreCountedBlocks, AreOrdered, AllEndB
 use crate::block_handle::BlockHandle;
 use std::alloc::Allocator;
 use ts_block::{append, begin};
-use ts_core::Time;
+use ts_core::{Agg, Partial, Time};
 
 /// Number of points that a block holds at most.
 pub(crate) const BLOCK_POINTS: usize = 256;
@@ -65,11 +65,12 @@ fn push_block<A: Allocator>(
         count: 1,
         before: total,
         last: point.0,
+        summary: Agg::single(point.0, point.1),
     };
     handles.push(handle).unwrap();
 }
 
-/// Appends a point to the last block in place. Its mark was removed from `handles`. There must be capacity.
+/// Appends a point to the last block in place. Its handle was removed from `handles`. There must be capacity.
 fn push_last<A: Allocator>(
     bytes: &mut Vec<u8, A>,
     handles: &mut Vec<BlockHandle, A>,
@@ -98,12 +99,12 @@ fn push_last<A: Allocator>(
         point,
     );
     let handle = BlockHandle {
-        start: handle.start,
         values: values - handle.start,
         end: bytes.len(),
         count: handle.count + 1,
-        before: handle.before,
         last: point.0,
+        summary: handle.summary.merge(Agg::single(point.0, point.1)),
+        ..*handle
     };
     handles.push(handle).unwrap();
 }

@@ -27,7 +27,7 @@ impl<'a> Model for Blocks<'a> {
 }
 
 impl<'a> Blocks<'a> {
-    /// Returns the blocks that the marks name.
+    /// Returns the blocks of the handles.
     pub(crate) fn new(bytes: &'a [u8], handles: &'a [BlockHandle]) -> Blocks<'a>
         requires { AreBlockHandles bytes.now 0 handles.now }
         ensures { result ≡ texts_at bytes.now handles.now }

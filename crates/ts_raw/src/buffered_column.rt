@@ -1,12 +1,14 @@
 //! A column whose latest points are plain, and whose older ones are coded blocks.
 ghost use Rattle.std.specs.Prelude.{◌≡◌, ◌+◌, ◌*◌, ◌<◌, ◌≤◌, length, take, drop, Some, None, true, false, is_ok, IfOk, OnOk, OnErr, if◌then◌else◌};
 ghost use Rattle.std.specs.FinMap as map;
+ghost use Rattle.ts_raw.specs.BlockColumns.{HoldOlder};
 ghost use Rattle.ts_raw.specs.BufferedColumns.{both_points, one_staged, AreAfter, AreBefore, IsBufferedColumn};
 ghost use Rattle.ts_raw.specs.Columns.{AreTimed, points_within};
 ghost use Rattle.ts_raw.specs.PlainColumns.{IsRising};
 
 use crate::appending::BLOCK_POINTS;
 use crate::block_column::BlockColumn;
+use crate::blocks::Blocks;
 use crate::column::Column;
 use crate::plain_column::PlainColumn;
 use crate::points::Points;
@@ -67,6 +69,7 @@ fn move_block<A: Allocator + Copy>(
     requires none_staged { buffer.old.staged ≡ None }
     ensures buffered { IsBufferedColumn blocks.new buffer.new }
     ensures points { both_points blocks.new.points buffer.new.points ≡ both_points blocks.old.points buffer.old.points }
+    ensures spare { OnOk result (length (map.entries buffer.new.points) < 512) }
     ensures moved { OnOk result (512 ≤ length (map.entries buffer.old.points) → length (map.entries buffer.new.points) + 256 ≡ length (map.entries buffer.old.points)) }
     ensures no_late { blocks.new.staged ≡ None }
     ensures none_staged { buffer.new.staged ≡ None }
@@ -89,6 +92,7 @@ fn stage<A: Allocator + Copy>(
     requires buffered { IsBufferedColumn blocks.old buffer.old }
     requires no_late { blocks.old.staged ≡ None }
     requires none_staged { buffer.old.staged ≡ None }
+    requires spare { length (map.entries buffer.old.points) < 512 }
     requires one_more { length (map.entries blocks.old.points) + length (map.entries buffer.old.points) < 18446744073709551615 }
     ensures buffered { IsBufferedColumn blocks.new buffer.new }
     ensures points { both_points blocks.new.points buffer.new.points ≡ both_points blocks.old.points buffer.old.points }
@@ -181,6 +185,14 @@ impl<A: Allocator> BufferedColumn<A> {
         ensures all_timed { AreTimed (map.entries self.now.points) }
     {
         Points::both(self.blocks.window(from, to), self.buffer.window(from, to))
+    }
+
+    /// Returns the coded blocks, in the order of time. They have all points but at most 512 of the latest, which are in
+    /// the buffer; the first one may begin with removed points.
+    pub fn blocks(&self) -> Blocks<'_>
+        ensures { HoldOlder self.now.points result }
+    {
+        self.blocks.blocks()
     }
 
     /// Returns the value at a time, if there is a point. Doesn't search if the time is after all others.

@@ -29,11 +29,8 @@ pub(crate) fn move_last<A: Allocator>(
     bytes.extend_from_within(handle.start..handle.end).unwrap();
     let moved = BlockHandle {
         start,
-        values: handle.values,
         end: bytes.len(),
-        count: handle.count,
-        before: handle.before,
-        last: handle.last,
+        ..handle
     };
     handles.push(moved).unwrap();
     Ok(start)
@@ -50,21 +47,18 @@ fn copy_blocks<A: Allocator + Copy>(
     ensures { IfOk result (λ new. AreBlockHandles new.0.items 0 new.1.items × (blocks_at new.0.items new.1.items ≡ blocks_at bytes.now handles.now)) }
 {
     let mut new_bytes = Vec::with_capacity(alloc, size)?;
-    let mut new_marks = Vec::with_capacity(alloc, handles.len())?;
+    let mut new_handles = Vec::with_capacity(alloc, handles.len())?;
     for handle in handles {
         let start = new_bytes.len();
         new_bytes.extend_from_slice(text_of(bytes, handle))?;
         let copy = BlockHandle {
             start,
-            values: handle.values,
             end: new_bytes.len(),
-            count: handle.count,
-            before: handle.before,
-            last: handle.last,
+            ..*handle
         };
-        new_marks.push(copy)?;
+        new_handles.push(copy)?;
     }
-    Ok((new_bytes, new_marks))
+    Ok((new_bytes, new_handles))
 }
 
 /// Returns the number of bytes of all blocks.
@@ -90,9 +84,9 @@ fn compact<A: Allocator + Copy>(
     ensures kept { OnErr result (handles.new.items ≡ handles.old.items) }
 {
     let alloc = *bytes.allocator();
-    let (new_bytes, new_marks) = copy_blocks(alloc, bytes.as_slice(), handles.as_slice(), size)?;
+    let (new_bytes, new_handles) = copy_blocks(alloc, bytes.as_slice(), handles.as_slice(), size)?;
     *bytes = new_bytes;
-    *handles = new_marks;
+    *handles = new_handles;
     Ok(bytes.len())
 }
 

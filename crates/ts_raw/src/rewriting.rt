@@ -13,7 +13,7 @@ use crate::plain_column::insert_point;
 use crate::walk::decoder_of;
 use std::alloc::{AllocError, Allocator};
 use ts_block::encode_with_offset;
-use ts_core::{Time, reserve_eighth};
+use ts_core::{Time, aggregate_points, reserve_eighth};
 
 /// Number of points above which a block is halved when a point is inserted or replaced. Late points mostly come near
 /// one another, and a smaller block is encoded anew sooner.
@@ -61,7 +61,7 @@ fn decoded<A: Allocator>(
     Ok(points)
 }
 
-/// Encodes points as a block at the end of the bytes. Returns its mark; the number of points before it is 0.
+/// Encodes points as a block at the end of the bytes. Returns its handle; the number of points before it is 0.
 pub(crate) fn push_points<A: Allocator + Copy>(
     bytes: &mut Vec<u8, A>,
     points: &[(Time, i64)],
@@ -74,6 +74,7 @@ pub(crate) fn push_points<A: Allocator + Copy>(
     reserve_eighth(bytes, block.len())?;
     let start = bytes.len();
     bytes.extend_from_slice(block.as_slice()).unwrap();
+    let summary = aggregate_points(points);
     Ok(BlockHandle {
         start,
         values,
@@ -81,6 +82,7 @@ pub(crate) fn push_points<A: Allocator + Copy>(
         count: points.len(),
         before: 0,
         last: points[points.len() - 1].0,
+        summary,
     })
 }
 
@@ -174,7 +176,7 @@ fn renumber(handles: &mut [BlockHandle], from: usize) -> usize
     total
 }
 
-/// Replaces the block at an index with new blocks. There must be capacity for a mark.
+/// Replaces the block at an index with new blocks. There must be capacity for a handle.
 fn put_blocks<A: Allocator>(handles: &mut Vec<BlockHandle, A>, new: &Rewritten)
     requires within { new.now.at < length handles.old.items }
     requires spare { vec_len handles.old < vec_capacity handles.old }
@@ -187,7 +189,7 @@ fn put_blocks<A: Allocator>(handles: &mut Vec<BlockHandle, A>, new: &Rewritten)
     }
 }
 
-/// Replaces a block with new ones. There must be capacity for a mark. Returns the number of all points.
+/// Replaces a block with new ones. There must be capacity for a handle. Returns the number of all points.
 pub(crate) fn replace<A: Allocator>(handles: &mut Vec<BlockHandle, A>, new: &Rewritten) -> usize
     requires within { new.now.at < length handles.old.items }
     requires spare { vec_len handles.old < vec_capacity handles.old }

@@ -53,12 +53,8 @@ pub(crate) fn push_points_later<A: Allocator + Copy>(
     let start = bytes.len();
     let block = push_points(bytes, points)?;
     let handle = BlockHandle {
-        start: block.start,
-        values: block.values,
-        end: block.end,
-        count: block.count,
         before: *total,
-        last: block.last,
+        ..block
     };
     handles.push(handle).unwrap();
     *tail = start;

@@ -1,15 +1,24 @@
-use Rattle.std.proofs.Common.{◌≡◌, ℕ, List, [], ◌∷◌, ◌++◌, ◌+◌, length, vec_len, take, ◌∙◌, ap, sym, subst, refl, arith, is_ok, if◌then◌else◌}
+use Rattle.std.proofs.Common.{◌≡◌, ℕ, List, [], ◌∷◌, ◌++◌, ◌+◌, length, vec_len, take, ◌∙◌, ap, sym, subst, refl, arith, is_ok, if◌then◌else◌, rules, SFits, w64, to_z-of_z}
+use Rattle.ts_core.specs.aggregates.Aggregates.{aggregate_of_one}
 use Rattle.ts_block.specs.Appending.{EndsInBlock}
 use Rattle.ts_raw.specs.declared.block_handle.BlockHandle.{BlockHandle}
 use Rattle.ts_raw.specs.CodedPoints.{coded_points, blocks_at, AreCountedBlocks, OthersEndBy}
-use Rattle.ts_raw.proofs.PushLemmas.{all_within, others_from, new_mark, rising_push, coded_less}
+use Rattle.ts_raw.proofs.PushLemmas.{all_within, others_from, new_mark, summary_of_one, rising_push, coded_less}
 use Rattle.ts_raw.proofs.SealingLemmas.{sealed, joined_push}
 use Rattle.ts_raw.proofs.appending.push_block.Given.{Over}
 use Rattle.ts_raw.proofs.appending.push_block.Goals.{After-unwrap}
 use Rattle.ts_raw.proofs.appending.push_block.Goals as goal
 
 handle : (g : Over) (c : After-unwrap g) → BlockHandle
-handle g c = record { start = c.len-start.result; values = 9; end = c.len.result; count = 1; before = c.args.total; last = c.args.point.now.0 }
+handle g c = record {
+  start = c.len-start.result;
+  values = 9;
+  end = c.len.result;
+  count = 1;
+  before = c.args.total;
+  last = c.args.point.now.0;
+  summary = c.single.result;
+}
 
 both : (g : Over) (c : After-unwrap g) → AreCountedBlocks c.begin.new.bytes.items (c.args.handles.now.items ++ handle g c ∷ []) (c.args.total + 1)
     × (coded_points c.begin.new.bytes.items (c.args.handles.now.items ++ handle g c ∷ []) ≡ coded_points c.args.bytes.now.items c.args.handles.now.items ++ c.args.point.now ∷ [])
@@ -24,7 +33,9 @@ both g c =
     let same : take (length bytes) new ≡ bytes = ap (λ n. take n new) (let n : length bytes ≡ vec_len c.args.bytes.now = omega (arith, c.args.bytes.now.ok.0) in n) ∙ c.begin.ensures.before in
     let block : EndsInBlock new c.len-start.result (c.len-start.result + 9) c.args.point.now.0 (c.args.point.now ∷ []) =
     subst (λ n. EndsInBlock new n (n + 9) c.args.point.now.0 (c.args.point.now ∷ [])) (let n : vec_len c.args.bytes.now ≡ c.len-start.result = omega (arith, c.len-start.ensures) in n) c.begin.ensures.ends in
-    let encoded = new_mark new (handle g c) (c.args.point.now ∷ []) block end refl in
+    let fits : SFits w64 c.args.point.now.1 = search rules in
+    let one = c.single.ensures ∙ ap (aggregate_of_one c.args.point.now.0) (to_z-of_z fits) in
+    let encoded = new_mark new (handle g c) (c.args.point.now ∷ []) block end refl (one ∙ summary_of_one c.args.point.now) in
     let rising = rising_push (coded_points bytes ms) c.args.point.now c.requires.counted.coded.rising (coded_less bytes c.args.point.now.0 ms 0 c.requires.counted.coded.marked c.requires.later) in
     let s = sealed bytes new ms (handle g c) c.args.total (c.args.point.now ∷ []) c.requires.counted same (record { handle = encoded.0; points_are = encoded.1 }) block.block.points_are rising in
     (s.0, joined_push bytes new ms (ms ++ handle g c ∷ []) (c.args.point.now ∷ []) s.1, s.1)

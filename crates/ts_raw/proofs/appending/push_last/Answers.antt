@@ -1,6 +1,8 @@
-use Rattle.std.proofs.Common.{rules, Fits, w64, ◌≡◌, ℕ, List, [], ◌∷◌, ◌++◌, ◌+◌, ◌-◌, ◌≤◌, length, ◌∙◌, ap, sym, subst, refl, arith, is_ok, if◌then◌else◌}
+use Rattle.std.proofs.Common.{rules, Fits, SFits, w64, to_z-of_z, ◌≡◌, ℕ, List, [], ◌∷◌, ◌++◌, ◌+◌, ◌-◌, ◌≤◌, length, ◌∙◌, ap, sym, subst, refl, arith, is_ok, if◌then◌else◌}
 use Rattle.std.proofs.Math.Facts.{Fits-le}
 use Rattle.ts_core.specs.facts.Times.{IsTime}
+use Rattle.ts_core.specs.aggregates.Aggregates.{Aggregate, aggregate_of_one, merged}
+use Rattle.ts_core.proofs.aggregates.AggregatesLemmas.{count_of_fold}
 use Rattle.ts_block.specs.Appending.{EndsInBlock}
 use Rattle.ts_raw.specs.declared.block_handle.BlockHandle.{BlockHandle}
 use Rattle.ts_raw.specs.CodedPoints.{points_at, coded_points, blocks_at, AreCountedBlocks, OthersEndBy}
@@ -36,7 +38,13 @@ overflow_add-handle g c =
     Fits-le (let n : m.start + m.values ≤ m.end = omega arith in n) size
 
 handle : (g : Over) (c : After-unwrap g) → BlockHandle
-handle g c = record { start = c.args.handle.now.start; values = c.append-values.result - c.args.handle.now.start; end = c.len.result; count = c.args.handle.now.count + 1; before = c.args.handle.now.before; last = c.args.point.now.0 }
+handle g c = record c.args.handle.now {
+  values = c.append-values.result - c.args.handle.now.start;
+  end = c.len.result;
+  count = c.args.handle.now.count + 1;
+  last = c.args.point.now.0;
+  summary = c.merge.result;
+}
 
 both : (g : Over) (c : After-unwrap g) → AreCountedBlocks c.append-values.new.bytes.items (c.args.handles.now.items ++ handle g c ∷ []) (c.args.total + 1)
     × (coded_points c.append-values.new.bytes.items (c.args.handles.now.items ++ handle g c ∷ []) ≡ coded_points c.args.bytes.now.items (c.args.handles.now.items ++ c.args.handle.now ∷ []) ++ c.args.point.now ∷ [])
@@ -51,7 +59,9 @@ both g c =
     let valid : IsTime c.args.point.now.0 = subst IsTime c.nanos-valid.ensures.value c.nanos-valid.ensures.valid in
     let block = c.append-values.ensures.ends (points_at bytes m) (last_block bytes new c.args.handles.now.items m (handle g c) c.args.total c.args.point.now c.requires.counted c.requires.later here c.requires.apart) in
     let index : c.append-values.result ≡ m.start + (c.append-values.result - m.start) = let v = block.values_at in omega arith in
-    extended bytes new c.args.handles.now.items m (handle g c) c.args.total c.args.point.now c.requires.counted c.requires.later here c.requires.apart valid refl refl refl refl end c.append-values.ensures.before
+    let fits : SFits w64 c.args.point.now.1 = search rules in
+    let one = c.single.ensures ∙ ap (aggregate_of_one c.args.point.now.0) (to_z-of_z fits) in
+    extended bytes new c.args.handles.now.items m (handle g c) c.args.total c.args.point.now c.requires.counted c.requires.later here c.requires.apart valid refl refl refl refl end (c.merge.ensures ∙ ap (merged m.summary) one) c.append-values.ensures.before
     (subst (λ n. EndsInBlock new m.start n c.args.point.now.0 (points_at bytes m ++ c.args.point.now ∷ [])) index block)
 
 items : (g : Over) (c : After-unwrap g) → c.push.new.self.items ≡ c.args.handles.now.items ++ handle g c ∷ []
@@ -86,3 +96,12 @@ pub returns-clause-blocks : goal.returns-clause-blocks
 returns-clause-blocks g c =
     let at = (goal.at.returns-clause-blocks g c).After-unwrap in
     ap (blocks_at c.append-values.new.bytes.items) (items g at) ∙ (both g at).2
+
+pub merge-requires : goal.merge-requires
+merge-requires g c =
+    let m = (marks_split c.args.bytes.now.items c.args.handle.now c.args.handles.now.items 0 c.requires.counted.coded.marked).1 in
+    let a : c.args.handle.now.summary.count ≡ length (points_at c.args.bytes.now.items c.args.handle.now) = ap (λ (a : Aggregate). a.count) m.summary_is ∙ count_of_fold (points_at c.args.bytes.now.items c.args.handle.now) in
+    let b : c.single.result.count ≡ 1 = ap (λ (a : Aggregate). a.count) c.single.ensures in
+    let d = m.count_is in
+    let few = c.requires.few in
+    omega arith

@@ -54,12 +54,24 @@ returns-clause-points g c =
     moved_points c.args.blocks.now c.args.buffer.now c.push_block.new.self c.remove_front.new.self c.requires.buffered 256 (let f = full g at in omega arith)
     (c.in_ok-push_block.ensures.pushed ∙ ap (λ (x : List (ℤ × ℤ)). map.entries c.args.blocks.now.points ++ x) (pushed g at)) c.remove_front.ensures.points
 
+pub returns-clause-spare : goal.returns-clause-spare
+returns-clause-spare g c =
+    let n = ap length c.remove_front.ensures.points ∙ length-drop 256 (map.entries c.args.buffer.now.points) in
+    let fits = c.requires.buffered.fits in
+    omega arith
+
 pub returns-clause-moved : goal.returns-clause-moved
 returns-clause-moved g c =
     let at = (goal.at.returns-clause-moved g c).After-as_slice in
     let f = full g at in
     let n = ap length c.remove_front.ensures.points ∙ length-drop 256 (map.entries c.args.buffer.now.points) in
     λ _. omega arith
+
+pub returns-then-live-lt-BUFFER_POINTS-clause-spare : goal.returns-then-live-lt-BUFFER_POINTS-clause-spare
+returns-then-live-lt-BUFFER_POINTS-clause-spare g c =
+    let few : c.live.result < 512 = search rules in
+    let n = c.live.ensures ∙ len-entries c.args.buffer.now.points in
+    omega arith
 
 pub returns-then-live-lt-BUFFER_POINTS-clause-moved : goal.returns-then-live-lt-BUFFER_POINTS-clause-moved
 returns-then-live-lt-BUFFER_POINTS-clause-moved g c =

@@ -14,15 +14,15 @@ loop-handle-preserved g c =
     let m : BlockHandle = c.handle-item.result in
     let old : List ℕ = c.loop-handle.new_bytes.items in
     let new : List ℕ = c.extend_from_slice.new.self.items in
-    let ms : List BlockHandle = c.loop-handle.new_marks.items in
-    let n : BlockHandle = record { start = c.len-start.result; values = m.values; end = c.len.result; count = m.count; before = m.before; last = m.last } in
+    let ms : List BlockHandle = c.loop-handle.new_handles.items in
+    let n : BlockHandle = record m { start = c.len-start.result; end = c.len.result } in
     let l : c.loop-handle.handle-index < length all = search rules in
     let start : c.len-start.result ≡ length old = omega (arith, c.len-start.ensures, c.loop-handle.new_bytes.ok.0) in
     let end : c.len.result ≡ length new = omega (arith, c.len.ensures, c.extend_from_slice.new.self.ok.0) in
     let is : new ≡ old ++ text_at src m = c.in_ok-extend_from_slice.ensures.items ∙ ap (λ (x : List ℕ). old ++ x) c.text_of.ensures in
     let items : c.push.new.self.items ≡ ms ++ (n ∷ []) = c.in_ok-push.ensures.items in
     let there = c.handle-item.is in
-    let both = copied_more src old new all ms c.loop-handle.handle-index n m c.requires l c.loop-handle.invariant.marked c.loop-handle.invariant.blocks (is ∙ ap (λ x. old ++ text_at src x) there) start end (ap (λ (x : BlockHandle). x.values) there) (ap (λ (x : BlockHandle). x.count) there) (ap (λ (x : BlockHandle). x.before) there) (ap (λ (x : BlockHandle). x.last) there) in
+    let both = copied_more src old new all ms c.loop-handle.handle-index n m c.requires l c.loop-handle.invariant.marked c.loop-handle.invariant.blocks (is ∙ ap (λ x. old ++ text_at src x) there) start end (ap (λ (x : BlockHandle). x.values) there) (ap (λ (x : BlockHandle). x.count) there) (ap (λ (x : BlockHandle). x.before) there) (ap (λ (x : BlockHandle). x.last) there) (ap (λ (x : BlockHandle). x.summary) there) in
     record {
       marked = subst (AreBlockHandles new 0) (sym items) both.0;
       blocks = ap (blocks_at new) items ∙ both.1;

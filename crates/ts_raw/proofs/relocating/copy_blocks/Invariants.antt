@@ -4,6 +4,6 @@ use Rattle.ts_raw.proofs.relocating.copy_blocks.Given as goal
 
 abbrev pub invariant-loop-handle : goal.invariant-loop-handle
 invariant-loop-handle g l = record {
-  marked : AreBlockHandles l.new_bytes.items 0 l.new_marks.items;
-  blocks : blocks_at l.new_bytes.items l.new_marks.items ≡ blocks_at l.bytes (take l.handle-index l.handles);
+  marked : AreBlockHandles l.new_bytes.items 0 l.new_handles.items;
+  blocks : blocks_at l.new_bytes.items l.new_handles.items ≡ blocks_at l.bytes (take l.handle-index l.handles);
 }

@@ -38,7 +38,7 @@ extend_from_within-requires-clause-in_bounds g c =
     omega (arith, s, size, c.reserve_eighth.new.list.ok.0)
 
 moved : (g : Over) (c : After-unwrap-2 g) → BlockHandle
-moved g c = record { start = c.len-start.result; values = c.unwrap-handle.result.values; end = c.len.result; count = c.unwrap-handle.result.count; before = c.unwrap-handle.result.before; last = c.unwrap-handle.result.last }
+moved g c = record c.unwrap-handle.result { start = c.len-start.result; end = c.len.result }
 
 bytes_are : (g : Over) (c : After-unwrap-2 g) → c.extend_from_within.new.self.items ≡ c.args.bytes.now.items ++ text_at c.args.bytes.now.items c.unwrap-handle.result
 bytes_are g c =
@@ -62,7 +62,7 @@ returns-clause-marked g c =
     let a = goal.at.returns-clause-marked g c in
     let at = a.After-unwrap-2 in
     subst (λ (x : List BlockHandle). AreBlockHandles c.extend_from_within.new.self.items 0 x) (sym (marks_are g at))
-    (moved_marked c.args.bytes.now.items c.extend_from_within.new.self.items c.pop.new.self.items c.unwrap-handle.result (moved g at) (marked g a.After-unwrap-handle) (bytes_are g at) (start_is g at) (end_is g at) refl refl refl refl)
+    (moved_marked c.args.bytes.now.items c.extend_from_within.new.self.items c.pop.new.self.items c.unwrap-handle.result (moved g at) (marked g a.After-unwrap-handle) (bytes_are g at) (start_is g at) (end_is g at) refl refl refl refl refl)
 
 pub returns-clause-blocks : goal.returns-clause-blocks
 unfolding moved
@@ -70,7 +70,7 @@ returns-clause-blocks g c =
     let a = goal.at.returns-clause-blocks g c in
     let at = a.After-unwrap-2 in
     ap (blocks_at c.extend_from_within.new.self.items) (marks_are g at)
-    ∙ moved_blocks c.args.bytes.now.items c.extend_from_within.new.self.items c.pop.new.self.items c.unwrap-handle.result (moved g at) (marked g a.After-unwrap-handle) (bytes_are g at) (start_is g at) (end_is g at) refl refl refl refl
+    ∙ moved_blocks c.args.bytes.now.items c.extend_from_within.new.self.items c.pop.new.self.items c.unwrap-handle.result (moved g at) (marked g a.After-unwrap-handle) (bytes_are g at) (start_is g at) (end_is g at) refl refl refl refl refl
     ∙ ap (blocks_at c.args.bytes.now.items) (sym (items g a.After-unwrap-handle))
 
 pub returns-clause-others : goal.returns-clause-others
@@ -79,4 +79,4 @@ returns-clause-others g c =
     let a = goal.at.returns-clause-others g c in
     let at = a.After-unwrap-2 in
     subst (λ n. OthersEndBy n c.push.new.self.items) (sym (start_is g at)) (subst (OthersEndBy (length c.args.bytes.now.items)) (sym (marks_are g at))
-    (moved_others c.args.bytes.now.items c.extend_from_within.new.self.items c.pop.new.self.items c.unwrap-handle.result (moved g at) (marked g a.After-unwrap-handle) (bytes_are g at) (start_is g at) (end_is g at) refl refl refl refl))
+    (moved_others c.args.bytes.now.items c.extend_from_within.new.self.items c.pop.new.self.items c.unwrap-handle.result (moved g at) (marked g a.After-unwrap-handle) (bytes_are g at) (start_is g at) (end_is g at) refl refl refl refl refl))

@@ -17,4 +17,4 @@ returns-clause-block g c =
     ∙ (λ i. c.reserve_eighth.ensures.items i ++ c.as_slice.ensures.value i) in
     let is_block : IsBlockOf block ps = c.in_ok-block.ensures.block in
     let last : (slice_index_or ps (length ps - 1) c.index-points-points.result).0 ≡ last_time ps = last_point ps c.index-points-points.result c.requires in
-    block_at_end old block new ps (record { start = c.len-start.result; values = c.in_ok-block.values; end = c.len-2.result; count = length ps; before = 0; last = (slice_index_or ps (length ps - 1) c.index-points-points.result).0 }) is_block is start end c.in_ok-block.ensures.offset refl last
+    block_at_end old block new ps (record { start = c.len-start.result; values = c.in_ok-block.values; end = c.len-2.result; count = length ps; before = 0; last = (slice_index_or ps (length ps - 1) c.index-points-points.result).0; summary = c.aggregate_points-summary.result }) is_block is start end c.in_ok-block.ensures.offset refl last c.aggregate_points-summary.ensures.fold

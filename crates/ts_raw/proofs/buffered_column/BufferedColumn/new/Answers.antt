@@ -12,7 +12,7 @@ invariant_of-result g c =
     let ys = entries_nothing c.new-2.result.points c.new-2.ensures.points in
     let n = ap length xs in
     let m = ap length ys in
-    settled c.new.result c.new-2.result c.new.ensures.none_staged c.new-2.ensures.none_staged (subst IsRising (λ i. sym xs i ++ sym ys i) tt) (λ h. n) (omega arith)
+    settled c.new.result c.new-2.result c.new.ensures.none_staged c.new-2.ensures.none_staged (subst IsRising (λ i. sym xs i ++ sym ys i) tt) (λ h. n) (omega arith) (omega arith)
 
 pub returns-clause-points : goal.returns-clause-points
 returns-clause-points g c =

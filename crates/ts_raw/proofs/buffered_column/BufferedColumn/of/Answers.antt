@@ -43,6 +43,7 @@ invariant_of-result g c =
     (λ (e : 0 ≡ c.blocks_for-count.result). omega arith)
     (λ (l : 0 < c.blocks_for-count.result). absurd (let t = some l in omega arith))
     (eq-or-lt_of_le (let z : 0 ≤ c.blocks_for-count.result = omega arith in z)))
+    (let enough = c.blocks_for-count.ensures.enough in omega arith)
     (omega arith)
 
 pub returns-clause-entries : goal.returns-clause-entries
