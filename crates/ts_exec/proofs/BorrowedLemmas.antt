@@ -9,6 +9,10 @@ module _ {X : Type 0} where
   borrowed-push [] x = refl
   borrowed-push (y ∷ xs) x = ap (λ zs. y.now ∷ zs) (borrowed-push xs x)
 
+  pub borrowed-append : (xs ys : List (Bor X)) → borrowed (xs ++ ys) ≡ borrowed xs ++ borrowed ys
+  borrowed-append [] ys = refl
+  borrowed-append (x ∷ xs) ys = ap (λ zs. x.now ∷ zs) (borrowed-append xs ys)
+
   -- borrowed items compare as their values
   pub borrowed-cmp : (R : X → X → Ordering) (xs ys : List (Bor X)) → slice_cmp (λ (x y : Bor X). R x.now y.now) xs ys ≡ slice_cmp R (borrowed xs) (borrowed ys)
   borrowed-cmp R [] [] = refl

@@ -61,7 +61,7 @@ module _ (opening : Settings) (h : History) (seen : ViewState) (q : Query) (show
   piece_groups (Rollup name) a b s l m =
       let v = serving opening h seen q shows wide name a b s in
       let test = in_part (matches q) a b in
-      subst (λ o. map group_in (rule_shares q a b o) ≡ cell_groups q o test) (sym v.is) (rule-groups q v.shown a b v.wide v.suffice_for_all.starts v.suffice_for_all.ends)
+      subst (λ o. map group_in (rule_shares q a b o) ≡ cell_groups q o test) (sym v.is) (rule-groups q v.shown a b v.wide v.serves.starts v.serves.ends)
 
   piece_total : (g : List Text) (j : ℕ) (source : Source) (a b : ℤ) → SourceServes (query_context seen.settings seen.marks q) source a b → q.from ≤ℤ a → b ≤ℤ q.to
       → total_at g j (source_shares seen q source a b) ≡ aggregate_given seen source (in_part (is_in_row q g (bucket_in q q.from +ℤ pos j)) a b)
@@ -72,7 +72,7 @@ module _ (opening : Settings) (h : History) (seen : ViewState) (q : Query) (show
       let sound : (k : Cell) → is_within a b (start_of v.shown.rule k.index) ≡ true → ((shown_total v.shown k).count == 0) ≡ true → shown_total v.shown k ≡ empty_aggregate = λ k w none.
       let is : shown_total v.shown k ≡ total_of v.shown.rule k (latest_of h) = v.totals.totals k (start_of-high v k.index w) in
       is ∙ none_of (filter (is_in_cell v.shown.rule k) (latest_of h)) (ap (λ (x : Aggregate). x.count == 0) (sym is) ∙ none) in
-      subst (λ o. total_at g j (rule_shares q a b o) ≡ totals_given o test) (sym v.is) (rule-total q v.shown a b v.wide v.suffice_for_all.starts v.suffice_for_all.ends wide.query g j sound)
+      subst (λ o. total_at g j (rule_shares q a b o) ≡ totals_given o test) (sym v.is) (rule-total q v.shown a b v.wide v.serves.starts v.serves.ends wide.query g j sound)
 
   all_shares_groups : (a : ℤ) (ps : List Piece) → q.from ≤ℤ a → Covers a q.to ps → AllByRecursion (IsValidPiece (query_context seen.settings seen.marks q)) ps → map group_in (pieces_shares seen q ps) ≡ assembled_groups seen q ps
   all_shares_groups a [] l c e = refl

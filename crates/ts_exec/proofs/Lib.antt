@@ -11,6 +11,7 @@ mod PointCounts
 mod CountSteps
 -- GroupTables, FirstOf: the cells and points of a piece
 mod Selected
+mod GroupValues
 mod Walked
 mod NamedRules
 mod Widths
@@ -18,6 +19,7 @@ mod Widths
 mod Spans
 mod NextBuckets
 mod Runs
+mod Blocks
 mod Counted
 -- Slots, Searches: the groups in order
 mod Slotted

@@ -11,6 +11,8 @@ use Rattle.ts_core.specs.declared.queries.fill.Fill.TheVariants as fills
 use Rattle.ts_core.specs.declared.queries.value.Function.{Function}
 use Rattle.ts_core.specs.declared.queries.value.Function.TheVariants.{Count, Sum, Min, Max, First, Last, Mean}
 use Rattle.ts_core.specs.declared.queries.value.Value.{Value}
+use Rattle.ts_core.specs.declared.queries.value.Value.TheVariants.{Number}
+use Rattle.ts_core.specs.declared.aggregates.aggregate.Extremes.{Extremes}
 use Rattle.ts_core.specs.facts.Facts.{Text, is_of}
 use Rattle.ts_core.specs.aggregates.Aggregates.{Aggregate, empty_aggregate, aggregate_of_one, merged}
 use Rattle.ts_core.specs.facts.Tags.{tag_values}
@@ -22,12 +24,12 @@ use Rattle.ts_core.specs.plans.Assembly.{representative, rule_shown}
 use Rattle.ts_core.specs.plans.Pieces.{Source, Raw, Rollup, Piece, start_of}
 use Rattle.ts_core.specs.queries.Queries.{Query, meets, group_of}
 use Rattle.ts_core.specs.queries.Answers.{Row, group_cmp, same_group, bucket_in}
-use Rattle.ts_core.specs.queries.Fills.{FilledRow, FilledGroup, is_empty, has_data, value_of, number_value, shown, numbered, repeated, last_data, with_previous, filled_rows, filled}
+use Rattle.ts_core.specs.queries.Fills.{FilledRow, FilledGroup, is_empty, has_data, value_of, number_value, extreme_value, shown, numbered, repeated, last_data, with_previous, filled_rows, filled}
 use Rattle.ts_store.specs.read.ViewResults.{ColumnRef, column_refs_where, points_at, SeenCell, cells_within}
 use Rattle.ts_exec.specs.declared.aggregate_parts.AggregateParts.{AggregateParts}
-use Rattle.ts_exec.specs.declared.aggregate_parts.AggregateParts.TheVariants.{CountAlone, CountAndSum, Whole}
+use Rattle.ts_exec.specs.declared.aggregate_parts.AggregateParts.TheVariants.{CountAlone, CountAndSum, Bounds, Whole}
 use Rattle.ts_exec.specs.Answered.{HasRows}
-use Rattle.ts_exec.specs.RowParts.{BucketGrid, bucket_grid, added, row_index_at, with_part, part_of_point, with_point_parts}
+use Rattle.ts_exec.specs.RowParts.{BucketGrid, bucket_grid, added, row_index_at, with_part, bounds_of, part_of, part_of_point, with_point_parts}
 use Rattle.ts_exec.specs.GroupTables.{Table, rows_or, rows_for, width, with_cell_part, with_column_parts, with_column_ref, with_column_refs, is_cell_taken, with_cell, with_cell_parts, with_rule, with_source, with_pieces, rows_from, group_with, given}
 use Rattle.ts_exec.specs.Selections.{suffice, HaveSameValues}
 use Rattle.ts_exec.proofs.Given.{given-rows}
@@ -38,22 +40,40 @@ use Rattle.ts_exec.proofs.Given.{given-rows}
 abbrev kept_part : AggregateParts → Aggregate → Aggregate
 kept_part CountAlone a = record { count = a.count; sum = pos 0; extremes = None }
 kept_part CountAndSum a = record { count = a.count; sum = a.sum; extremes = None }
+kept_part Bounds a = part_of Bounds a
 kept_part Whole a = a
+
+bounds_merged : (m n : ℕ) (s t : ℤ) (d e : Option Extremes) → let x : Aggregate = record { count = m; sum = s; extremes = d } in let a : Aggregate = record { count = n; sum = t; extremes = e } in
+    part_of Bounds (merged x a) ≡ merged (part_of Bounds x) (part_of Bounds a)
+bounds_merged m n s t None e = refl
+bounds_merged m n s t (Some d) None = refl
+bounds_merged m n s t (Some d) (Some e) = refl
 
 kept_added : (parts : AggregateParts) (x a : Aggregate) → kept_part parts (added x a) ≡ added (kept_part parts x) (kept_part parts a)
 kept_added CountAlone x a = elim (nat_le (x.count + a.count) (2 ^ 62)) as (λ b. kept_part CountAlone (cond b (merged x a) x) ≡ cond b (merged (kept_part CountAlone x) (kept_part CountAlone a)) (kept_part CountAlone x)) [ true ↦ refl | false ↦ refl ]
 kept_added CountAndSum x a = elim (nat_le (x.count + a.count) (2 ^ 62)) as (λ b. kept_part CountAndSum (cond b (merged x a) x) ≡ cond b (merged (kept_part CountAndSum x) (kept_part CountAndSum a)) (kept_part CountAndSum x)) [ true ↦ refl | false ↦ refl ]
+kept_added Bounds x a =
+    elim (nat_le (x.count + a.count) (2 ^ 62)) as (λ b. kept_part Bounds (cond b (merged x a) x) ≡ cond b (merged (kept_part Bounds x) (kept_part Bounds a)) (kept_part Bounds x)) [
+      | true ↦ bounds_merged x.count a.count x.sum a.sum x.extremes a.extremes
+      | false ↦ refl
+    ]
 kept_added Whole x a = refl
 
 kept_point : (parts : AggregateParts) (t v : ℤ) → kept_part parts (aggregate_of_one t v) ≡ kept_part parts (part_of_point parts t v)
 kept_point CountAlone t v = refl
 kept_point CountAndSum t v = refl
+kept_point Bounds t v = refl
 kept_point Whole t v = refl
 
 kept_empty : (parts : AggregateParts) → kept_part parts empty_aggregate ≡ empty_aggregate
 kept_empty CountAlone = refl
 kept_empty CountAndSum = refl
+kept_empty Bounds = refl
 kept_empty Whole = refl
+
+bound_value : (bound : Extremes → ℤ) → ((x : Extremes) → bound (bounds_of x) ≡ bound x) → (o : Option Extremes) → extreme_value bound (option_map bounds_of o) ≡ extreme_value bound o
+bound_value bound same None = refl
+bound_value bound same (Some x) = ap Number (same x)
 
 -- the value of a function that needs no other parts
 kept_value : (parts : AggregateParts) (a : Aggregate) (f : Function) → suffice parts f ≡ true → value_of (kept_part parts a) f ≡ value_of a f
@@ -71,6 +91,13 @@ kept_value CountAndSum a Max e = absurd (true≢false (sym e))
 kept_value CountAndSum a First e = absurd (true≢false (sym e))
 kept_value CountAndSum a Last e = absurd (true≢false (sym e))
 kept_value CountAndSum a Mean e = refl
+kept_value Bounds a Count e = refl
+kept_value Bounds a Sum e = refl
+kept_value Bounds a Min e = bound_value (λ (x : Extremes). x.min) (λ x. refl) a.extremes
+kept_value Bounds a Max e = bound_value (λ (x : Extremes). x.max) (λ x. refl) a.extremes
+kept_value Bounds a First e = absurd (true≢false (sym e))
+kept_value Bounds a Last e = absurd (true≢false (sym e))
+kept_value Bounds a Mean e = refl
 kept_value Whole a f e = refl
 
 kept_values : (parts : AggregateParts) (a : Aggregate) (fs : List Function) → list_all (suffice parts) fs ≡ true → map (value_of (kept_part parts a)) fs ≡ map (value_of a) fs
@@ -217,6 +244,7 @@ module _ (parts : AggregateParts) where
       empty_kept : (k : AggregateParts) (a : Aggregate) → is_empty (kept_part k a) ≡ is_empty a
       empty_kept CountAlone a = refl
       empty_kept CountAndSum a = refl
+      empty_kept Bounds a = refl
       empty_kept Whole a = refl
 
   rows_kept : (grid : BucketGrid) (k : ℤ) (rows : List Aggregate) → rows_from grid k (kept_rows rows) ≡ map kept_row (rows_from grid k rows)

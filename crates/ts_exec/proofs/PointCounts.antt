@@ -31,6 +31,7 @@ use Rattle.ts_store.specs.read.ViewResults.{ColumnRef, column_refs_where, points
 use Rattle.ts_exec.specs.RowParts.{BucketGrid, bucket_grid, row_index_at}
 use Rattle.ts_exec.specs.GroupTables.{is_cell_taken}
 use Rattle.ts_exec.specs.Shares.{Share, is_share, total_at, points_of_shares, point_share, column_ref_shares, column_refs_shares, cell_share, rule_shares, source_shares, pieces_shares}
+use Rattle.ts_exec.proofs.Blocks.{all_append}
 use Rattle.ts_exec.proofs.Walked.{taken-within}
 use Rattle.ts_exec.proofs.Given.{all_shares_total, few}
 
@@ -132,10 +133,6 @@ first_total (s ∷ ss) a =
     ap (λ z. (fold_by empty_aggregate merged (λ (x : Share). x.part) (cond z (s ∷ filter (is_share [] 0) ss) (filter (is_share [] 0) ss))).count) a.0
     ∙ ap (λ n. s.part.count + n) (first_total ss a.1)
 
-first_append : (xs ys : List Share) → AllByRecursion IsFirst xs → AllByRecursion IsFirst ys → AllByRecursion IsFirst (xs ++ ys)
-first_append [] ys a b = b
-first_append (x ∷ xs) ys a b = (a.0, first_append xs ys a.1 b)
-
 first_passed : {X : Type 0} (share : X → Share) (p : X → Bool) → ((x : X) → p x ≡ true → IsFirst (share x)) → (xs : List X) → AllByRecursion IsFirst (map share (filter p xs))
 first_passed share p h [] = tt
 first_passed share p h (x ∷ xs) =
@@ -162,7 +159,7 @@ module _ (q : Query) where
 
     first_column_refs : (cs : List ColumnPoints) (ss : List ColumnRef) → AllByRecursion IsFirst (column_refs_shares (whole q) cs a b ss)
     first_column_refs cs [] = tt
-    first_column_refs cs (s ∷ ss) = first_append (column_ref_shares (whole q) cs a b s) (column_refs_shares (whole q) cs a b ss) (first_column_ref cs s) (first_column_refs cs ss)
+    first_column_refs cs (s ∷ ss) = all_append IsFirst (column_ref_shares (whole q) cs a b s) (column_refs_shares (whole q) cs a b ss) (first_column_ref cs s) (first_column_refs cs ss)
 
     first_rule : (o : Option RuleCells) → AllByRecursion IsFirst (rule_shares (whole q) a b o)
     first_rule None = tt
@@ -182,7 +179,7 @@ module _ (q : Query) where
       let up : p.from <ℤ p.to = c.1 in
       let from : q.from ≤ℤ p.from = subst (λ x. q.from ≤ℤ x) (sym at) low in
       let to : q.from ≤ℤ p.to = omega (arith, ints) in
-      first_append (source_shares seen (whole q) p.source p.from p.to) (pieces_shares seen (whole q) ps) (first_source p.from p.to from c.2 seen p.source) (first_pieces seen p.to ps to c.3)
+      all_append IsFirst (source_shares seen (whole q) p.source p.from p.to) (pieces_shares seen (whole q) ps) (first_source p.from p.to from c.2 seen p.source) (first_pieces seen p.to ps to c.3)
 
   -- a fact of the range is in that row just where it matches
   whole_row : (f : Fact) → is_in_row (whole q) [] (bucket_in (whole q) q.from +ℤ pos 0) f ≡ matches q f

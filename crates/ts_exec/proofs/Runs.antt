@@ -1,10 +1,11 @@
 -- Runs of points: folding them and merging once equals merging each.
-use Rattle.std.proofs.Common.{◌≡◌, ℕ, zero, suc, ◌+◌, ◌≤◌, ◌^◌, ℤ, ◌≤ℤ◌, ◌<ℤ◌, Bool, true, false, List, [], ◌∷◌, length, get_or, min, refl, sym, ◌∙◌, ap, ap₂, cond, arith}
+use Rattle.std.proofs.Common.{◌≡◌, ℕ, zero, suc, ◌+◌, ◌≤◌, ◌^◌, ℤ, ◌≤ℤ◌, ◌<ℤ◌, Bool, true, false, List, [], ◌∷◌, length, get_or, min, refl, sym, ◌∙◌, ap, ap₂, subst, cond, arith}
 use Rattle.std.proofs.lemmas.Int.{ints}
+use Rattle.std.proofs.lemmas.List.{length-set}
 use Rattle.ts_core.specs.aggregates.Aggregates.{Aggregate, empty_aggregate, merged}
 use Rattle.ts_core.specs.aggregates.MergeLaws.{aggregate_laws}
 use Rattle.ts_exec.specs.declared.aggregate_parts.AggregateParts.{AggregateParts}
-use Rattle.ts_exec.specs.declared.aggregate_parts.AggregateParts.TheVariants.{CountAlone, CountAndSum, Whole}
+use Rattle.ts_exec.specs.declared.aggregate_parts.AggregateParts.TheVariants.{CountAlone, CountAndSum, Bounds, Whole}
 use Rattle.ts_exec.specs.RowParts.{BucketGrid, IsRun, added, row_index_at, part_of_point, with_part}
 use Rattle.ts_exec.proofs.Shares.{added-fits, part-saturated}
 
@@ -21,9 +22,10 @@ part-joined i a b [] h = refl
 part-joined zero a b (x ∷ rows) h = ap (λ (y : Aggregate). y ∷ rows) (added_joined x a b h)
 part-joined (suc i) a b (x ∷ rows) h = ap (λ (ys : List Aggregate). x ∷ ys) (part-joined i a b rows h)
 
-point_count : (parts : AggregateParts) (t v : ℤ) → (part_of_point parts t v).count ≡ 1
+pub point_count : (parts : AggregateParts) (t v : ℤ) → (part_of_point parts t v).count ≡ 1
 point_count CountAlone t v = refl
 point_count CountAndSum t v = refl
+point_count Bounds t v = refl
 point_count Whole t v = refl
 
 -- a run of one point
@@ -44,22 +46,20 @@ run-joined parts t v g rows left low high row_index part run a b =
     let fits = run.bounded (omega (arith, ints)) in
     record { within = run.within; bounded = λ l. omega arith }
 
-pub run-part : (parts : AggregateParts) (t v : ℤ) (g : BucketGrid) (rows : List Aggregate) (left : ℕ) (low high : ℤ) (row_index : ℕ) (part : Aggregate)
-    → IsRun g rows (suc left) low high row_index part → low ≤ℤ t → t <ℤ high → with_part row_index (part_of_point parts t v) (with_part row_index part rows) ≡ with_part row_index (merged part (part_of_point parts t v)) rows
-run-part parts t v g rows left low high row_index part run a b =
-    let one : (part_of_point parts t v).count ≡ 1 = point_count parts t v in
-    let fits = run.bounded (omega (arith, ints)) in
-    part-joined row_index part (part_of_point parts t v) rows (omega arith)
-
--- a run that may go on has fewer than 2^62 points
-pub run-few : (g : BucketGrid) (rows : List Aggregate) (left : ℕ) (low high t : ℤ) (row_index : ℕ) (part : Aggregate) → IsRun g rows (suc left) low high row_index part → low ≤ℤ t → t <ℤ high → part.count + 1 ≤ 2 ^ 62
-run-few g rows left low high t row_index part run a b = let fits = run.bounded (omega (arith, ints)) in omega arith
-
--- fewer points are left
-pub run-fewer : (g : BucketGrid) (rows : List Aggregate) (left fewer : ℕ) (low high : ℤ) (row_index : ℕ) (part : Aggregate) → fewer ≤ left → IsRun g rows left low high row_index part → IsRun g rows fewer low high row_index part
-run-fewer g rows left fewer low high row_index part less run = record { within = run.within; bounded = λ l. let fits = run.bounded l in omega arith }
-
 pub run-first : (parts : AggregateParts) (t v : ℤ) (g : BucketGrid) (rows : List Aggregate) (row_index : ℕ) (part : Aggregate)
     → length rows ≤ 18446744073709551615 → row_index ≡ min (row_index_at g t) 18446744073709551615 → part ≡ part_of_point parts t v → with_part row_index part rows ≡ with_part (row_index_at g t) (part_of_point parts t v) rows
 run-first parts t v g rows row_index part short there is =
     ap₂ (λ i (a : Aggregate). with_part i a rows) there is ∙ part-saturated (row_index_at g t) (part_of_point parts t v) rows short
+
+-- a point merged into a run's part, which is then merged into its row, is merged into the row
+pub run-point : (parts : AggregateParts) (t v : ℤ) (g : BucketGrid) (rows : List Aggregate) (left : ℕ) (low high : ℤ) (row_index : ℕ) (part : Aggregate)
+    → length rows ≤ 18446744073709551615 → IsRun g rows (suc left) low high row_index part → low ≤ℤ t → t <ℤ high
+    → with_part row_index (merged part (part_of_point parts t v)) rows ≡ with_part (row_index_at g t) (part_of_point parts t v) (with_part row_index part rows)
+run-point parts t v g rows left low high row_index part short run a b =
+    let one : Aggregate = part_of_point parts t v in
+    let old : List Aggregate = with_part row_index part rows in
+    let single : one.count ≡ 1 = point_count parts t v in
+    let fits = run.bounded (omega (arith, ints)) in
+    sym (part-joined row_index part one rows (omega arith))
+    ∙ ap (λ i. with_part i one old) (run.within t a b)
+    ∙ part-saturated (row_index_at g t) one old (subst (λ n. n ≤ 18446744073709551615) (sym (length-set rows row_index _)) short)

@@ -1,6 +1,6 @@
 -- Groups with their rows, in byte order of their values, to which points and cells are added. (Own rules.)
 use Rattle.std.specs.Prelude.{◌≡◌, ℕ, ℤ, pos, ◌+ℤ◌, ◌*ℤ◌, ◌==◌, Bool, false, not, ◌&&◌, T, List, [], ◌∷◌, filter, map, length, replicate, Option, Some, None, if◌then◌else◌}
-use Rattle.std.specs.List.{list_all}
+use Rattle.std.specs.List.{list_all, flat_map}
 use Rattle.std.specs.FinMap.{find, put, is_sorted}
 use Rattle.ts_core.specs.facts.Facts.{Text, is_of, is_within}
 use Rattle.ts_core.specs.aggregates.Aggregates.{Aggregate, empty_aggregate}
@@ -71,6 +71,10 @@ with_column_refs parts q cs a b (s ∷ ss) t = with_column_refs parts q cs a b s
 -- the columns whose series meet the conditions
 abbrev pub selected_column_refs : List Condition → List ColumnRef → List ColumnRef
 selected_column_refs conditions = filter (λ s. list_all (meets s.series) conditions)
+
+-- the columns' values of the group tags, one column after the other
+abbrev pub group_values : List Text → List ColumnRef → List Text
+group_values tags ss = flat_map (λ s. tag_values tags s.series) ss
 
 -- one of the conditions wants a value of a tag
 pub record IsNarrowing (conditions : List Condition) (c : Condition) : Type 0 where

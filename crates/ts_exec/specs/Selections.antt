@@ -7,7 +7,7 @@ use Rattle.ts_core.specs.declared.queries.value.Function.TheVariants.{Count, Sum
 use Rattle.ts_core.specs.queries.Answers.{Group}
 use Rattle.ts_core.specs.queries.Fills.{filled}
 use Rattle.ts_exec.specs.declared.aggregate_parts.AggregateParts.{AggregateParts}
-use Rattle.ts_exec.specs.declared.aggregate_parts.AggregateParts.TheVariants.{CountAlone, CountAndSum, Whole}
+use Rattle.ts_exec.specs.declared.aggregate_parts.AggregateParts.TheVariants.{CountAlone, CountAndSum, Bounds, Whole}
 
 -- the value of the function needs only the parts that are kept
 abbrev pub suffice : AggregateParts → Function → Bool
@@ -25,6 +25,13 @@ suffice CountAndSum Max = false
 suffice CountAndSum First = false
 suffice CountAndSum Last = false
 suffice CountAndSum Mean = true
+suffice Bounds Count = true
+suffice Bounds Sum = true
+suffice Bounds Min = true
+suffice Bounds Max = true
+suffice Bounds First = false
+suffice Bounds Last = false
+suffice Bounds Mean = true
 suffice Whole f = true
 
 -- two answers have the same values of these functions, with any fill option

@@ -14,6 +14,8 @@ pub(crate) enum AggregateParts {
     CountAlone,
     /// Count and sum.
     CountAndSum,
+    /// Count, sum, minimum and maximum.
+    Bounds,
     /// Count, sum and extremes.
     Whole,
 }
@@ -28,6 +30,7 @@ impl AggregateParts {
             AggregateParts::CountAndSum => {
                 matches!(&function, Function::Count | Function::Sum | Function::Mean)
             }
+            AggregateParts::Bounds => !matches!(&function, Function::First | Function::Last),
             AggregateParts::Whole => true,
         }
     }
@@ -55,6 +58,8 @@ pub(crate) fn parts_for<A: Allocator>(columns: &[Projection<A>]) -> AggregatePar
         AggregateParts::CountAlone
     } else if suffice_for_all(&AggregateParts::CountAndSum, columns) {
         AggregateParts::CountAndSum
+    } else if suffice_for_all(&AggregateParts::Bounds, columns) {
+        AggregateParts::Bounds
     } else {
         AggregateParts::Whole
     }

@@ -1,16 +1,17 @@
 //! Adds the points of a column to the rows of a group.
-ghost use Rattle.std.specs.Prelude.{◌≡◌, ◌∷◌, ◌+◌, ◌^◌, ◌<◌, ◌≤◌, ◌≤ℤ◌, ◌<ℤ◌, length, get_or};
+ghost use Rattle.std.specs.Prelude.{◌≡◌, ◌+◌, ◌^◌, ◌<◌, ◌≤◌, ◌≤ℤ◌, ◌<ℤ◌, length, get_or};
 ghost use Rattle.ts_core.specs.aggregates.Aggregates.{empty_aggregate};
 ghost use Rattle.ts_store.specs.read.ViewResults.{points_at};
 ghost use Rattle.ts_exec.specs.declared.aggregate_parts.AggregateParts.TheVariants.{CountAlone};
 ghost use Rattle.ts_exec.specs.RowParts.{with_counted, with_point_parts};
 
 use crate::aggregate_parts::AggregateParts;
+use crate::bounded::Bounded;
 use crate::buckets::Buckets;
 use crate::fold::{Counted, Fold, Summed};
 use crate::rows::{add_part, add_runs, can_add};
 use std::alloc::Allocator;
-use ts_core::{Agg, Time};
+use ts_core::Agg;
 use ts_raw::{ColumnId, Points};
 use ts_store::View;
 
@@ -23,17 +24,7 @@ pub(crate) struct ColumnRange<'a, V> {
     pub to: i64,
 }
 
-/// Adds the points one by one.
-fn visit(rows: &mut [Agg], buckets: &mut Buckets, mut points: Points<'_>)
-    ensures value { rows.new ≡ with_point_parts CountAlone buckets.old points.entry rows.old }
-    ensures same { buckets.new ≡ buckets.old }
-{
-    if let Some(first) = points.next() {
-        add_runs::<Counted>(rows, buckets, first, points);
-    }
-}
-
-/// Adds the number of points of a bucket to its row, which must have room for them.
+/// Adds the number of points of a bucket to its row, which must be able to count them.
 fn add_count(rows: &mut [Agg], row_index: usize, count: u64)
     requires { (get_or rows.old row_index empty_aggregate).count + (count + 1) ≤ 2 ^ 62 }
     ensures { rows.new ≡ with_counted row_index count rows.old }
@@ -44,7 +35,7 @@ fn add_count(rows: &mut [Agg], row_index: usize, count: u64)
 }
 
 /// Adds the points from `from` on that are in one bucket, without visiting them; visits all that are left if the
-/// bucket's row has no room for them. Returns the end of those added.
+/// bucket's row could exceed 2^62 points. Returns the end of those added.
 fn count_next<A: Allocator, V: View<A>>(
     rows: &mut [Agg],
     buckets: &mut Buckets,
@@ -69,7 +60,7 @@ fn count_next<A: Allocator, V: View<A>>(
         }
     }
     let points = range.view.raw_range(range.column, from, range.to);
-    visit(rows, buckets, points);
+    add_runs::<Counted>(rows, buckets, from, points);
     range.to
 }
 
@@ -89,30 +80,29 @@ fn count<A: Allocator, V: View<A>>(
     }
 }
 
-/// Adds the points of a range, which are `first` and then the others, each to the row of its bucket. Keeps these parts
-/// of them.
+/// Adds the points of a range, each to the row of its bucket. Keeps these parts of them.
 pub(crate) fn add_points<A: Allocator, V: View<A>>(
     rows: &mut [Agg],
     parts: AggregateParts,
     buckets: &mut Buckets,
     range: &ColumnRange<'_, V>,
-    first: (Time, i64),
-    others: Points<'_>,
+    points: Points<'_>,
 )
     requires column { range.now.column < length (V.seen range.now.view.now).columns }
-    requires points { points_at (V.seen range.now.view.now).columns range.now.column range.now.from range.now.to ≡ first ∷ others }
-    ensures value { rows.new ≡ with_point_parts parts buckets.old (first ∷ others.entry) rows.old }
+    requires points { points_at (V.seen range.now.view.now).columns range.now.column range.now.from range.now.to ≡ points }
+    ensures value { rows.new ≡ with_point_parts parts buckets.old points.entry rows.old }
     ensures same { buckets.new ≡ buckets.old }
 {
     match parts {
         AggregateParts::CountAlone => {
-            if buckets.are_full(others.len(), range.from, range.to) {
+            if buckets.are_full(points.len(), range.from, range.to) {
                 count(rows, buckets, range);
             } else {
-                add_runs::<Counted>(rows, buckets, first, others);
+                add_runs::<Counted>(rows, buckets, range.from, points);
             }
         }
-        AggregateParts::CountAndSum => add_runs::<Summed>(rows, buckets, first, others),
-        AggregateParts::Whole => add_runs::<Agg>(rows, buckets, first, others),
+        AggregateParts::CountAndSum => add_runs::<Summed>(rows, buckets, range.from, points),
+        AggregateParts::Bounds => add_runs::<Bounded>(rows, buckets, range.from, points),
+        AggregateParts::Whole => add_runs::<Agg>(rows, buckets, range.from, points),
     }
 }

@@ -1,9 +1,9 @@
 //! Folds of points that keep parts of an aggregate.
 ghost use Rattle.std.specs.Prelude.{◌≡◌, ◌+◌, ◌^◌, ◌<◌, ◌≤◌};
-ghost use Rattle.ts_core.specs.aggregates.Aggregates.{Aggregate, merged};
+ghost use Rattle.ts_core.specs.aggregates.Aggregates.{Aggregate, merged, IsSound, IsSpread};
 ghost use Rattle.ts_exec.specs.declared.aggregate_parts.AggregateParts.{AggregateParts};
 ghost use Rattle.ts_exec.specs.declared.aggregate_parts.AggregateParts.TheVariants.{CountAlone, CountAndSum, Whole};
-ghost use Rattle.ts_exec.specs.RowParts.{count_part, part_of_point, wide_extremes};
+ghost use Rattle.ts_exec.specs.RowParts.{bounds, count_part, part_of, part_of_point, wide_extremes};
 
 use std::marker::Model;
 use ts_core::{Agg, Extremes, Partial, Time};
@@ -23,25 +23,46 @@ pub(crate) trait Fold: Copy {
         requires { (folded self).count < 2 ^ 62 }
         ensures { folded result ≡ merged (folded self) (part_of_point parts time value) };
 
+    /// Returns the fold of some points by their aggregate.
+    fn of(part: Agg) -> Self
+        requires some { 0 < part.count }
+        requires sound { IsSound part }
+        requires few { part.count ≤ 2 ^ 62 }
+        ensures { folded result ≡ part_of parts part };
+
+    /// Merges the parts that are kept of the aggregate of some points.
+    fn with_part(self, part: Agg) -> Self
+        requires some { 0 < part.count }
+        requires sound { IsSound part }
+        requires few { (folded self).count + part.count ≤ 2 ^ 62 }
+        ensures { folded result ≡ merged (folded self) (part_of parts part) };
+
     /// Returns an aggregate with the parts that are kept.
     fn part(self) -> Agg
         ensures { result ≡ folded self };
 }
 
-/// Returns extremes that don't depend on the points: the least and the greatest value of 64 bits, and 0 at time 0.
-fn wide_extremes() -> Extremes
-    ensures { result ≡ wide_extremes }
+/// Returns extremes with these bounds, and with 0 at time 0 for the first and the last point.
+pub(crate) fn bounds(min: i64, max: i64) -> Extremes
+    ensures { result ≡ bounds min max }
 {
     let zero = match Time::new(0) {
         Some(time) => time,
         None => unreachable!(),
     };
     Extremes {
-        min: i64::MIN,
-        max: i64::MAX,
+        min,
+        max,
         first: (zero, 0),
         last: (zero, 0),
     }
+}
+
+/// Returns extremes that don't depend on the points: the least and the greatest value of 64 bits, and 0 at time 0.
+fn wide_extremes() -> Extremes
+    ensures { result ≡ wide_extremes }
+{
+    bounds(i64::MIN, i64::MAX)
 }
 
 /// Count of at least one point.
@@ -90,6 +111,18 @@ impl Fold for Counted {
         }
     }
 
+    fn of(part: Agg) -> Counted {
+        Counted {
+            count: part.count(),
+        }
+    }
+
+    fn with_part(self, part: Agg) -> Counted {
+        Counted {
+            count: self.count + part.count(),
+        }
+    }
+
     fn part(self) -> Agg {
         match Agg::from_parts(self.count, 0, Some(wide_extremes())) {
             Some(part) => part,
@@ -119,6 +152,19 @@ impl Model for Summed {
     ghost inverse = { λ v. record { count = v.count; sum = v.sum } };
 }
 
+/// Returns the sum of the values of at least one point. Each value lies between the least and the greatest of 64 bits.
+fn sum_of(part: &Agg) -> i128
+    requires some { 0 < part.now.count }
+    requires sound { IsSound part.now }
+    ensures value { result ≡ part.now.sum }
+    ensures spread { IsSpread part.now.count part.now.sum wide_extremes }
+{
+    match (part.min(), part.max()) {
+        (Some(_), Some(_)) => part.sum(),
+        _ => unreachable!(),
+    }
+}
+
 impl Fold for Summed {
     ghost parts = { CountAndSum };
 
@@ -135,6 +181,20 @@ impl Fold for Summed {
         Summed {
             count: self.count + 1,
             sum: self.sum + i128::from(value),
+        }
+    }
+
+    fn of(part: Agg) -> Summed {
+        Summed {
+            count: part.count(),
+            sum: sum_of(&part),
+        }
+    }
+
+    fn with_part(self, part: Agg) -> Summed {
+        Summed {
+            count: self.count + part.count(),
+            sum: self.sum + sum_of(&part),
         }
     }
 
@@ -157,6 +217,14 @@ impl Fold for Agg {
 
     fn with(self, time: Time, value: i64) -> Agg {
         self.merge(<Agg as Partial>::single(time, value))
+    }
+
+    fn of(part: Agg) -> Agg {
+        part
+    }
+
+    fn with_part(self, part: Agg) -> Agg {
+        self.merge(part)
     }
 
     fn part(self) -> Agg {

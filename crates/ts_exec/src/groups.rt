@@ -96,6 +96,26 @@ fn put<'a, A: Allocator + Copy>(
     Ok(())
 }
 
+/// Returns the group's slot, inserting an empty one if needed.
+fn slot_of<'a, A: Allocator + Copy>(
+    slots: &mut Vec<Slot<'a, A>, A>,
+    values: &[&'a str],
+) -> Result<usize, AllocError>
+    requires { AreSlots slots.old.items }
+    ensures slots { AreSlots slots.new.items }
+    ensures made { made slots.new.items ≡ made slots.old.items }
+    ensures row_index { IfOk result (λ at. HoldsGroup (borrowed values.now) slots.new.items at) }
+{
+    match find_slot(slots.as_slice(), values) {
+        Ok(at) => Ok(at),
+        Err(at) => {
+            let values = Vec::from_slice(*slots.allocator(), values)?;
+            put(slots, at, values)?;
+            Ok(at)
+        }
+    }
+}
+
 /// Returns the group's slot, inserting an empty one if needed. Tries `guess` first.
 fn expect<'a, A: Allocator + Copy>(
     slots: &mut Vec<Slot<'a, A>, A>,
@@ -110,14 +130,7 @@ fn expect<'a, A: Allocator + Copy>(
     if is_at(slots.as_slice(), guess, values) {
         return Ok(guess);
     }
-    match find_slot(slots.as_slice(), values) {
-        Ok(at) => Ok(at),
-        Err(at) => {
-            let values = Vec::from_slice(*slots.allocator(), values)?;
-            put(slots, at, values)?;
-            Ok(at)
-        }
-    }
+    slot_of(slots, values)
 }
 
 /// Groups in byte order of their values. Empty groups may be among them; the model leaves them out.
@@ -165,16 +178,10 @@ impl<'a, A: Allocator + Copy> Groups<'a, A> {
     }
 
     /// Returns the group's slot, inserting an empty one if needed.
-    pub(crate) fn expect(&mut self, values: Vec<&'a str, A>) -> Result<usize, AllocError>
+    pub(crate) fn expect(&mut self, values: &[&'a str]) -> Result<usize, AllocError>
         ensures { self.new ≡ self.old }
     {
-        match find_slot(self.slots.as_slice(), values.as_slice()) {
-            Ok(at) => Ok(at),
-            Err(at) => {
-                put(&mut self.slots, at, values)?;
-                Ok(at)
-            }
-        }
+        slot_of(&mut self.slots, values)
     }
 
     /// Merges a part into the row of a bucket of a group, inserting the group if needed.
@@ -208,11 +215,11 @@ impl<'a, A: Allocator + Copy> Groups<'a, A> {
         ensures value { OnOk result (self.new ≡ with_column_parts parts buckets.old width (borrowed values.now) (points_at (V.seen range.now.view.now).columns range.now.column range.now.from range.now.to) self.old) }
         ensures same { buckets.new ≡ buckets.old }
     {
-        let mut points = range.view.raw_range(range.column, range.from, range.to);
-        let Some(first) = points.next() else {
+        let points = range.view.raw_range(range.column, range.from, range.to);
+        if points.len() == 0 {
             return Ok(());
-        };
+        }
         let at = expect(&mut self.slots, guess, values)?;
-        self.slots[at].add_points(parts, width, buckets, range, first, points)
+        self.slots[at].add_points(parts, width, buckets, range, points)
     }
 }

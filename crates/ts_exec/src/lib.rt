@@ -18,12 +18,13 @@
 //! }
 //! ```
 //!
-//! To add a function: state the parts of an aggregate that it needs, in kept.rt and in `suffice` of
+//! To add a function: state the parts of an aggregate that it needs, in aggregate_parts.rt and in `suffice` of
 //! specs/Selections.antt. ts_core's `Function` computes its value. To keep other parts: add a `Fold`. To add a fill
 //! option that ts_core's `Fill` has: touch filled.rt, and `row_content` and `content_rows` in specs/Fillings.antt.
 #![tactic(auto)]
 
 mod aggregate_parts;
+mod bounded;
 mod buckets;
 mod column;
 mod counting;

@@ -1,5 +1,5 @@
 //! Adds the pieces of a plan to the groups.
-ghost use Rattle.std.specs.Prelude.{◌≡◌, ◌+◌, ◌^◌, ◌<◌, pos, ◌≤ℤ◌, true, option_map, zip, length, map, string_bytes, OnOk, IfOk};
+ghost use Rattle.std.specs.Prelude.{◌≡◌, ◌++◌, ◌+◌, ◌^◌, ◌<◌, pos, ◌≤ℤ◌, true, option_map, zip, length, map, string_bytes, OnOk, IfOk};
 ghost use Rattle.std.specs.List.{list_all};
 ghost use Rattle.ts_core.specs.plans.Assembly.{representative};
 ghost use Rattle.ts_core.specs.facts.Facts.{is_within};
@@ -11,7 +11,7 @@ ghost use Rattle.ts_ql.specs.Selects.{texts};
 ghost use Rattle.ts_store.specs.read.ViewResults.{view_cells_at};
 ghost use Rattle.ts_exec.specs.FirstOf.{rule_from};
 ghost use Rattle.ts_exec.specs.Borrowed.{borrowed};
-ghost use Rattle.ts_exec.specs.GroupTables.{with_cell, with_cell_parts, with_source, with_pieces, is_cell_taken};
+ghost use Rattle.ts_exec.specs.GroupTables.{group_values, with_cell, with_cell_parts, with_source, with_pieces, is_cell_taken};
 
 use crate::aggregate_parts::AggregateParts;
 use crate::buckets::{Buckets, width};
@@ -62,19 +62,33 @@ impl<'a, 'q, A: Allocator + Copy> Scan<'a, 'q, A> {
     }
 }
 
-/// Replaces `values` by a series' values of these tags.
-fn read_values<'a, A: Allocator + Copy>(
+/// Appends a series' values of these tags to `values`.
+fn append_values<'a, A: Allocator + Copy>(
     values: &mut Vec<&'a str, A>,
     key: &'a Key<A>,
     tags: &[String<A>],
 ) -> Result<(), AllocError>
-    ensures { OnOk result (borrowed values.new.items ≡ tag_values (texts tags.now) key.now) }
+    ensures { OnOk result (borrowed values.new.items ≡ borrowed values.old.items ++ tag_values (texts tags.now) key.now) }
 {
-    values.clear();
     for tag in tags {
         values.push(key.tag_value(tag.as_str()))?;
     }
     Ok(())
+}
+
+/// Returns the columns' values of these tags, one column after the other. Without tags, does not allocate.
+fn read_values<'a, A: Allocator + Copy>(
+    alloc: A,
+    columns: &[ViewColumn<'a, A>],
+    tags: &[String<A>],
+) -> Result<Vec<&'a str, A>, AllocError>
+    ensures { IfOk result (λ v. borrowed v.items ≡ group_values (texts tags.now) columns.now) }
+{
+    let mut values = Vec::with_capacity(alloc, columns.len().saturating_mul(tags.len()))?;
+    for column in columns {
+        append_values(&mut values, column.key, tags)?;
+    }
+    Ok(values)
 }
 
 /// Packs the first 16 bytes of a text, padded with zeros, into a number that serves as a sort key. If two keys differ,
@@ -87,31 +101,30 @@ fn first_bytes(text: &str) -> u128 {
     u128::from_be_bytes(bytes)
 }
 
-/// Inserts the groups of all columns up front, sorted, so that none is inserted in the middle later. Returns each
-/// column's slot, or an empty list if all columns are in one group, which has the first slot.
+/// Inserts the groups of all columns up front, sorted, so that none is inserted in the middle later. `values` has
+/// `tags` values per column, those of the group tags. Returns each column's slot, or an empty list if there are no
+/// group tags.
 fn expect_groups<'a, A: Allocator + Copy>(
     groups: &mut Groups<'a, A>,
     alloc: A,
-    query: &Query<A>,
-    columns: &[ViewColumn<'a, A>],
+    tags: usize,
+    values: &[&'a str],
 ) -> Result<Vec<usize, A>, AllocError>
     ensures { groups.new ≡ groups.old }
 {
-    if query.group_tags().is_empty() {
+    if tags == 0 {
         return Ok(Vec::new(alloc));
     }
+    let count = values.len() / tags;
     // The sort key decides most comparisons without reading the texts.
-    let mut expected: Vec<(u128, Vec<&'a str, A>, usize), A> = Vec::new(alloc);
-    for column in columns {
-        let mut values = Vec::with_capacity(alloc, query.group_tags().len())?;
-        read_values(&mut values, column.key, query.group_tags())?;
+    let mut sorted: Vec<(u128, &[&'a str], usize), A> = Vec::with_capacity(alloc, count)?;
+    for (number, values) in values.chunks_exact(tags).enumerate() {
         let first = values.first().copied().unwrap_or("");
-        let number = expected.len();
-        expected.push((first_bytes(first), values, number))?;
+        sorted.push((first_bytes(first), values, number))?;
     }
-    expected.sort()?;
-    let mut slots = Vec::from_elem(alloc, 0usize, expected.len())?;
-    for (_, values, number) in expected {
+    sorted.sort()?;
+    let mut slots = Vec::from_elem(alloc, 0usize, sorted.len())?;
+    for (_, values, number) in sorted {
         let at = groups.expect(values)?;
         if let Some(slot) = slots.get_mut(number) {
             *slot = at;
@@ -134,27 +147,23 @@ fn add_raw<'a, A: Allocator + Copy + 'a, V: View<A> + 'a>(
     ensures same { scan.new ≡ scan.old }
 {
     let alloc = *scan.values.allocator();
+    let tags = scan.query.group_tags();
     let columns = selected_columns(alloc, scan.query, view)?;
-    let slots = expect_groups(groups, alloc, scan.query, &columns)?;
-    let mut number: usize = 0;
+    let values = read_values(alloc, &columns, tags)?;
+    let slots = expect_groups(groups, alloc, tags.len(), &values)?;
+    // Without group tags these are empty, and the only group has slot 0.
+    let mut chunks = values.chunks_exact(tags.len().max(1));
+    let mut slots = slots.iter();
     for column in &columns {
-        read_values(&mut scan.values, column.key, scan.query.group_tags())?;
-        let guess = slots.get(number).copied().unwrap_or(0);
-        number = number.saturating_add(1);
+        let values = chunks.next().unwrap_or(&[]);
+        let guess = slots.next().copied().unwrap_or(0);
         let range = ColumnRange {
             view,
             column: column.id,
             from,
             to,
         };
-        groups.add_points(
-            guess,
-            parts,
-            scan.width,
-            &scan.values,
-            &mut scan.buckets,
-            &range,
-        )?;
+        groups.add_points(guess, parts, scan.width, values, &mut scan.buckets, &range)?;
     }
     Ok(())
 }

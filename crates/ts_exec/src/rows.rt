@@ -1,7 +1,7 @@
 //! Adds points and parts to the rows of a group.
-ghost use Rattle.std.specs.Prelude.{◌≡◌, ◌∷◌, ◌+◌, ◌^◌, ◌≤◌, true, get_or, min, if◌then◌else◌};
+ghost use Rattle.std.specs.Prelude.{◌≡◌, ◌+◌, ◌^◌, ◌≤◌, ◌<ℤ◌, true, [], length, IfSome, IfNone, get_or, min, if◌then◌else◌};
 ghost use Rattle.ts_core.specs.aggregates.Aggregates.{empty_aggregate};
-ghost use Rattle.ts_exec.specs.RowParts.{IsRun, added, part_of_point, row_index_at, with_part, with_point_parts};
+ghost use Rattle.ts_exec.specs.RowParts.{AreMerged, IsRun, added, part_of_point, row_index_at, with_part, with_point_parts};
 
 use crate::buckets::{Buckets, Span};
 use crate::fold::Fold;
@@ -28,7 +28,7 @@ pub(crate) fn add_part(rows: &mut [Agg], row_index: usize, part: Agg)
     }
 }
 
-/// Returns true if the row with this index has room for a point and `others` more.
+/// Returns true if the row with this index can count a point and `others` more.
 pub(crate) fn can_add(rows: &[Agg], row_index: usize, others: u64) -> bool
     ensures { result ≡ true → (get_or rows.now row_index empty_aggregate).count + (others + 1) ≤ 2 ^ 62 }
 {
@@ -49,7 +49,7 @@ struct Run<F> {
     fold: F,
 }
 
-/// Returns the end of a run: that of its bucket, or of no time if the row has no room.
+/// Returns the end of a run: that of its bucket, or of no time if the row could exceed 2^62 points.
 fn end_of_run(span: &Span, can_grow: bool) -> i64
     ensures { result ≡ (if can_grow then span.now.high else span.now.low) }
 {
@@ -80,26 +80,128 @@ fn begin_run<F: Fold>(
     }
 }
 
-/// Adds points, each to the row of its bucket. Folds each run of points in one bucket, and merges it into its row.
-pub(crate) fn add_runs<F: Fold>(
-    rows: &mut [Agg],
+/// Begins a run by the first points, if they are a whole block in the bucket of `from`, and the row can count all
+/// points.
+fn first_block<F: Fold>(
+    rows: &[Agg],
     buckets: &mut Buckets,
-    first: (Time, i64),
-    others: Points<'_>,
-)
-    ensures value { rows.new ≡ with_point_parts F.parts buckets.old (first ∷ others.entry) rows.old }
+    from: i64,
+    points: &mut Points<'_>,
+) -> Option<Run<F>>
+    ensures run { IfSome result (λ run. IsRun buckets.old rows.now (length points.new) run.low run.high run.row_index (F.folded run.fold)) }
+    ensures value { IfSome result (λ run. with_point_parts F.parts buckets.old points.new (with_part run.row_index (F.folded run.fold) rows.now) ≡ with_point_parts F.parts buckets.old points.old rows.now) }
+    ensures none { IfNone result (points.new ≡ points.old) }
     ensures same { buckets.new ≡ buckets.old }
 {
     let _width = rows.len();
-    let count = others.len() as u64;
-    let mut run: Run<F> = begin_run(rows, buckets, first.0, first.1, count);
-    for (time, value) in others {
-        if run.low <= time.nanos() && time.nanos() < run.high {
-            run.fold = run.fold.with(time, value);
-        } else {
-            add_part(rows, run.row_index, run.fold.part());
-            run = begin_run(rows, buckets, time, value, count);
+    let span = buckets.span(from);
+    if !can_add(rows, span.row_index, points.len() as u64) {
+        return None;
+    }
+    let part = points.next_whole(span.low, span.high)?;
+    Some(Run {
+        low: span.low,
+        high: span.high,
+        row_index: span.row_index,
+        fold: F::of(part),
+    })
+}
+
+/// Begins a run by the first block or point, if there is one. The points should be at or after `from`, and the first in
+/// its bucket.
+fn first_run<F: Fold>(
+    rows: &[Agg],
+    buckets: &mut Buckets,
+    from: i64,
+    points: &mut Points<'_>,
+) -> Option<Run<F>>
+    ensures run { IfSome result (λ run. IsRun buckets.old rows.now (length points.new) run.low run.high run.row_index (F.folded run.fold)) }
+    ensures value { IfSome result (λ run. with_point_parts F.parts buckets.old points.new (with_part run.row_index (F.folded run.fold) rows.now) ≡ with_point_parts F.parts buckets.old points.old rows.now) }
+    ensures none { IfNone result (points.old ≡ []) }
+    ensures same { buckets.new ≡ buckets.old }
+{
+    let _width = rows.len();
+    if let Some(run) = first_block(rows, buckets, from, points) {
+        return Some(run);
+    }
+    let (time, value) = points.next()?;
+    Some(begin_run(rows, buckets, time, value, points.len() as u64))
+}
+
+/// Merges the next points into a fold while they are a whole block from `low`, inclusive, to `high`, exclusive.
+#[inline]
+fn with_blocks<F: Fold>(fold: F, low: i64, high: i64, points: &mut Points<'_>) -> F
+    requires { low <ℤ high → (F.folded fold).count + length points.old ≤ 2 ^ 62 }
+    ensures { AreMerged F.parts low high (F.folded fold) (F.folded result) points.old points.new }
+{
+    let mut fold = fold;
+    while let Some(part) = points.next_whole(low, high) {
+        fold = fold.with_part(part);
+    }
+    fold
+}
+
+/// Adds a point to a run, or merges the run into its row, and begins another with the point. At most `others` points
+/// are to come. Returns the run that has the point.
+#[inline]
+fn add_point<F: Fold>(
+    rows: &mut [Agg],
+    buckets: &mut Buckets,
+    run: Run<F>,
+    time: Time,
+    value: i64,
+    others: u64,
+) -> Run<F>
+    requires { IsRun buckets.old rows.old (others + 1) run.low run.high run.row_index (F.folded run.fold) }
+    ensures value { with_part result.row_index (F.folded result.fold) rows.new ≡ with_part (row_index_at buckets.old time) (part_of_point F.parts time value) (with_part run.row_index (F.folded run.fold) rows.old) }
+    ensures run { IsRun buckets.old rows.new others result.low result.high result.row_index (F.folded result.fold) }
+    ensures rows { length rows.new ≡ length rows.old }
+    ensures same { buckets.new ≡ buckets.old }
+{
+    let _width = rows.len();
+    if run.low <= time.nanos() && time.nanos() < run.high {
+        Run {
+            fold: run.fold.with(time, value),
+            ..run
         }
+    } else {
+        add_part(rows, run.row_index, run.fold.part());
+        begin_run(rows, buckets, time, value, others)
+    }
+}
+
+/// Adds points to a run and to the runs after it, and merges each run into its row.
+fn continue_run<F: Fold>(rows: &mut [Agg], buckets: &mut Buckets, run: Run<F>, points: Points<'_>)
+    requires { IsRun buckets.old rows.old (length points) run.low run.high run.row_index (F.folded run.fold) }
+    ensures value { rows.new ≡ with_point_parts F.parts buckets.old points.entry (with_part run.row_index (F.folded run.fold) rows.old) }
+    ensures same { buckets.new ≡ buckets.old }
+{
+    let _width = rows.len();
+    let mut run = run;
+    let mut points = points;
+    loop {
+        run.fold = with_blocks(run.fold, run.low, run.high, &mut points);
+        let Some((time, value)) = points.next() else {
+            break;
+        };
+        run = add_point(rows, buckets, run, time, value, points.len() as u64);
     }
     add_part(rows, run.row_index, run.fold.part());
+}
+
+/// Adds points, each to the row of its bucket. Folds each run of points in one bucket, and merges it into its row. The
+/// points should be at or after `from`.
+pub(crate) fn add_runs<F: Fold>(
+    rows: &mut [Agg],
+    buckets: &mut Buckets,
+    from: i64,
+    points: Points<'_>,
+)
+    ensures value { rows.new ≡ with_point_parts F.parts buckets.old points.entry rows.old }
+    ensures same { buckets.new ≡ buckets.old }
+{
+    let mut points = points;
+    if let Some(run) = first_run::<F>(rows, buckets, from, &mut points) {
+        continue_run(rows, buckets, run, points);
+    }
 }

@@ -1,5 +1,5 @@
 //! Slot of the group table: a group that may be empty.
-ghost use Rattle.std.specs.Prelude.{◌≡◌, ◌∷◌, ◌<◌, length, None, Some, OnOk, OnErr, option_map};
+ghost use Rattle.std.specs.Prelude.{◌≡◌, ◌<◌, length, None, Some, OnOk, OnErr, option_map};
 ghost use Rattle.ts_core.specs.queries.Answers.{group_cmp};
 ghost use Rattle.ts_store.specs.read.ViewResults.{points_at};
 ghost use Rattle.ts_exec.specs.Borrowed.{borrowed};
@@ -13,7 +13,7 @@ use crate::rows::add_part;
 use std::alloc::{AllocError, Allocator};
 use std::cmp::Ordering;
 use std::marker::Model;
-use ts_core::{Agg, Partial, Time};
+use ts_core::{Agg, Partial};
 use ts_raw::Points;
 use ts_store::View;
 
@@ -85,26 +85,24 @@ impl<'a, A: Allocator + Copy> Slot<'a, A> {
         Ok(())
     }
 
-    /// Adds the points of a range, which are `first` and then the others, each to the row of its bucket. Keeps these
-    /// parts of them.
+    /// Adds the points of a range, each to the row of its bucket. Keeps these parts of them.
     pub(crate) fn add_points<V: View<A>>(
         &mut self,
         parts: AggregateParts,
         width: usize,
         buckets: &mut Buckets,
         range: &ColumnRange<'_, V>,
-        first: (Time, i64),
-        others: Points<'_>,
+        points: Points<'_>,
     ) -> Result<(), AllocError>
         requires column { range.now.column < length (V.seen range.now.view.now).columns }
-        requires points { points_at (V.seen range.now.view.now).columns range.now.column range.now.from range.now.to ≡ first ∷ others }
-        ensures rows { OnOk result (self.new.1 ≡ Some (with_point_parts parts buckets.old (first ∷ others.entry) (rows_or width self.old.1))) }
+        requires points { points_at (V.seen range.now.view.now).columns range.now.column range.now.from range.now.to ≡ points }
+        ensures rows { OnOk result (self.new.1 ≡ Some (with_point_parts parts buckets.old points.entry (rows_or width self.old.1))) }
         ensures key { self.new.0 ≡ self.old.0 }
         ensures same { buckets.new ≡ buckets.old }
     {
         self.make_rows(width)?;
         if let Some(rows) = &mut self.rows {
-            add_points(rows.as_mut_slice(), parts, buckets, range, first, others);
+            add_points(rows.as_mut_slice(), parts, buckets, range, points);
         }
         Ok(())
     }

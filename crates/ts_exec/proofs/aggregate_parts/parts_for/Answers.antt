@@ -9,5 +9,5 @@ all_whole : (ps : List Projection) → list_all (λ (p : Projection). suffice Wh
 all_whole [] = refl
 all_whole (p ∷ ps) = all_whole ps
 
-pub returns-else-suffice_for_all-2 : goal.returns-else-suffice_for_all-2
-returns-else-suffice_for_all-2 g c = all_whole c.args.columns.now
+pub returns-else-suffice_for_all-3 : goal.returns-else-suffice_for_all-3
+returns-else-suffice_for_all-3 g c = all_whole c.args.columns.now

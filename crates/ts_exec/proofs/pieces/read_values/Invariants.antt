@@ -1,8 +1,8 @@
-use Rattle.std.proofs.Common.{◌≡◌, take}
+use Rattle.std.proofs.Common.{◌≡◌, ◌++◌, drop}
 use Rattle.ts_exec.specs.Borrowed.{borrowed}
-use Rattle.ts_core.specs.facts.Tags.{tag_values}
+use Rattle.ts_exec.specs.GroupTables.{group_values}
 use Rattle.ts_ql.specs.Selects.{texts}
 use Rattle.ts_exec.proofs.pieces.read_values.Given as goal
 
-abbrev pub invariant-loop-tag : goal.invariant-loop-tag
-invariant-loop-tag g l = borrowed l.values.items ≡ tag_values (texts (take l.tag-index l.tags)) l.key
+abbrev pub invariant-loop-column : goal.invariant-loop-column
+invariant-loop-column g l = borrowed l.values.items ++ group_values (texts l.tags) (drop l.column-index l.columns) ≡ group_values (texts l.tags) l.columns

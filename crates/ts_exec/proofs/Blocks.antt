@@ -1,0 +1,161 @@
+-- Blocks of points in one run: their aggregate merged at once is each point merged.
+use Rattle.std.proofs.Common.{◌≡◌, ℕ, ◌+◌, ◌<◌, ◌≤◌, ◌^◌, ℤ, ◌≤ℤ◌, ◌<ℤ◌, true, List, [], ◌∷◌, ◌++◌, length, length-append, get_or, min, append_assoc, refl, sym, ◌∙◌, ap, subst, arith, Option, Some, None}
+use Rattle.std.specs.List.{AllByRecursion}
+use Rattle.std.proofs.lemmas.Int.{ints}
+use Rattle.std.proofs.lemmas.List.Sums.{fold-append}
+use Rattle.ts_core.specs.facts.Facts.{is_within}
+use Rattle.ts_core.specs.declared.aggregates.aggregate.Extremes.{Extremes}
+use Rattle.ts_core.specs.aggregates.Aggregates.{Aggregate, empty_aggregate, aggregate_of_one, aggregate_of_points, merged, IsSound}
+use Rattle.ts_core.specs.aggregates.MergeLaws.{aggregate_laws}
+use Rattle.ts_core.specs.aggregates.SoundLaws.{sound_laws}
+use Rattle.ts_core.proofs.aggregates.Folds.{fold-count}
+use Rattle.ts_core.proofs.aggregates.RemaindersLemmas.{fold-possible}
+use Rattle.ts_core.proofs.queries.Boundaries.{within_parts}
+use Rattle.ts_raw.specs.Summaries.{IsFront}
+use Rattle.ts_exec.specs.declared.aggregate_parts.AggregateParts.{AggregateParts}
+use Rattle.ts_exec.specs.declared.aggregate_parts.AggregateParts.TheVariants.{CountAlone, CountAndSum, Bounds, Whole}
+use Rattle.ts_exec.specs.RowParts.{BucketGrid, IsRun, AreMerged, row_index_at, part_of, part_of_point, part_with, with_part, with_point_parts}
+use Rattle.ts_exec.proofs.Runs.{point_count, run-begun, run-first, run-joined, run-point}
+
+-- ---- the aggregate of some points
+
+pub sound-points : (ps : List (ℤ × ℤ)) → IsSound (aggregate_of_points ps)
+sound-points ps = fold-possible aggregate_laws sound_laws (λ (p : ℤ × ℤ). p.0) (λ (p : ℤ × ℤ). p.1) ps
+
+pub count-points : (ps : List (ℤ × ℤ)) → (aggregate_of_points ps).count ≡ length ps
+count-points ps = fold-count aggregate_laws (λ (p : ℤ × ℤ). aggregate_of_one p.0 p.1) (λ p. refl) ps
+
+alone : (a : Aggregate) → merged a empty_aggregate ≡ a
+alone a = aggregate_laws.comm a empty_aggregate ∙ aggregate_laws.unit a
+
+part_one : (parts : AggregateParts) (p : ℤ × ℤ) → part_of parts (aggregate_of_points (p ∷ [])) ≡ part_of_point parts p.0 p.1
+part_one CountAlone p = refl
+part_one CountAndSum p = ap (part_of CountAndSum) (alone (aggregate_of_one p.0 p.1))
+part_one Bounds p = ap (part_of Bounds) (alone (aggregate_of_one p.0 p.1))
+part_one Whole p = alone (aggregate_of_one p.0 p.1)
+
+part_more : (parts : AggregateParts) (p : ℤ × ℤ) (a : Aggregate) → part_of parts (merged (aggregate_of_one p.0 p.1) a) ≡ merged (part_of_point parts p.0 p.1) (part_of parts a)
+part_more CountAlone p a = refl
+part_more CountAndSum p a = refl
+part_more Bounds p a =
+    elim a.extremes as (λ (x : Option Extremes). part_of Bounds (merged (aggregate_of_one p.0 p.1) (record { count = a.count; sum = a.sum; extremes = x }))
+    ≡ merged (part_of_point Bounds p.0 p.1) (part_of Bounds (record { count = a.count; sum = a.sum; extremes = x }))) [ None ↦ refl | Some e ↦ refl ]
+part_more Whole p a = refl
+
+-- at least one point merged at once, or one by one
+pub points-at_once : (parts : AggregateParts) (a : Aggregate) (ps : List (ℤ × ℤ)) → 0 < length ps → merged a (part_of parts (aggregate_of_points ps)) ≡ part_with parts a ps
+points-at_once parts a [] some = absurd (omega arith)
+points-at_once parts a (p ∷ []) some = ap (merged a) (part_one parts p)
+points-at_once parts a (p ∷ q ∷ ps) some =
+    let rest : Aggregate = aggregate_of_points (q ∷ ps) in
+    ap (merged a) (part_more parts p rest)
+    ∙ sym (aggregate_laws.assoc a (part_of_point parts p.0 p.1) (part_of parts rest))
+    ∙ points-at_once parts (merged a (part_of_point parts p.0 p.1)) (q ∷ ps) (omega arith)
+
+points_whole : (parts : AggregateParts) (p : ℤ × ℤ) (ps : List (ℤ × ℤ)) → part_of parts (aggregate_of_points (p ∷ ps)) ≡ part_with parts (part_of_point parts p.0 p.1) ps
+points_whole parts p [] = part_one parts p
+points_whole parts p (q ∷ ps) = part_more parts p (aggregate_of_points (q ∷ ps)) ∙ points-at_once parts (part_of_point parts p.0 p.1) (q ∷ ps) (omega arith)
+
+pub merged-none : (parts : AggregateParts) (low high : ℤ) (part : Aggregate) (ps : List (ℤ × ℤ)) → AreMerged parts low high part part ps ps
+merged-none parts low high part ps = record { first = []; points = refl; within = tt; merged = refl }
+
+merged_count : (parts : AggregateParts) (part : Aggregate) (ps : List (ℤ × ℤ)) → (part_with parts part ps).count ≡ part.count + length ps
+merged_count parts part [] = omega arith
+merged_count parts part (p ∷ ps) =
+    let one = point_count parts p.0 p.1 in
+    let rest = merged_count parts (merged part (part_of_point parts p.0 p.1)) ps in
+    omega arith
+
+pub all_append : {X : Type 0} (P : X → Type 0) (xs ys : List X) → AllByRecursion P xs → AllByRecursion P ys → AllByRecursion P (xs ++ ys)
+all_append P [] ys h k = k
+all_append P (x ∷ xs) ys h k = (h.0, all_append P xs ys h.1 k)
+
+-- ---- one more block
+
+module _ (low high : ℤ) (before left : List (ℤ × ℤ)) (a : Aggregate) (front : IsFront low high before left a) where
+  pub front-some : 0 < a.count
+  front-some =
+      let some = front.some in
+      let count : a.count ≡ length front.block = ap (λ (x : Aggregate). x.count) front.summary ∙ count-points front.block in
+      omega arith
+
+  pub front-sound : IsSound a
+  front-sound = subst IsSound (sym front.summary) (sound-points front.block)
+
+  front_range : low <ℤ high
+  front_range = range front.block front.some front.within
+    where
+      range : (ps : List (ℤ × ℤ)) → 0 < length ps → AllByRecursion (λ (p : ℤ × ℤ). is_within low high p.0 ≡ true) ps → low <ℤ high
+      range [] some inside = absurd (omega arith)
+      range (p ∷ ps) some inside = let here = within_parts low high p.0 inside.0 in let l = here.0 in let h = here.1 in omega (arith, ints)
+
+  module _ (parts : AggregateParts) (part next : Aggregate) (all : List (ℤ × ℤ)) (m : AreMerged parts low high part next all before) where
+    pub front-few : (low <ℤ high → part.count + length all ≤ 2 ^ 62) → next.count + a.count ≤ 2 ^ 62
+    front-few few =
+        let fits = few front_range in
+        let count : a.count ≡ length front.block = ap (λ (x : Aggregate). x.count) front.summary ∙ count-points front.block in
+        let own : next.count ≡ part.count + length m.first = ap (λ (x : Aggregate). x.count) m.merged ∙ merged_count parts part m.first in
+        let long : length all ≡ length m.first + length before = ap (λ (ps : List (ℤ × ℤ)). length ps) m.points ∙ length-append m.first before in
+        let rest : length before ≡ length front.block + length left = ap (λ (ps : List (ℤ × ℤ)). length ps) front.split ∙ length-append front.block left in
+        omega arith
+
+    pub front-merged : AreMerged parts low high part (merged next (part_of parts a)) all left
+    front-merged = record {
+      first = m.first ++ front.block;
+      points = m.points ∙ ap (λ (ps : List (ℤ × ℤ)). m.first ++ ps) front.split ∙ sym (append_assoc m.first front.block left);
+      within = all_append (λ (p : ℤ × ℤ). is_within low high p.0 ≡ true) m.first front.block m.within front.within;
+      merged = ap (λ (x : Aggregate). merged next (part_of parts x)) front.summary
+          ∙ points-at_once parts next front.block front.some
+          ∙ ap (λ (x : Aggregate). part_with parts x front.block) m.merged
+          ∙ sym (fold-append (λ (b : Aggregate) (p : ℤ × ℤ). merged b (part_of_point parts p.0 p.1)) part m.first front.block);
+    }
+
+-- ---- points of a run
+
+points_of_run : (parts : AggregateParts) (g : BucketGrid) (rows : List Aggregate) (low high : ℤ) (row_index : ℕ) (ps left : List (ℤ × ℤ)) (part : Aggregate)
+    → length rows ≤ 18446744073709551615 → AllByRecursion (λ (p : ℤ × ℤ). is_within low high p.0 ≡ true) ps → IsRun g rows (length (ps ++ left)) low high row_index part
+    → (with_point_parts parts g left (with_part row_index (part_with parts part ps) rows) ≡ with_point_parts parts g (ps ++ left) (with_part row_index part rows)) × IsRun g rows (length left) low high row_index (part_with parts part ps)
+points_of_run parts g rows low high row_index [] left part short inside run = (refl, run)
+points_of_run parts g rows low high row_index (p ∷ ps) left part short inside run =
+    let here = within_parts low high p.0 inside.0 in
+    let more : Aggregate = merged part (part_of_point parts p.0 p.1) in
+    let rest = points_of_run parts g rows low high row_index ps left more short inside.1 (run-joined parts p.0 p.1 g rows (length (ps ++ left)) low high row_index part run here.0 here.1) in (
+      rest.0 ∙ ap (λ (r : List Aggregate). with_point_parts parts g (ps ++ left) r) (run-point parts p.0 p.1 g rows (length (ps ++ left)) low high row_index part short run here.0 here.1),
+      rest.1,
+    )
+
+-- points merged into a run's part, which is then merged into its row, are points merged into their rows
+pub run-merged : (parts : AggregateParts) (g : BucketGrid) (rows : List Aggregate) (low high : ℤ) (row_index : ℕ) (part next : Aggregate) (all left : List (ℤ × ℤ))
+    → length rows ≤ 18446744073709551615 → AreMerged parts low high part next all left → IsRun g rows (length all) low high row_index part
+    → (with_point_parts parts g left (with_part row_index next rows) ≡ with_point_parts parts g all (with_part row_index part rows)) × IsRun g rows (length left) low high row_index next
+run-merged parts g rows low high row_index part next all left short m run =
+    let both = points_of_run parts g rows low high row_index m.first left part short m.within (subst (λ (ps : List (ℤ × ℤ)). IsRun g rows (length ps) low high row_index part) m.points run) in (
+      ap (λ (a : Aggregate). with_point_parts parts g left (with_part row_index a rows)) m.merged ∙ both.0 ∙ sym (ap (λ (ps : List (ℤ × ℤ)). with_point_parts parts g ps (with_part row_index part rows)) m.points),
+      subst (λ (a : Aggregate). IsRun g rows (length left) low high row_index a) (sym m.merged) both.1,
+    )
+
+-- ---- a run that begins by a block
+
+pub front-first : (parts : AggregateParts) (g : BucketGrid) (rows : List Aggregate) (low high : ℤ) (row_index : ℕ) (before left : List (ℤ × ℤ)) (a : Aggregate) → length rows ≤ 18446744073709551615
+    → ((t : ℤ) → low ≤ℤ t → t <ℤ high → row_index ≡ min (row_index_at g t) 18446744073709551615) → (get_or rows row_index empty_aggregate).count + (length before + 1) ≤ 2 ^ 62 → IsFront low high before left a
+    → (with_point_parts parts g left (with_part row_index (part_of parts a) rows) ≡ with_point_parts parts g before rows) × IsRun g rows (length left) low high row_index (part_of parts a)
+front-first parts g rows low high row_index before left a short within bounded front =
+    let first = first_points front.block front.some front.within (subst (λ (ps : List (ℤ × ℤ)). (get_or rows row_index empty_aggregate).count + (length ps + 1) ≤ 2 ^ 62) front.split bounded) in
+    let part : part_of parts a ≡ part_of parts (aggregate_of_points front.block) = ap (part_of parts) front.summary in (
+      ap (λ (x : Aggregate). with_point_parts parts g left (with_part row_index x rows)) part ∙ first.0 ∙ sym (ap (λ (ps : List (ℤ × ℤ)). with_point_parts parts g ps rows) front.split),
+      subst (λ (x : Aggregate). IsRun g rows (length left) low high row_index x) (sym part) first.1,
+    )
+  where
+    first_points : (ps : List (ℤ × ℤ)) → 0 < length ps → AllByRecursion (λ (p : ℤ × ℤ). is_within low high p.0 ≡ true) ps → (get_or rows row_index empty_aggregate).count + (length (ps ++ left) + 1) ≤ 2 ^ 62
+        → (with_point_parts parts g left (with_part row_index (part_of parts (aggregate_of_points ps)) rows) ≡ with_point_parts parts g (ps ++ left) rows) × IsRun g rows (length left) low high row_index (part_of parts (aggregate_of_points ps))
+    first_points [] some inside fits = absurd (omega arith)
+    first_points (p ∷ ps) some inside fits =
+        let here = within_parts low high p.0 inside.0 in
+        let one : Aggregate = part_of_point parts p.0 p.1 in
+        let begun : IsRun g rows (length (ps ++ left)) low high row_index one = run-begun parts p.0 p.1 g rows (length (ps ++ left)) low high row_index one true within (λ e. omega arith) refl in
+        let both = points_of_run parts g rows low high row_index ps left one short inside.1 begun in
+        let whole : part_of parts (aggregate_of_points (p ∷ ps)) ≡ part_with parts one ps = points_whole parts p ps in (
+          ap (λ (x : Aggregate). with_point_parts parts g left (with_part row_index x rows)) whole ∙ both.0
+              ∙ ap (λ (r : List Aggregate). with_point_parts parts g (ps ++ left) r) (run-first parts p.0 p.1 g rows row_index one short (within p.0 here.0 here.1) refl),
+          subst (λ (x : Aggregate). IsRun g rows (length left) low high row_index x) (sym whole) both.1,
+        )
