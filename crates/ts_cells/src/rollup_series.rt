@@ -83,7 +83,7 @@ pub(crate) fn hash_rollup_series(field: &str, group: &[&str]) -> u64
 }
 
 /// Compares two lists of texts lexicographically, each text by its bytes.
-fn compare_texts<A: Allocator>(texts: &[String<A>], others: &[&str]) -> Ordering
+fn compare_strings<A: Allocator>(texts: &[String<A>], others: &[&str]) -> Ordering
     ensures { result ≡ slice_cmp text_cmp (map string_bytes texts.now) (borrowed_texts others.now) }
 {
     match (texts.split_first(), others.split_first()) {
@@ -91,7 +91,7 @@ fn compare_texts<A: Allocator>(texts: &[String<A>], others: &[&str]) -> Ordering
         (None, Some(_)) => Ordering::Less,
         (Some(_), None) => Ordering::Greater,
         (Some((text, texts)), Some((other, others))) => match text.as_str().cmp(other) {
-            Ordering::Equal => compare_texts(texts, others),
+            Ordering::Equal => compare_strings(texts, others),
             order => order,
         },
     }
@@ -126,12 +126,12 @@ impl<A: Allocator + Copy> RollupSeries<A> {
         ensures { result ≡ rollup_series_cmp self.now (rollup_series_named field.now group.now) }
     {
         match self.field.as_str().cmp(&field) {
-            Ordering::Equal => compare_texts(self.group.as_slice(), group),
+            Ordering::Equal => compare_strings(self.group.as_slice(), group),
             order => order,
         }
     }
     /// Returns true if this is the rollup series of a field and a group.
-    pub(crate) fn is(&self, field: &str, group: &[&str]) -> bool
+    pub(crate) fn matches(&self, field: &str, group: &[&str]) -> bool
         ensures { IsTrue result ↔ (self.now ≡ rollup_series_named field.now group.now) }
     {
         self.compare(field, group).is_eq()

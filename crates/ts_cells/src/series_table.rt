@@ -102,7 +102,7 @@ impl<A: Allocator + Copy> RollupSeriesTable<A> {
         let mut next = self.chains.newest(hash_rollup_series(field, group));
         while let Some(at) = next {
             let series = &self.series_list[at as usize];
-            if series.is(field, group) {
+            if series.matches(field, group) {
                 return Some(at);
             }
             next = self.chains.older(at);

@@ -105,7 +105,7 @@ impl<A: Allocator> SlotMap<A> {
     }
 
     /// Sets the position of a rollup series' cell. On allocation failure, all positions stay.
-    pub(crate) fn put(&mut self, series: u32, slot: u32) -> Result<(), AllocError>
+    pub(crate) fn insert(&mut self, series: u32, slot: u32) -> Result<(), AllocError>
         ensures ok { OnOk result ((j : ℕ) → slot_of self.new j ≡ (if j == series then slot else slot_of self.old j)) }
         ensures err { OnErr result ((j : ℕ) → slot_of self.new j ≡ slot_of self.old j) }
         ensures len { length self.new ≤ max (length self.old) (series + 1) }

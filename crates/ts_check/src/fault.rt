@@ -10,7 +10,7 @@ use ts_core::{Fault, FaultDetail, push_all};
 
 /// Error in a plan of a query.
 #[derive(Clone, Copy, Debug, PartialEq, Eq, Error)]
-#[error("{}, at piece {piece}", .kind.code().words())]
+#[error("{}, at piece {piece}", .kind.code().message())]
 pub struct CheckFault {
     /// Kind of error.
     pub kind: Fault,

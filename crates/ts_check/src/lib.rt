@@ -19,20 +19,20 @@
 mod certificate;
 mod certificate_fault;
 mod checked;
+mod coverage;
 mod fault;
 mod query_context;
 mod read;
 mod rule_name;
-mod serves;
 mod valid;
 mod write;
 
 pub use certificate::{Certificate, Piece, PieceSource};
 pub use certificate_fault::{CertificateFault, ReadCertificateError};
 pub use checked::{Checked, check};
+pub use coverage::{is_aligned, keeps_tags};
 pub use fault::{CheckError, CheckFault};
 pub use query_context::{MarkedRule, QueryContext};
 pub use read::read_certificate;
 pub use rule_name::RuleName;
-pub use serves::{divides, keeps_tags};
 pub use write::write_certificate;

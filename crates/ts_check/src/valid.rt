@@ -6,8 +6,8 @@ ghost use Rattle.ts_core.specs.store.Marks.{index_of};
 ghost use Rattle.ts_core.specs.plans.Faults.{rule_fault, piece_fault, gap_at, pieces_fault, first_fault};
 
 use crate::certificate::{Piece, PieceSource};
+use crate::coverage::{is_aligned_in, is_boundary, keeps_tags};
 use crate::query_context::{MarkedRule, QueryContext};
-use crate::serves::{fits, is_boundary, keeps_tags};
 use std::alloc::Allocator;
 use ts_core::{Fault, Marks, Settings, index_of};
 use ts_ql::Query;
@@ -43,7 +43,7 @@ fn rule_fault<A: Allocator>(
     if !is_whole(marked, from) {
         return Some(Fault::BelowLow);
     }
-    if !fits(rule, query, from, to) {
+    if !is_aligned_in(rule, query, from, to) {
         return Some(Fault::Straddles);
     }
     if !keeps_tags(rule, query) {

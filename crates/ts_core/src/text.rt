@@ -4,7 +4,7 @@ mod cursor;
 mod decimal;
 mod fault_code;
 mod fault_text;
-pub(crate) mod texts;
+pub(crate) mod strings;
 
 pub use cursor::{after, byte_at};
 pub use decimal::{after_minus, are_digits, is_number, whole};

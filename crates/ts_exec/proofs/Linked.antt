@@ -35,7 +35,7 @@ use Rattle.ts_core.proofs.aggregates.Folds.{fold-append}
 use Rattle.ts_store.specs.read.ViewResults.{ColumnRef, column_refs_from, column_refs_where, no_points, points_at, SeenCell, with_parts, cells_within}
 use Rattle.ts_exec.specs.declared.aggregate_parts.AggregateParts.TheVariants.{Whole}
 use Rattle.ts_exec.specs.RowParts.{bucket_grid, row_index_at}
-use Rattle.ts_exec.specs.GroupTables.{Table, IsGroupTable, width, with_column_parts, with_cell_part, with_column_ref, with_column_refs, is_cell_taken, with_cell_parts, with_rule, with_source, with_pieces}
+use Rattle.ts_exec.specs.GroupTables.{Table, IsGroupTable, width, with_column_parts, with_cell_part, with_column_ref, with_column_refs, is_cell_taken, with_cell_parts, with_rule_cells, with_source, with_pieces}
 use Rattle.ts_exec.specs.Shares.{Share, group_in, with_shares, is_share, total_at, point_share, column_ref_shares, column_refs_shares, cell_share, rule_shares, source_shares, pieces_shares}
 use Rattle.ts_exec.proofs.Shares.{shares-table, shares-append, column-shares}
 
@@ -66,7 +66,7 @@ module _ (q : Query) (a b : ℤ) where
         | false ↦ cells_put r cs t
       ]
 
-  rule_put : (o : Option RuleCells) (t : Table) → with_rule q a b o t ≡ with_shares (width q) (rule_shares q a b o) t
+  rule_put : (o : Option RuleCells) (t : Table) → with_rule_cells q a b o t ≡ with_shares (width q) (rule_shares q a b o) t
   rule_put None t = refl
   rule_put (Some r) t = cells_put r.rule (cells_within r (index_of r.rule a) (index_of r.rule b)) t
 

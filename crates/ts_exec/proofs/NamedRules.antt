@@ -9,7 +9,7 @@ use Rattle.ts_core.specs.plans.Assembly.{rule_shown}
 use Rattle.ts_core.specs.store.StoreStates.{RuleCells, rule_of}
 use Rattle.ts_store.specs.read.ViewResults.{no_rule, cells_within, view_cells_at}
 use Rattle.ts_exec.specs.FirstOf.{rule_from}
-use Rattle.ts_exec.specs.GroupTables.{Table, with_cell_parts, with_rule}
+use Rattle.ts_exec.specs.GroupTables.{Table, with_cell_parts, with_rule_cells}
 
 -- the rule of that number is shown, with its cells
 pub record IsShownAt (name : Text) (shown : List RuleCells) (number : ℕ) (rule : Rule) : Type 0 where
@@ -52,9 +52,9 @@ found-shown name shown number rule e =
 
 -- its cells are put
 pub found-put : (q : Query) (a b : ℤ) (t : Table) (name : Text) (shown : List RuleCells) (number : ℕ) (rule : Rule) → IsShownAt name shown number rule
-    → with_cell_parts q rule a b (view_cells_at shown number (index_of rule a) (index_of rule b)) t ≡ with_rule q a b (rule_shown name shown) t
+    → with_cell_parts q rule a b (view_cells_at shown number (index_of rule a) (index_of rule b)) t ≡ with_rule_cells q a b (rule_shown name shown) t
 found-put q a b t name shown number rule s =
-    sym (ap (λ o. with_rule q a b o t) s.found ∙ ap (λ r. with_cell_parts q r a b (cells_within (get_or shown number no_rule) (index_of r a) (index_of r b)) t) s.is)
+    sym (ap (λ o. with_rule_cells q a b o t) s.found ∙ ap (λ r. with_cell_parts q r a b (cells_within (get_or shown number no_rule) (index_of r a) (index_of r b)) t) s.is)
 
 pub none-shown : (name : Text) (shown : List RuleCells) (from : ℕ) → rule_from name from (map rule_of shown) ≡ None → rule_shown name shown ≡ None
 none-shown name [] from e = refl

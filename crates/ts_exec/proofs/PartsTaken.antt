@@ -30,7 +30,7 @@ use Rattle.ts_exec.specs.declared.aggregate_parts.AggregateParts.{AggregateParts
 use Rattle.ts_exec.specs.declared.aggregate_parts.AggregateParts.TheVariants.{CountAlone, CountAndSum, Bounds, Whole}
 use Rattle.ts_exec.specs.Answered.{HasRows}
 use Rattle.ts_exec.specs.RowParts.{BucketGrid, bucket_grid, added, row_index_at, with_part, bounds_of, part_of, part_of_point, with_point_parts}
-use Rattle.ts_exec.specs.GroupTables.{Table, rows_or, rows_for, width, with_cell_part, with_column_parts, with_column_ref, with_column_refs, is_cell_taken, with_cell, with_cell_parts, with_rule, with_source, with_pieces, rows_from, group_with, given}
+use Rattle.ts_exec.specs.GroupTables.{Table, rows_or, rows_for, width, with_cell_part, with_column_parts, with_column_ref, with_column_refs, is_cell_taken, with_rule_cell, with_cell_parts, with_rule_cells, with_source, with_pieces, rows_from, group_with, given}
 use Rattle.ts_exec.specs.Selections.{suffice, HaveSameValues}
 use Rattle.ts_exec.proofs.Given.{given-rows}
 
@@ -195,7 +195,7 @@ module _ (parts : AggregateParts) where
     same_column_refs cs [] t u e = e
     same_column_refs cs (s ∷ ss) t u e = same_column_refs cs ss _ _ (same_column_ref cs s t u e)
 
-    same_cell : (r : Rule) (c : SeenCell) (t u : Table) → AreSame t u → AreSame (with_cell q r a b c t) (with_cell q r a b c u)
+    same_cell : (r : Rule) (c : SeenCell) (t u : Table) → AreSame t u → AreSame (with_rule_cell q r a b c t) (with_rule_cell q r a b c u)
     same_cell r c t u e =
         let g : List Text = group_of q (representative r c.cell) in
         let i : ℕ = row_index_at (bucket_grid q) (start_of r c.cell.index) in
@@ -208,7 +208,7 @@ module _ (parts : AggregateParts) where
     same_cells r [] t u e = e
     same_cells r (c ∷ cs) t u e = same_cells r cs _ _ (same_cell r c t u e)
 
-    same_rule : (o : Option RuleCells) (t u : Table) → AreSame t u → AreSame (with_rule q a b o t) (with_rule q a b o u)
+    same_rule : (o : Option RuleCells) (t u : Table) → AreSame t u → AreSame (with_rule_cells q a b o t) (with_rule_cells q a b o u)
     same_rule None t u e = e
     same_rule (Some r) t u e = same_cells r.rule (cells_within r (index_of r.rule a) (index_of r.rule b)) t u e
 

@@ -87,25 +87,25 @@ pub record IsNarrowing (conditions : List Condition) (c : Condition) : Type 0 wh
 abbrev pub is_cell_taken : Query → Rule → ℤ → ℤ → SeenCell → Bool
 is_cell_taken q r a b c = (matches q (representative r c.cell) && is_within a b (start_of r c.cell.index)) && not ((total_in c.parts).count == 0)
 
-abbrev pub with_cell : Query → Rule → ℤ → ℤ → SeenCell → Table → Table
-with_cell q r a b c t =
+abbrev pub with_rule_cell : Query → Rule → ℤ → ℤ → SeenCell → Table → Table
+with_rule_cell q r a b c t =
     if is_cell_taken q r a b c
     then with_cell_part (width q) (group_of q (representative r c.cell)) (row_index_at (bucket_grid q) (start_of r c.cell.index)) (total_in c.parts) t
     else t
 
 abbrev pub with_cell_parts : Query → Rule → ℤ → ℤ → List SeenCell → Table → Table
 with_cell_parts q r a b [] t = t
-with_cell_parts q r a b (c ∷ cs) t = with_cell_parts q r a b cs (with_cell q r a b c t)
+with_cell_parts q r a b (c ∷ cs) t = with_cell_parts q r a b cs (with_rule_cell q r a b c t)
 
-abbrev pub with_rule : Query → ℤ → ℤ → Option RuleCells → Table → Table
-with_rule q a b None t = t
-with_rule q a b (Some r) t = with_cell_parts q r.rule a b (cells_within r (index_of r.rule a) (index_of r.rule b)) t
+abbrev pub with_rule_cells : Query → ℤ → ℤ → Option RuleCells → Table → Table
+with_rule_cells q a b None t = t
+with_rule_cells q a b (Some r) t = with_cell_parts q r.rule a b (cells_within r (index_of r.rule a) (index_of r.rule b)) t
 
 -- ---- pieces
 
 abbrev pub with_source : AggregateParts → ViewState → Query → Source → ℤ → ℤ → Table → Table
 with_source parts seen q Raw a b t = with_column_refs parts q seen.columns a b (column_refs_where (is_of q.measurement q.field) seen.columns) t
-with_source parts seen q (Rollup name) a b t = with_rule q a b (rule_shown name seen.rules) t
+with_source parts seen q (Rollup name) a b t = with_rule_cells q a b (rule_shown name seen.rules) t
 
 abbrev pub with_pieces : AggregateParts → ViewState → Query → List Piece → Table → Table
 with_pieces parts seen q [] t = t

@@ -80,7 +80,7 @@ impl Fold for Bounded {
         self.merge(<Bounded as Fold>::single(time, value))
     }
 
-    fn of(part: Agg) -> Bounded {
+    fn from_agg(part: Agg) -> Bounded {
         match (part.min(), part.max()) {
             (Some(min), Some(max)) => Bounded {
                 count: part.count(),
@@ -93,7 +93,7 @@ impl Fold for Bounded {
     }
 
     fn with_part(self, part: Agg) -> Bounded {
-        self.merge(<Bounded as Fold>::of(part))
+        self.merge(<Bounded as Fold>::from_agg(part))
     }
 
     fn part(self) -> Agg {

@@ -30,7 +30,7 @@ fn add_count(rows: &mut [Agg], row_index: usize, count: u64)
     ensures { rows.new ≡ with_counted row_index count rows.old }
 {
     if count > 0 {
-        add_part(rows, row_index, Counted::of(count).part());
+        add_part(rows, row_index, Counted::new(count).part());
     }
 }
 

@@ -55,7 +55,7 @@ fn groups_selected<'a, A: Allocator + Copy + 'a, V: View<A> + 'a>(
 pub(crate) fn is_fresh<A: Allocator, V: View<A>>(view: &V, checked: &Checked<A>) -> bool
     ensures { IsTrue result ↔ IsCurrent (V.seen view.now) checked.now }
 {
-    view.settings().is(checked.settings()) && view.marks().is(checked.marks())
+    view.settings().equals(checked.settings()) && view.marks().equals(checked.marks())
 }
 
 /// Executes a checked plan over a view. If the view shows a history, the result is the answer over all points ever

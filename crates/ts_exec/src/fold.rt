@@ -24,7 +24,7 @@ pub(crate) trait Fold: Copy {
         ensures { folded result ≡ merged (folded self) (part_of_point parts time value) };
 
     /// Returns the fold of some points by their aggregate.
-    fn of(part: Agg) -> Self
+    fn from_agg(part: Agg) -> Self
         requires some { 0 < part.count }
         requires sound { IsSound part }
         requires few { part.count ≤ 2 ^ 62 }
@@ -87,7 +87,7 @@ impl Model for Counted {
 
 impl Counted {
     /// Creates the count of this many points.
-    pub(crate) fn of(count: u64) -> Counted
+    pub(crate) fn new(count: u64) -> Counted
         requires some { 0 < count }
         requires few { count ≤ 2 ^ 62 }
         ensures { result ≡ count_part count }
@@ -111,7 +111,7 @@ impl Fold for Counted {
         }
     }
 
-    fn of(part: Agg) -> Counted {
+    fn from_agg(part: Agg) -> Counted {
         Counted {
             count: part.count(),
         }
@@ -184,7 +184,7 @@ impl Fold for Summed {
         }
     }
 
-    fn of(part: Agg) -> Summed {
+    fn from_agg(part: Agg) -> Summed {
         Summed {
             count: part.count(),
             sum: sum_of(&part),
@@ -219,7 +219,7 @@ impl Fold for Agg {
         self.merge(<Agg as Partial>::single(time, value))
     }
 
-    fn of(part: Agg) -> Agg {
+    fn from_agg(part: Agg) -> Agg {
         part
     }
 

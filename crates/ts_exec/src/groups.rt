@@ -79,7 +79,7 @@ fn is_at<A: Allocator + Copy>(slots: &[Slot<'_, A>], at: usize, values: &[&str])
 }
 
 /// Inserts an empty group at its slot.
-fn put<'a, A: Allocator + Copy>(
+fn insert_group<'a, A: Allocator + Copy>(
     slots: &mut Vec<Slot<'a, A>, A>,
     at: usize,
     values: Vec<&'a str, A>,
@@ -110,7 +110,7 @@ fn slot_of<'a, A: Allocator + Copy>(
         Ok(at) => Ok(at),
         Err(at) => {
             let values = Vec::from_slice(*slots.allocator(), values)?;
-            put(slots, at, values)?;
+            insert_group(slots, at, values)?;
             Ok(at)
         }
     }

@@ -11,7 +11,7 @@ ghost use Rattle.ts_ql.specs.Selects.{texts};
 ghost use Rattle.ts_store.specs.read.ViewResults.{view_cells_at};
 ghost use Rattle.ts_exec.specs.FirstOf.{rule_from};
 ghost use Rattle.ts_exec.specs.Borrowed.{borrowed};
-ghost use Rattle.ts_exec.specs.GroupTables.{group_values, with_cell, with_cell_parts, with_source, with_pieces, is_cell_taken};
+ghost use Rattle.ts_exec.specs.GroupTables.{group_values, with_rule_cell, with_cell_parts, with_source, with_pieces, is_cell_taken};
 
 use crate::aggregate_parts::AggregateParts;
 use crate::buckets::{Buckets, width};
@@ -283,7 +283,7 @@ fn add_cell<'a, A: Allocator + Copy>(
 ) -> Result<(), AllocError>
     requires interval { pos 1 ≤ℤ rule.now.interval }
     requires within { is_within (index_of rule.now from) (index_of rule.now to) cell.cell.index ≡ true }
-    ensures value { OnOk result (groups.new ≡ with_cell scan.old rule.now from to cell.entry groups.old) }
+    ensures value { OnOk result (groups.new ≡ with_rule_cell scan.old rule.now from to cell.entry groups.old) }
     ensures same { scan.new ≡ scan.old }
 {
     let _interval = scan.query.interval();

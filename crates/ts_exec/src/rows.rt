@@ -103,7 +103,7 @@ fn first_block<F: Fold>(
         low: span.low,
         high: span.high,
         row_index: span.row_index,
-        fold: F::of(part),
+        fold: F::from_agg(part),
     })
 }
 

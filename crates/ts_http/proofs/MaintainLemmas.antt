@@ -5,7 +5,7 @@ use Rattle.std.proofs.Math.Nat.{min-eq_left, min-eq_right}
 use Rattle.ts_core.specs.facts.Facts.{Text}
 use Rattle.ts_core.specs.store.History.{History, Begin, Step}
 use Rattle.ts_core.specs.store.Marks.{marks_of}
-use Rattle.ts_core.specs.moves.Runs.{steps_left, turns_left}
+use Rattle.ts_core.specs.moves.Runs.{steps_left, batches_left}
 use Rattle.ts_core.specs.store.StoreStates.{StandsFor}
 use Rattle.ts_core.specs.store.StoreData.{StoreData, state_of, OfEachHistory, GoesOn}
 use Rattle.ts_core.specs.moves.StoreMoves.{run_begun}
@@ -42,8 +42,8 @@ opens now s k begins i = opens_by now s k k.running refl begins i
 
 -- ---- steps
 
-left_of_open : (k : StoreData) → k.running ≡ true → steps_left (state_of k) ≡ length k.waiting + turns_left (state_of k).rules + 1
-left_of_open k e = ap (λ b. cond b (length k.waiting + turns_left (state_of k).rules + 1) 0) e
+left_of_open : (k : StoreData) → k.running ≡ true → steps_left (state_of k) ≡ length k.waiting + batches_left (state_of k).rules + 1
+left_of_open k e = ap (λ b. cond b (length k.waiting + batches_left (state_of k).rules + 1) 0) e
 
 all_taken : (n left : ℕ) (h : History) → n < left → stepped n left h ≡ steps_taken n h
 all_taken n left h few = ap (λ b. cond b (steps_taken n h) (Step true ∷ steps_taken (left - 1) h)) (lt-ltb n left few)

@@ -17,7 +17,7 @@ use Rattle.ts_http.specs.Heads.{IsWholeHead, ReadsHead, Nothing}
 use Rattle.ts_http.specs.HeadsRead.{request_of}
 use Rattle.ts_http.specs.Requests.{path_of, target_query, route_of, method_of, fields_of, refused, body_length}
 use Rattle.ts_http.specs.Requested.{Refuses, Wants, Asks, is_head, route_in, method_in, refused_in, is_taken}
-use Rattle.ts_http.specs.Served.{Serves, IsServed, request_turns}
+use Rattle.ts_http.specs.Served.{Serves, IsServed, request_reads}
 use Rattle.ts_http.specs.ServeSteps.{ActedOn, IsSent}
 use Rattle.ts_http.specs.declared.refusal.Refusal.{Refusal}
 use Rattle.ts_http.specs.declared.refusal.Refusal.TheVariants as refusals
@@ -137,7 +137,7 @@ failed_by f = Err f
 not_writer : failed_by Reader ≡ failed_by Writer → ⊥
 not_writer e = absurd cc
 
-pub read_failed : (now : ℤ) (old new : StoreData) (source source' : Input) (sink : Output) (result : Result Served IoFault) → result ≡ Err Reader → new ≡ old → source'.failures ≡ source.failures + 1 → source'.turns ≤ source.turns + request_turns
+pub read_failed : (now : ℤ) (old new : StoreData) (source source' : Input) (sink : Output) (result : Result Served IoFault) → result ≡ Err Reader → new ≡ old → source'.failures ≡ source.failures + 1 → source'.reads ≤ source.reads + request_reads
     → IsServed now old source sink result new source' sink
 read_failed now old new source source' sink result e same f t = subst (λ (r : Result Served IoFault). IsServed now old source sink r new source' sink) (sym e) record {
   answered = tt;
@@ -145,10 +145,10 @@ read_failed now old new source source' sink result e same f t = subst (λ (r : R
   unread = λ _. (same, refl);
   reader = f;
   writer = omega arith;
-  turns = t;
+  reads = t;
 }
 
-pub nothing_served : (now : ℤ) (old : StoreData) (source source' : Input) (sink : Output) (came : Text) → Consumes source.remaining source'.remaining came → ReadsHead (request_of came source') Nothing → source'.failures ≡ source.failures → source'.turns ≤ source.turns + request_turns
+pub nothing_served : (now : ℤ) (old : StoreData) (source source' : Input) (sink : Output) (came : Text) → Consumes source.remaining source'.remaining came → ReadsHead (request_of came source') Nothing → source'.failures ≡ source.failures → source'.reads ≤ source.reads + request_reads
     → IsServed now old source sink (Ok served.Nothing) old source' sink
 nothing_served now old source source' sink came c h f t = record {
   answered = (came, c, λ s i. ([], s, Serves.nothing (Asks.nothing h), i, nothing_sent sink.contents));
@@ -156,19 +156,19 @@ nothing_served now old source source' sink came c h f t = record {
   unread = λ b. absurd cc;
   reader = omega (arith, f);
   writer = omega arith;
-  turns = t;
+  reads = t;
 }
 
 pub sent_told : (now : ℤ) (old new : StoreData) (source source' : Input) (sink sink' : Output) (o : Outcome) (route : Route) (to_head : Bool) (came : Text) (result : Result Served IoFault) → IsSent o route to_head sink result sink' → Consumes source.remaining source'.remaining came
     → ((s : LineState) → IsIn s old → (s' : LineState) × Serves now (left_in now old) s (request_of came source') (served.Reply (reply_of to_head o).0 route) (reply_of to_head o).1 s' × IsIn s' new)
-    → source'.failures ≡ source.failures → source'.turns ≤ source.turns + request_turns → IsServed now old source sink result new source' sink'
+    → source'.failures ≡ source.failures → source'.reads ≤ source.reads + request_reads → IsServed now old source sink result new source' sink'
 sent_told now old new source source' sink sink' o route to_head came (Ok x) sent c did f t = record {
   answered = (came, c, λ s i. let d = did s i in ((reply_of to_head o).1, d.0, subst (λ (v : Served). Serves now (left_in now old) s (request_of came source') v (reply_of to_head o).1 d.0) (sym sent.ok.0) d.1, d.2, sent.ok.1));
   begun = λ b. absurd cc;
   unread = λ b. absurd cc;
   reader = omega (arith, f);
   writer = omega (arith, sent.failures);
-  turns = t;
+  reads = t;
 }
 sent_told now old new source source' sink sink' o route to_head came (Err Writer) sent c did f t = record {
   answered = tt;
@@ -176,6 +176,6 @@ sent_told now old new source source' sink sink' o route to_head came (Err Writer
   unread = λ b. absurd cc;
   reader = omega (arith, f);
   writer = omega (arith, sent.failures);
-  turns = t;
+  reads = t;
 }
 sent_told now old new source source' sink sink' o route to_head came (Err Reader) sent c did f t = absurd (not_writer sent.writer)

@@ -16,4 +16,4 @@ TellsBody len rest NoMemory = ⊤
 pub record IsBodyTaken {A E : Type 0} (old : Input) (behind : Text) (len : ℕ) (result : Result (Body A) E) (new : Input) : Type 0 where
   pub body : IfOk result (λ body. (got : Text) × Consumes old.remaining new.remaining got × TellsBody len (behind ++ (got ++ unwrap_or new.remaining [])) body)
   pub failures : new.failures ≡ old.failures + one_if_err result
-  pub turns : new.turns ≤ old.turns + len
+  pub reads : new.reads ≤ old.reads + len

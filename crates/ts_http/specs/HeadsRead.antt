@@ -24,7 +24,7 @@ pub record IsReadBehind {E : Type 0} (old : Input) (count : ℕ) (buffer : Text)
   pub came : IfOk result (λ n. (got : Text) × (take (count + n) buffer' ≡ take count buffer ++ got) × (length got ≡ n) × Consumes old.remaining new.remaining got)
   pub end : IfOk result (λ n. n ≡ 0 → IsAtEnd new.remaining)
   pub failures : new.failures ≡ old.failures + one_if_err result
-  pub turns : new.turns ≡ old.turns + 1
+  pub reads : new.reads ≡ old.reads + 1
 
 -- the outcome is one of reading the request's head, of which these bytes were received
 abbrev pub TellsHead : Text → Text → List HeaderSpan → HeadRead → Type 0
@@ -39,7 +39,7 @@ pub record IsHeadRead {E : Type 0} (old : Input) (result : Result (ℕ × HeadRe
   pub bytes : IfOk result (λ r. Consumes old.remaining new.remaining (take r.0 buffer))
   pub head : IfOk result (λ r. TellsHead (request_of (take r.0 buffer) new) (take r.0 buffer) spans r.1)
   pub failures : new.failures ≡ old.failures + one_if_err result
-  pub turns : new.turns ≤ old.turns + head_limit
+  pub reads : new.reads ≤ old.reads + head_limit
 
 -- the rest of a body is read after its first `count` bytes; the result is true if the body is whole
 pub record IsBodyRead {E : Type 0} (old : Input) (count : ℕ) (body : Text) (result : Result Bool E) (body' : Text) (new : Input) : Type 0 where
@@ -47,7 +47,7 @@ pub record IsBodyRead {E : Type 0} (old : Input) (count : ℕ) (body : Text) (re
   pub whole : IfOk result (λ whole. OnTrue whole ((got : Text) × (body' ≡ take count body ++ got) × Consumes old.remaining new.remaining got))
   pub cut : IfOk result (λ whole. OnFalse whole ((got : Text) × (count + length got < length body) × Consumes old.remaining new.remaining got × IsAtEnd new.remaining))
   pub failures : new.failures ≡ old.failures + one_if_err result
-  pub turns : new.turns + count ≤ old.turns + length body
+  pub reads : new.reads + count ≤ old.reads + length body
 
 -- the outcome so far; none if the bytes may still become a head
 abbrev pub TellsFront : Text → List HeaderSpan → Option HeadRead → Type 0

@@ -72,25 +72,25 @@ refusal_status MissingQuery = status.BadRequest
 refusal_status MissingName = status.BadRequest
 refusal_status OutOfMemory = status.ServerError
 
-abbrev pub refusal_words : Refusal → Text
-refusal_words (Head EndsEarly) = codes "head ended early"
-refusal_words (Head TooLarge) = codes "head too large"
-refusal_words (Head Malformed) = codes "bad head"
-refusal_words NotFound = codes "not found"
-refusal_words (MethodNotAllowed route) = codes "method not allowed"
-refusal_words LengthRequired = codes "length required"
-refusal_words BadLength = codes "bad length"
-refusal_words BodyTooLarge = codes "body too large"
-refusal_words EncodingNotSupported = codes "encoding not supported"
-refusal_words BodyEndsEarly = codes "body ended early"
-refusal_words BodyNotText = codes "body is not UTF-8"
-refusal_words BadPrecision = codes "bad precision"
-refusal_words BadEpoch = codes "bad epoch"
-refusal_words BadExplain = codes "bad explain"
-refusal_words BadSteps = codes "bad steps"
-refusal_words MissingQuery = codes "missing q"
-refusal_words MissingName = codes "missing name"
-refusal_words OutOfMemory = codes "out of memory"
+abbrev pub refusal_message : Refusal → Text
+refusal_message (Head EndsEarly) = codes "head ended early"
+refusal_message (Head TooLarge) = codes "head too large"
+refusal_message (Head Malformed) = codes "bad head"
+refusal_message NotFound = codes "not found"
+refusal_message (MethodNotAllowed route) = codes "method not allowed"
+refusal_message LengthRequired = codes "length required"
+refusal_message BadLength = codes "bad length"
+refusal_message BodyTooLarge = codes "body too large"
+refusal_message EncodingNotSupported = codes "encoding not supported"
+refusal_message BodyEndsEarly = codes "body ended early"
+refusal_message BodyNotText = codes "body is not UTF-8"
+refusal_message BadPrecision = codes "bad precision"
+refusal_message BadEpoch = codes "bad epoch"
+refusal_message BadExplain = codes "bad explain"
+refusal_message BadSteps = codes "bad steps"
+refusal_message MissingQuery = codes "missing q"
+refusal_message MissingName = codes "missing name"
+refusal_message OutOfMemory = codes "out of memory"
 
 abbrev pub refusal_allow : Refusal → Text
 refusal_allow (MethodNotAllowed route) = allowed_methods route
@@ -102,4 +102,4 @@ unless_head to_head body = if to_head then None else Some body
 
 -- the reply to a refused request
 abbrev pub refusal_reply : Bool → Refusal → Text
-refusal_reply to_head r = reply_text (refusal_status r) (refusal_allow r) (unless_head to_head (error_json (refusal_words r)))
+refusal_reply to_head r = reply_text (refusal_status r) (refusal_allow r) (unless_head to_head (error_json (refusal_message r)))

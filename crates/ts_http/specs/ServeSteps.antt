@@ -33,7 +33,7 @@ pub record IsActedOn {E : Type 0} (now : ℤ) (route : Route) (method : Method) 
   pub acted : IfOk result (λ outcome. (got : Text) × Consumes source.remaining source'.remaining got × ActedOn now route method query (behind ++ (got ++ unwrap_or source'.remaining [])) len old outcome new)
   pub unread : OnErr result (new ≡ old)
   pub failures : source'.failures ≡ source.failures + one_if_err result
-  pub turns : source'.turns ≤ source.turns + len
+  pub reads : source'.reads ≤ source.reads + len
 
 -- a reply is sent, or a prefix of it
 pub record IsSent (outcome : Outcome) (route : Route) (to_head : Bool) (old : Output) (result : Result Served IoFault) (new : Output) : Type 0 where

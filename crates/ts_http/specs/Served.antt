@@ -23,8 +23,8 @@ use Rattle.ts_http.specs.declared.serve.Served.{Served}
 use Rattle.ts_http.specs.declared.serve.Served.TheVariants as served
 
 -- the most reads of a request: one per byte of the longest head and body, and one for the end
-abbrev pub request_turns : ℕ
-request_turns = 1056769
+abbrev pub request_reads : ℕ
+request_reads = 1056769
 
 -- From `old`, at a moment, a request of these bytes may be served so, be answered with these, and leave that. A
 -- retention run has this number of steps left once it is open.
@@ -65,4 +65,4 @@ pub record IsServed (now : ℤ) (old : StoreData) (source : Input) (sink : Outpu
   pub unread : result ≡ Err Reader → (new ≡ old) × (sink' ≡ sink)
   pub reader : source'.failures ≡ source.failures + one_if_request_reader result
   pub writer : sink'.failures ≡ sink.failures + one_if_reply_writer result
-  pub turns : source'.turns ≤ source.turns + request_turns
+  pub reads : source'.reads ≤ source.reads + request_reads

@@ -66,7 +66,7 @@ fn open_run<A: Allocator + Copy>(store: &mut Store<A>, now: Time)
 }
 
 /// Takes steps of the open run until it ends, at most `limit`.
-fn take_steps<A: Allocator + Copy>(store: &mut Store<A>, limit: usize) -> Progress
+fn run_steps<A: Allocator + Copy>(store: &mut Store<A>, limit: usize) -> Progress
     requires { store.old.running ≡ true }
     ensures { HasStepped limit store.old store.new result.taken result.done }
 {
@@ -113,7 +113,7 @@ pub(crate) fn maintain<A: Allocator + Copy>(
         Err(refusal) => return Outcome::Refused(refusal),
     };
     open_run(store, now);
-    let progress = take_steps(store, limit);
+    let progress = run_steps(store, limit);
     Outcome::Brief(
         Status::Success,
         progress_note(progress, store.marks().raw()),

@@ -10,7 +10,7 @@ ghost use Rattle.ts_http.specs.ServeSteps.{IsLengthAnswer, IsActedOn, IsSent};
 ghost use Rattle.ts_core.specs.text.FaultTexts.{IsAppended};
 ghost use Rattle.ts_http.specs.Served.{io_fault_code, io_fault_text, IsServed};
 
-use crate::body::{Body, take_body};
+use crate::body::{Body, receive_body};
 use crate::fields::body_of;
 use crate::head::{FIELD_LIMIT, HEAD_LIMIT, HeadRead, read_head};
 use crate::maintaining::maintain;
@@ -40,7 +40,7 @@ pub enum Served {
 
 /// Device faults while serving a request.
 #[derive(Clone, Copy, Debug, PartialEq, Eq, Error)]
-#[error("{}", self.code().words())]
+#[error("{}", self.code().message())]
 pub enum IoFault {
     /// The reader failed. Nothing was executed.
     Reader,
@@ -122,8 +122,8 @@ fn head_parts_of<'a>(came: &'a [u8], found: &RequestSpans) -> HeadParts<'a>
 {
     let (path, query) = split_target(found.path.of(came));
     HeadParts {
-        route: Route::of(path),
-        method: Method::of(found.method.of(came)),
+        route: Route::from_path(path),
+        method: Method::from_name(found.method.of(came)),
         query,
         behind: &came[found.len..],
     }
@@ -201,7 +201,7 @@ fn act_on_body<R: Read, A: Allocator + Copy>(
     requires len { len ≤ body_limit }
     ensures { IsActedOn now head.now.route head.now.method head.now.query.now head.now.behind.now len store.old source.old result store.new source.new }
 {
-    match take_body(alloc, head.behind, len, source)? {
+    match receive_body(alloc, head.behind, len, source)? {
         Body::Whole(body) => Ok(act(alloc, json, store, now, head, &body)),
         Body::Cut => Ok(Outcome::Refused(Refusal::BodyEndsEarly)),
         Body::NoMemory => Ok(Outcome::Refused(Refusal::OutOfMemory)),

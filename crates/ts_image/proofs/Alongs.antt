@@ -4,7 +4,7 @@ use Rattle.std.proofs.lemmas.List.{append-nil, nil_from_length, length-drop}
 use Rattle.ts_core.specs.io.Devices.{Input}
 use Rattle.ts_core.specs.io.ReadingAhead.{EndIsEnd}
 use Rattle.ts_image.specs.declared.field_fault.FieldFault.{FieldFault}
-use Rattle.ts_image.specs.declared.field_fault.FieldFault.TheVariants.{Misshapen, Device, Turns, OutOfMemory}
+use Rattle.ts_image.specs.declared.field_fault.FieldFault.TheVariants.{Misshapen, Device, TooManyReads, OutOfMemory}
 use Rattle.ts_image.specs.Formats.{Cursor, Read, ◌>>=◌, Format, read_along, along, times}
 use Rattle.ts_image.specs.FieldReading.{FieldsRead, cursor_of, IsKnown, CallsSource, GivesReading, ReadsField}
 use Rattle.ts_image.proofs.Fields.{done}
@@ -60,7 +60,7 @@ module _ {X Y : Type 0} (f : Y → Format X) (ys : List Y) (a : FieldsRead) (s :
     along_stopped : {W : Type 0} (e : FieldFault) (views : W → List X) → GivesReading view (faulty Z e) (cursor_of c u) ((f y).read (cursor_of b t)) → with_front xs (read_along f (y ∷ left) (cursor_of b t)) ≡ read_along f ys (cursor_of a s) → GivesReading views (faulty W e) (cursor_of c u) (read_along f ys (cursor_of a s))
     along_stopped (Misshapen n) views g e = sym e ∙ ap (λ q. with_front xs (q >>= then_along left)) g
     along_stopped Device views g e = tt
-    along_stopped Turns views g e = tt
+    along_stopped TooManyReads views g e = tt
     along_stopped OutOfMemory views g e = tt
 
     pub along_breaks : {W : Type 0} (views : W → List X) (e : FieldFault) → ReadsField (f y) view b t (faulty Z e) c u → ReadsField (along f ys) views a s (faulty W e) c u

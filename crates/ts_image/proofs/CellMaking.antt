@@ -10,7 +10,7 @@ use Rattle.ts_core.specs.store.Cells.{Cell, cell_cmp}
 use Rattle.ts_core.specs.store.StoreStates.{CellParts}
 use Rattle.ts_core.specs.store.StoreData.{CellMap}
 use Rattle.ts_core.proofs.plans.PieceCells.{cells_total}
-use Rattle.ts_store.specs.image.Building.{Built, cell_map_at, with_cell}
+use Rattle.ts_store.specs.image.Building.{Built, cell_map_at, with_built_cell}
 use Rattle.ts_image.specs.Images.{ImageCell}
 use Rattle.ts_store.specs.image.SavedContent.{AreRising}
 use Rattle.ts_image.specs.Pictures.{cell_part_of}
@@ -43,7 +43,7 @@ no_cells rule b i = record {
   cells = sym (set-get_or b.cells rule finmap.empty) i;
 }
 
-pub cell_added : (rule : ℕ) (cs : List ImageCell) (c : ImageCell) (b : Built) → rule < length b.cells → with_cell rule c.cell (cell_part_of c) (with_cells_at rule cs b) ≡ with_cells_at rule (cs ++ c ∷ []) b
+pub cell_added : (rule : ℕ) (cs : List ImageCell) (c : ImageCell) (b : Built) → rule < length b.cells → with_built_cell rule c.cell (cell_part_of c) (with_cells_at rule cs b) ≡ with_cells_at rule (cs ++ c ∷ []) b
 cell_added rule cs c b lt i =
     let m : CellMap = with_image_cells cs (cell_map_at b.cells rule) in
     let same : cell_map_at (set b.cells rule m) rule ≡ m = get_or-set_same b.cells rule m finmap.empty lt in

@@ -7,7 +7,7 @@ use Rattle.ts_core.specs.facts.Facts.{Text, Series, Column, text_cmp}
 use Rattle.ts_core.specs.store.StoreStates.{ColumnPoints, column_of}
 use Rattle.ts_core.proofs.lists.MembersLemmas.{Among-append}
 use Rattle.std.proofs.lemmas.Cmp.{nat_list_cmp_total}
-use Rattle.ts_store.specs.image.Building.{Built, with_column}
+use Rattle.ts_store.specs.image.Building.{Built, with_built_column}
 use Rattle.ts_image.specs.Images.{ImageColumn}
 use Rattle.ts_store.specs.image.SavedContent.{AreRising}
 use Rattle.ts_image.specs.Pictures.{image_points_in}
@@ -48,7 +48,7 @@ no_columns s b i = record {
   cells = b.cells;
 }
 
-pub columns_more : (s : Series) (cs : List ImageColumn) (c : ImageColumn) (b : Built) → with_column (image_points_in s c) (is_column_waiting c) (with_image_columns s cs b) ≡ with_image_columns s (cs ++ c ∷ []) b
+pub columns_more : (s : Series) (cs : List ImageColumn) (c : ImageColumn) (b : Built) → with_built_column (image_points_in s c) (is_column_waiting c) (with_image_columns s cs b) ≡ with_image_columns s (cs ++ c ∷ []) b
 columns_more s cs c b i = record {
   settings = b.settings;
   marks = b.marks;

@@ -32,7 +32,7 @@ use Rattle.ts_image.specs.Images.{ImageCell}
 use Rattle.ts_image.specs.Pictures.{part_at}
 use Rattle.ts_image.specs.SavedImages.{IsWellFormed}
 use Rattle.ts_store.specs.image.SavedContent.{SavedSeries, saved_key, FrozenCell, frozen_from}
-use Rattle.ts_image.specs.Saving.{image_of, image_cell_of, frozen_cells_at, FitsCell, FitCells, FitCellsFrom, FitsImage, IsOrder}
+use Rattle.ts_image.specs.Saving.{store_image, image_cell_of, frozen_cells_at, FitsCell, FitCells, FitCellsFrom, FitsImage, IsOrder}
 use Rattle.ts_image.specs.WrittenImages.{WrittenImagesAreAcceptable}
 use Rattle.ts_image.proofs.CellSums.{rule_counted}
 use Rattle.ts_image.proofs.FrozenPictures.{latest_valid, IsFrozenFact, frozen_some}
@@ -166,4 +166,4 @@ written_fits opening h k order st well w =
 pub written_acceptable : WrittenImagesAreAcceptable
 written_acceptable opening h k order st well w =
     let picture = written_picture opening h k order st well.sized w in
-    record { fits = written_fits opening h k order st well w; picture = picture; possible = saved_possible opening h k (image_of k order) st well picture (written_orderly opening h k order st well w) }
+    record { fits = written_fits opening h k order st well w; picture = picture; possible = saved_possible opening h k (store_image k order) st well picture (written_orderly opening h k order st well w) }

@@ -12,7 +12,7 @@ use Rattle.ts_image.specs.declared.version.Version.{Version}
 use Rattle.ts_image.specs.declared.image_reading.Head.{Head}
 use Rattle.ts_image.specs.declared.image_reading.Head.TheVariants as head
 use Rattle.ts_image.specs.declared.field_fault.FieldFault.{FieldFault}
-use Rattle.ts_image.specs.declared.field_fault.FieldFault.TheVariants.{Misshapen, Device, Turns, OutOfMemory}
+use Rattle.ts_image.specs.declared.field_fault.FieldFault.TheVariants.{Misshapen, Device, TooManyReads, OutOfMemory}
 use Rattle.ts_image.specs.Formats.{Cursor, read_number, number}
 use Rattle.ts_image.specs.Images.{image_mark, version_byte}
 use Rattle.ts_image.specs.FieldReading.{FieldsRead, cursor_of, IsKnown, CallsSource, UsesBytes, GivesReading, ReadsField}
@@ -86,7 +86,7 @@ module _ (a b : FieldsRead) (s t : Input) (buffer : List ℕ) (len : length buff
         let y = d.1 in
         (front_of a b s t buffer uses k ∙ ap₂ (λ (x : List ℕ) (y : List ℕ). x ++ y) mark d.0 ∙ append-nil image_mark, omega (arith, x, y, len))
     cut_here Device k g = tt
-    cut_here Turns k g = tt
+    cut_here TooManyReads k g = tt
     cut_here OutOfMemory k g = tt
 
     pub cut_head : (e : FieldFault) → ReadsField (number w8) (λ (m : ℕ). m) b t (faulty ℕ e) c u → ReadsImageHead a s (faulty Head e) c u

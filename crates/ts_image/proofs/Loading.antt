@@ -9,7 +9,7 @@ use Rattle.ts_image.specs.declared.image_reading.ImageParts.{ImageParts}
 use Rattle.ts_image.specs.declared.image_loading.LoadedImage.{LoadedImage}
 use Rattle.ts_image.specs.declared.version.Version.{Version}
 use Rattle.ts_image.specs.declared.load_fault.LoadFault.{LoadFault}
-use Rattle.ts_image.specs.declared.load_fault.LoadFault.TheVariants.{Contradiction, Turns, OutOfMemory}
+use Rattle.ts_image.specs.declared.load_fault.LoadFault.TheVariants.{Contradiction, TooManyReads, OutOfMemory}
 use Rattle.ts_image.specs.FormatLaws.{AreBytes}
 use Rattle.ts_image.specs.RuleParts.{rule_from_parts, settings_of_parts}
 use Rattle.ts_image.specs.ImageTests.{IsPossible, rule_in, settings_of_image}
@@ -37,26 +37,26 @@ abbrev fault_or : {T : Type 0} → LoadFault → Result T LoadFault → LoadFaul
 fault_or d (Ok x) = d
 fault_or d (Err e) = e
 
-turns_again : (S T : Type 0) (e : LoadFault) → (let r : Result S LoadFault = Err e in r ≡ Err Turns) → (let r : Result T LoadFault = Err e in r ≡ Err Turns)
+turns_again : (S T : Type 0) (e : LoadFault) → (let r : Result S LoadFault = Err e in r ≡ Err TooManyReads) → (let r : Result T LoadFault = Err e in r ≡ Err TooManyReads)
 turns_again S T e h = ap (λ (x : LoadFault). Err x) (ap (fault_or e) h)
 
-never_turns : (S : Type 0) → (let r : Result S LoadFault = Err Contradiction in r ≡ Err Turns) → ⊥
+never_turns : (S : Type 0) → (let r : Result S LoadFault = Err Contradiction in r ≡ Err TooManyReads) → ⊥
 never_turns S h = cc
 
-no_memory_left : (S : Type 0) → (let r : Result S LoadFault = Err OutOfMemory in r ≡ Err Turns) → ⊥
+no_memory_left : (S : Type 0) → (let r : Result S LoadFault = Err OutOfMemory in r ≡ Err TooManyReads) → ⊥
 no_memory_left S h = cc
 
-never_read : (S : Type 0) (x : S) → (let r : Result S LoadFault = Ok x in r ≡ Err Turns) → ⊥
+never_read : (S : Type 0) (x : S) → (let r : Result S LoadFault = Ok x in r ≡ Err TooManyReads) → ⊥
 never_read S x h = cc
 
-module _ (A : Type 0) (s : Input) (turns : ℕ) (t : Input) where
+module _ (A : Type 0) (s : Input) (reads : ℕ) (t : Input) where
   -- an image that isn't read isn't loaded
-  pub not_read : (e : LoadFault) → LoadsParts {A = A} s turns (Err e) t → LoadsImage {A = A} s turns (Err e) t
+  pub not_read : (e : LoadFault) → LoadsParts {A = A} s reads (Err e) t → LoadsImage {A = A} s reads (Err e) t
   not_read e p = record { ok = tt; err = p.err; rest = p.rest; failures = p.failures; ends = tt; within = p.within; spent = λ z. p.spent (turns_again (LoadedImage A) (Version × ImageParts A) e z) }
 
-  module _ (v : Version) (parts : ImageParts A) (p : LoadsParts s turns (Ok (v, parts)) t) where
+  module _ (v : Version) (parts : ImageParts A) (p : LoadsParts s reads (Ok (v, parts)) t) where
     pub is_loaded : (settings : Settings) → IsPossible v (image_of parts) → settings ≡ settings_of_image (settings_of_parts parts.settings)
-        → LoadsImage {A = A} s turns (Ok (record { version = v; settings = settings; parts = parts })) t
+        → LoadsImage {A = A} s reads (Ok (record { version = v; settings = settings; parts = parts })) t
     is_loaded settings is made = record {
       ok = record { bytes = p.ok; possible = is; settings = made };
       err = tt;
@@ -67,7 +67,7 @@ module _ (A : Type 0) (s : Input) (turns : ℕ) (t : Input) where
       spent = λ z. absurd (never_read (LoadedImage A) (record { version = v; settings = settings; parts = parts }) z);
     }
 
-    pub contradicts : (IsPossible v (image_of parts) → ⊥) → LoadsImage {A = A} s turns (Err Contradiction) t
+    pub contradicts : (IsPossible v (image_of parts) → ⊥) → LoadsImage {A = A} s reads (Err Contradiction) t
     contradicts never = record {
       ok = tt;
       err = if_some s.remaining (λ bytes. AreBytes bytes → IsImageOf v (image_of parts) bytes) (λ bytes. AreBytes bytes → IsFaultOf bytes Contradiction) (λ bytes is are. (v, image_of parts, is are, never)) p.ok;
@@ -78,7 +78,7 @@ module _ (A : Type 0) (s : Input) (turns : ℕ) (t : Input) where
       spent = λ z. absurd (never_turns (LoadedImage A) z);
     }
 
-    pub out_of_memory : LoadsImage {A = A} s turns (Err OutOfMemory) t
+    pub out_of_memory : LoadsImage {A = A} s reads (Err OutOfMemory) t
     out_of_memory = record {
       ok = tt;
       err = if_some s.remaining (λ bytes. AreBytes bytes → IsImageOf v (image_of parts) bytes) (λ bytes. AreBytes bytes → IsFaultOf bytes OutOfMemory) (λ bytes is are. tt) p.ok;
@@ -91,13 +91,13 @@ module _ (A : Type 0) (s : Input) (turns : ℕ) (t : Input) where
 
 -- ---- the store that is made of it
 
-module _ (s : Input) (turns : ℕ) (t : Input) where
+module _ (s : Input) (reads : ℕ) (t : Input) where
   -- an image that isn't loaded gives no store
-  pub no_store : (A : Type 0) (e : LoadFault) → LoadsImage {A = A} s turns (Err e) t → LoadsStore s turns (Err e) t
+  pub no_store : (A : Type 0) (e : LoadFault) → LoadsImage {A = A} s reads (Err e) t → LoadsStore s reads (Err e) t
   no_store A e p = record { ok = tt; err = p.err; rest = p.rest; failures = p.failures; ends = tt; within = p.within; spent = λ z. p.spent (turns_again StoreData (LoadedImage A) e z) }
 
-  module _ (A : Type 0) (image : LoadedImage A) (p : LoadsImage s turns (Ok image) t) where
-    pub store_loaded : (k : StoreData) → IsStoreOf (image_of image.parts) k → LoadsStore s turns (Ok k) t
+  module _ (A : Type 0) (image : LoadedImage A) (p : LoadsImage s reads (Ok image) t) where
+    pub store_loaded : (k : StoreData) → IsStoreOf (image_of image.parts) k → LoadsStore s reads (Ok k) t
     store_loaded k made = record {
       ok = record { version = image.version; image = image_of image.parts; bytes = p.ok.bytes; possible = p.ok.possible; store = made };
       err = tt;
@@ -108,7 +108,7 @@ module _ (s : Input) (turns : ℕ) (t : Input) where
       spent = λ z. absurd (never_read StoreData k z);
     }
 
-    pub no_memory_for_store : LoadsStore s turns (Err OutOfMemory) t
+    pub no_memory_for_store : LoadsStore s reads (Err OutOfMemory) t
     no_memory_for_store = record {
       ok = tt;
       err = if_some s.remaining (λ bytes. AreBytes bytes → IsImageOf image.version (image_of image.parts) bytes) (λ bytes. AreBytes bytes → IsFaultOf bytes OutOfMemory) (λ bytes is are. tt) p.ok.bytes;

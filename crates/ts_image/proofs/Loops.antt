@@ -4,7 +4,7 @@ use Rattle.std.proofs.lemmas.List.{append-nil}
 use Rattle.ts_core.specs.io.Devices.{Input}
 use Rattle.ts_core.specs.io.ReadingAhead.{EndIsEnd}
 use Rattle.ts_image.specs.declared.field_fault.FieldFault.{FieldFault}
-use Rattle.ts_image.specs.declared.field_fault.FieldFault.TheVariants.{Misshapen, Device, Turns, OutOfMemory}
+use Rattle.ts_image.specs.declared.field_fault.FieldFault.TheVariants.{Misshapen, Device, TooManyReads, OutOfMemory}
 use Rattle.ts_image.specs.Formats.{Cursor, Read, ◌>>=◌, Format, read_along, times}
 use Rattle.ts_image.specs.FieldReading.{FieldsRead, cursor_of, IsKnown, CallsSource, GivesReading, ReadsField}
 use Rattle.ts_image.proofs.Fields.{done}
@@ -50,7 +50,7 @@ module _ {Y : Type 0} (f : Format Y) (count : ℕ) (a : FieldsRead) (s : Input) 
     stopped : {Z : Type 0} (e : FieldFault) (views : Z → List Y) → GivesReading view (faulty X e) (cursor_of c u) (f.read (cursor_of b t)) → with_front xs (left_of f (suc left) (cursor_of b t)) ≡ left_of f count (cursor_of a s) → GivesReading views (faulty Z e) (cursor_of c u) (left_of f count (cursor_of a s))
     stopped (Misshapen n) views g e = sym e ∙ ap (λ q. with_front xs (q >>= then_rest left)) g
     stopped Device views g e = tt
-    stopped Turns views g e = tt
+    stopped TooManyReads views g e = tt
     stopped OutOfMemory views g e = tt
 
     pub breaks : {Z : Type 0} (views : Z → List Y) (e : FieldFault) → ReadsField f view b t (faulty X e) c u → ReadsField (times count f) views a s (faulty Z e) c u

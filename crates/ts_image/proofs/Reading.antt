@@ -11,7 +11,7 @@ use Rattle.std.specs.Io.KnownBytes.{Consumes, Keeps, IsAtEnd}
 use Rattle.ts_core.specs.io.Devices.{Input}
 use Rattle.ts_core.specs.io.ReadingAhead.{Ahead, EndIsEnd}
 use Rattle.ts_image.specs.declared.field_fault.FieldFault.{FieldFault}
-use Rattle.ts_image.specs.declared.field_fault.FieldFault.TheVariants.{Misshapen, Device, Turns, OutOfMemory}
+use Rattle.ts_image.specs.declared.field_fault.FieldFault.TheVariants.{Misshapen, Device, TooManyReads, OutOfMemory}
 use Rattle.ts_image.specs.Formats.{Cursor, Read, ◌>>=◌, read_number, number, signed_number, read_text, text}
 use Rattle.ts_image.specs.FieldReading.{FieldsRead, bytes_to_come, known_bytes, cursor_of, IsKnown, one_if_failed, CallsSource, UsesBytes, FindsEnd, FillsBuffer, IsShaped, GivesReading, ReadsField}
 use Rattle.ts_image.proofs.Fields.{done, failed}
@@ -69,7 +69,7 @@ abbrev pub nothing_yet : Result (Unit {0}) FieldFault
 nothing_yet = Ok tt
 
 pub calls_nothing : (a : Ahead) (s : Input) → EndIsEnd a s → CallsSource a s nothing_yet a s
-calls_nothing a s end = record { end = end; allowed = refl; within = λ h. h; spent = λ h. cc; failures = omega arith; turns = omega arith; ends = refl }
+calls_nothing a s end = record { end = end; allowed = refl; within = λ h. h; spent = λ h. cc; failures = omega arith; reads = omega arith; ends = refl }
 
 abbrev pub fine : {X : Type 0} → X → Result X FieldFault
 fine x = Ok x
@@ -85,7 +85,7 @@ module _ {X Y : Type 0} where
     within = λ h. q.within (p.within h);
     spent = q.spent;
     failures = let f = p.failures in let g = q.failures in omega (arith, f, g);
-    turns = let f = p.turns in let g = q.turns in omega (arith, f, g);
+    reads = let f = p.reads in let g = q.reads in omega (arith, f, g);
     ends = let f = p.ends in let g = q.ends in omega (arith, f, g);
   }
 
@@ -96,7 +96,7 @@ module _ (X Y : Type 0) where
   failures_same : (e : FieldFault) → one_if_failed (faulty X e) ≡ one_if_failed (faulty Y e)
   failures_same (Misshapen n) = refl
   failures_same Device = refl
-  failures_same Turns = refl
+  failures_same TooManyReads = refl
   failures_same OutOfMemory = refl
 
   -- a fault that is passed on
@@ -105,30 +105,30 @@ module _ (X Y : Type 0) where
     end = p.end;
     allowed = p.allowed;
     within = p.within;
-    spent = λ h. p.spent (err_same e Turns h);
+    spent = λ h. p.spent (err_same e TooManyReads h);
     failures = p.failures ∙ ap (λ n. s.failures + n) (failures_same e);
-    turns = p.turns;
+    reads = p.reads;
     ends = p.ends;
   }
 
-not_turns : {X : Type 0} (n : ℕ) → faulty X (Misshapen n) ≡ Err Turns → ⊥
+not_turns : {X : Type 0} (n : ℕ) → faulty X (Misshapen n) ≡ Err TooManyReads → ⊥
 not_turns n h = cc
 
-no_memory_not_turns : {X : Type 0} → faulty X OutOfMemory ≡ Err Turns → ⊥
+no_memory_not_turns : {X : Type 0} → faulty X OutOfMemory ≡ Err TooManyReads → ⊥
 no_memory_not_turns h = cc
 
-fine_not : {X : Type 0} (x : X) → fine x ≡ Err Turns → ⊥
+fine_not : {X : Type 0} (x : X) → fine x ≡ Err TooManyReads → ⊥
 fine_not x h = cc
 
 -- another end of a call that went well so far
 pub calls_as : {X : Type 0} (Y : Type 0) (a b : Ahead) (s t : Input) (x : X) (n : ℕ) → CallsSource a s (fine x) b t → CallsSource a s (faulty Y (Misshapen n)) b t
-calls_as Y a b s t x n p = record { end = p.end; allowed = p.allowed; within = p.within; spent = λ h. absurd (not_turns n h); failures = p.failures; turns = p.turns; ends = p.ends }
+calls_as Y a b s t x n p = record { end = p.end; allowed = p.allowed; within = p.within; spent = λ h. absurd (not_turns n h); failures = p.failures; reads = p.reads; ends = p.ends }
 
 pub calls_unless : {X : Type 0} (Y : Type 0) (a b : Ahead) (s t : Input) (x : X) → CallsSource a s (fine x) b t → CallsSource a s (faulty Y OutOfMemory) b t
-calls_unless Y a b s t x p = record { end = p.end; allowed = p.allowed; within = p.within; spent = λ h. absurd (no_memory_not_turns h); failures = p.failures; turns = p.turns; ends = p.ends }
+calls_unless Y a b s t x p = record { end = p.end; allowed = p.allowed; within = p.within; spent = λ h. absurd (no_memory_not_turns h); failures = p.failures; reads = p.reads; ends = p.ends }
 
 pub calls_ok : {X Y : Type 0} (a b : Ahead) (s t : Input) (x : X) (y : Y) → CallsSource a s (fine x) b t → CallsSource a s (fine y) b t
-calls_ok a b s t x y p = record { end = p.end; allowed = p.allowed; within = p.within; spent = λ h. absurd (fine_not y h); failures = p.failures; turns = p.turns; ends = p.ends }
+calls_ok a b s t x y p = record { end = p.end; allowed = p.allowed; within = p.within; spent = λ h. absurd (fine_not y h); failures = p.failures; reads = p.reads; ends = p.ends }
 
 -- ---- numbers
 
@@ -158,13 +158,13 @@ signed_reads w a b s t bytes len u q = record { stays = λ k. stays_known a b s 
 number_gives : (w : Width) (e : FieldFault) (a b : FieldsRead) (s t : Input) (buffer : List ℕ) → length buffer ≡ byte_len w → FillsBuffer a s (Err e) buffer b t → IsKnown a s → GivesReading (λ (n : ℕ). n) (faulty ℕ e) (cursor_of b t) (read_number w (cursor_of a s))
 number_gives w (Misshapen n) a b s t buffer len f k = number_short w (cursor_of a s) buffer n len f.0 (f.1 k)
 number_gives w Device a b s t buffer len f k = tt
-number_gives w Turns a b s t buffer len f k = tt
+number_gives w TooManyReads a b s t buffer len f k = tt
 number_gives w OutOfMemory a b s t buffer len f k = tt
 
 signed_gives : (w : Width) (e : FieldFault) (a b : FieldsRead) (s t : Input) (buffer : List ℕ) → length buffer ≡ byte_len w → FillsBuffer a s (Err e) buffer b t → IsKnown a s → GivesReading (λ (z : ℤ). z) (faulty ℤ e) (cursor_of b t) ((signed_number w).read (cursor_of a s))
 signed_gives w (Misshapen n) a b s t buffer len f k = ap (λ r. r >>= λ m. done (cast_signed w m.0, m.1)) (number_short w (cursor_of a s) buffer n len f.0 (f.1 k))
 signed_gives w Device a b s t buffer len f k = tt
-signed_gives w Turns a b s t buffer len f k = tt
+signed_gives w TooManyReads a b s t buffer len f k = tt
 signed_gives w OutOfMemory a b s t buffer len f k = tt
 
 pub number_cut : (w : Width) (e : FieldFault) (a b : FieldsRead) (s t : Input) (buffer : List ℕ) → length buffer ≡ byte_len w → FillsBuffer a s (Err e) buffer b t → CallsSource a.ahead s (faulty (Unit {0}) e) b.ahead t → ReadsField (number w) (λ (n : ℕ). n) a s (faulty ℕ e) b t
@@ -222,7 +222,7 @@ module _ {X : Type 0} (view : X → Text) (a b c : FieldsRead) (s t u : Input) (
   unshaped : (e : FieldFault) → IsShaped (faulty Bool e) → (r : Read Text) → GivesReading view (faulty X e) (cursor_of c u) r
   unshaped (Misshapen m) k r = absurd k
   unshaped Device k r = tt
-  unshaped Turns k r = tt
+  unshaped TooManyReads k r = tt
   unshaped OutOfMemory k r = tt
 
   pub text_fails : (e : FieldFault) → IsShaped (faulty Bool e) → CallsSource b.ahead t (faulty Bool e) c.ahead u → ReadsField text view a s (faulty X e) c u
@@ -236,7 +236,7 @@ module _ {X : Type 0} (view : X → Text) (a b c : FieldsRead) (s t u : Input) (
 length_gives : {X : Type 0} (view : X → Text) (a b : FieldsRead) (s t : Input) (e : FieldFault) → GivesReading (λ (m : ℕ). m) (faulty ℕ e) (cursor_of b t) (read_number w64 (cursor_of a s)) → GivesReading view (faulty X e) (cursor_of b t) (text.read (cursor_of a s))
 length_gives view a b s t (Misshapen n) g = ap (λ r. r >>= read_text (cursor_of a s)) g
 length_gives view a b s t Device g = tt
-length_gives view a b s t Turns g = tt
+length_gives view a b s t TooManyReads g = tt
 length_gives view a b s t OutOfMemory g = tt
 
 pub text_starts_not : {X : Type 0} (view : X → Text) (a b : FieldsRead) (s t : Input) (e : FieldFault) → ReadsField (number w64) (λ (m : ℕ). m) a s (faulty ℕ e) b t → ReadsField text view a s (faulty X e) b t

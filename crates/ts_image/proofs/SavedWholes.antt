@@ -17,7 +17,7 @@ use Rattle.ts_image.specs.declared.save_fault.SaveFault.TheVariants.{Device, Out
 use Rattle.ts_image.specs.declared.version.Version.TheVariants.{V2}
 use Rattle.ts_image.specs.Images.{image, image_text}
 use Rattle.ts_store.specs.image.SavedContent.{SavedColumn, SavedSeries, SavesColumns}
-use Rattle.ts_image.specs.Saving.{image_of, HasItsColumns, FitsImage, IsOrder, IsSaved}
+use Rattle.ts_image.specs.Saving.{store_image, HasItsColumns, FitsImage, IsOrder, IsSaved}
 use Rattle.ts_image.proofs.Putting.{Answer}
 
 -- ---- through the write buffer
@@ -49,10 +49,10 @@ module _ {T : Type 0} (k : StoreData) (a : Output) where
   pub does_not_fit : (r : Result T SaveFault) (order : List SavedSeries) → r ≡ Err Unfit → IsOrder k order → (FitsImage k order → ⊥) → IsSaved k a r a
   does_not_fit r order e o f = rw e record { ok = tt; device = λ d. absurd cc; memory = λ d. absurd cc; unfit = λ d. (refl, (order, o, f)); failures = omega arith }
 
-  pub is_cut : (r : Result T SaveFault) (x : Refused) (b : Output) (order : List SavedSeries) → r ≡ Err Device → IsOrder k order → IsPut a (refused x) (image_text V2 (image_of k order)) b → IsSaved k a r b
+  pub is_cut : (r : Result T SaveFault) (x : Refused) (b : Output) (order : List SavedSeries) → r ≡ Err Device → IsOrder k order → IsPut a (refused x) (image_text V2 (store_image k order)) b → IsSaved k a r b
   is_cut r x b order e o p = rw e record { ok = tt; device = λ d. (order, o, p.err); memory = λ d. absurd cc; unfit = λ d. absurd cc; failures = p.failures }
 
-  pub is_saved : (x : T) (b : Output) (order : List SavedSeries) → IsOrder k order → (image V2).fits (image_of k order) → IsPut a done (image_text V2 (image_of k order)) b → IsSaved k a (Ok x) b
+  pub is_saved : (x : T) (b : Output) (order : List SavedSeries) → IsOrder k order → (image V2).fits (store_image k order) → IsPut a done (image_text V2 (store_image k order)) b → IsSaved k a (Ok x) b
   is_saved x b order o f p = record { ok = (order, o, f, p.ok); device = λ d. absurd cc; memory = λ d. absurd cc; unfit = λ d. absurd cc; failures = p.failures }
 
 -- ---- columns of saved series are there

@@ -6,7 +6,7 @@ use Rattle.ts_core.specs.facts.Facts.{Text, Series, Column, series_cmp}
 use Rattle.ts_core.specs.store.StoreStates.{ColumnPoints, column_of}
 use Rattle.ts_core.proofs.lists.MembersLemmas.{Among-append}
 use Rattle.ts_core.proofs.facts.Ids.{series_total}
-use Rattle.ts_store.specs.image.Building.{Built, with_series}
+use Rattle.ts_store.specs.image.Building.{Built, with_built_series}
 use Rattle.ts_image.specs.Images.{ImageColumn, ImageSeries}
 use Rattle.ts_store.specs.image.SavedContent.{AreRising}
 use Rattle.ts_image.specs.Pictures.{image_points_in, columns_of_image}
@@ -51,7 +51,7 @@ series_more ss ts b i = record {
 }
 
 -- a series with its columns
-pub series_added : (s : ImageSeries) (b : Built) → with_image_columns s.series s.columns (with_series s.series b) ≡ with_all_series (s ∷ []) b
+pub series_added : (s : ImageSeries) (b : Built) → with_image_columns s.series s.columns (with_built_series s.series b) ≡ with_all_series (s ∷ []) b
 series_added s b i = record {
   settings = b.settings;
   marks = b.marks;

@@ -9,7 +9,7 @@ use Rattle.std.proofs.lemmas.List.{take-map}
 use Rattle.std.proofs.lemmas.List.{take_all}
 use Rattle.ts_core.specs.facts.Facts.{Text, same_text}
 use Rattle.ts_image.specs.Images.{ImageRule, ImageSeries, ImageCell, ImageData}
-use Rattle.ts_image.specs.TestParts.{points_if, IsTaken, AreCountedAll}
+use Rattle.ts_image.specs.TestParts.{points_if, IsSubtracted, AreCountedAll}
 use Rattle.ts_image.specs.ImageTests.{AreCounted, points_of_series, points_of_measurement}
 use Rattle.ts_store.specs.image.SavedContent.{AreRising}
 
@@ -127,7 +127,7 @@ pub of_measurement : (m : Text) (ss : List ImageSeries) → points_of_measuremen
 of_measurement m [] = refl
 of_measurement m (s ∷ ss) = if_of m s ss (same_text s.series.measurement m) refl (of_measurement m ss)
 
-pub counted : (accepted left f t : ℕ) (r : Option ℕ) → left + f ≡ accepted → IsTaken left t r → (is_some r ≡ true → f + t ≤ accepted) × (f + t ≤ accepted → is_some r ≡ true)
+pub counted : (accepted left f t : ℕ) (r : Option ℕ) → left + f ≡ accepted → IsSubtracted left t r → (is_some r ≡ true → f + t ≤ accepted) × (f + t ≤ accepted → is_some r ≡ true)
 counted accepted left f t (Some x) e h = (λ z. omega (arith, e, h), λ z. refl)
 counted accepted left f t None e h = (λ z. absurd cc, λ le. absurd (omega (arith, e, h, le)))
 
@@ -141,6 +141,6 @@ counted_all d [] cs h = tt
 counted_all d (r ∷ rs) [] h = tt
 counted_all d (r ∷ rs) (c ∷ cs) h = (record { enough = h.0 }, counted_all d rs cs h.1)
 
-pub taken : (left t : ℕ) (r : Option ℕ) → IsTaken left t r → (is_some r ≡ true → t ≤ left) × (t ≤ left → is_some r ≡ true)
+pub taken : (left t : ℕ) (r : Option ℕ) → IsSubtracted left t r → (is_some r ≡ true → t ≤ left) × (t ≤ left → is_some r ≡ true)
 taken left t (Some x) h = (λ z. omega (arith, h), λ z. refl)
 taken left t None h = (λ z. absurd cc, λ le. absurd (omega (arith, h, le)))

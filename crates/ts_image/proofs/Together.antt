@@ -3,7 +3,7 @@ use Rattle.std.proofs.Common.{◌≡◌, ap, ◌∙◌}
 use Rattle.ts_core.specs.io.Devices.{Input}
 use Rattle.ts_image.specs.Formats.{◌>>=◌, Format, and, also, iso}
 use Rattle.ts_image.specs.declared.field_fault.FieldFault.{FieldFault}
-use Rattle.ts_image.specs.declared.field_fault.FieldFault.TheVariants.{Misshapen, Device, Turns, OutOfMemory}
+use Rattle.ts_image.specs.declared.field_fault.FieldFault.TheVariants.{Misshapen, Device, TooManyReads, OutOfMemory}
 use Rattle.ts_image.specs.FieldReading.{FieldsRead, cursor_of, GivesReading, ReadsField}
 use Rattle.ts_image.proofs.Fields.{done}
 use Rattle.ts_image.proofs.Reading.{fine, faulty, calls_more, calls_on, calls_ok}
@@ -32,7 +32,7 @@ module _ {X Y A B Z : Type 0} (f : Format A) (g : Format B) (va : X → A) (vb :
   second_stops : (e : FieldFault) (x : X) → f.read (cursor_of a s) ≡ done (va x, cursor_of b t) → GivesReading vb (faulty Y e) (cursor_of c u) (g.read (cursor_of b t)) → GivesReading v (faulty Z e) (cursor_of c u) ((also f g).read (cursor_of a s))
   second_stops (Misshapen n) x p q = ap (λ r. r >>= λ z. g.read z.1 >>= λ w. done ((z.0, w.0), w.1)) p ∙ ap (λ r. r >>= λ w. done ((va x, w.0), w.1)) q
   second_stops Device x p q = tt
-  second_stops Turns x p q = tt
+  second_stops TooManyReads x p q = tt
   second_stops OutOfMemory x p q = tt
 
   pub also_stops : (x : X) (e : FieldFault) → ReadsField f va a s (fine x) b t → ReadsField g vb b t (faulty Y e) c u → ReadsField (also f g) v a s (faulty Z e) c u
@@ -46,7 +46,7 @@ module _ {X Z A B : Type 0} (f : Format A) (to : A → B) (from : B → A) (va :
   whole_stops : (e : FieldFault) → GivesReading va (faulty X e) (cursor_of b t) (f.read (cursor_of a s)) → GivesReading v (faulty Z e) (cursor_of b t) ((iso f to from).read (cursor_of a s))
   whole_stops (Misshapen n) p = ap (λ r. r >>= λ y. done (to y.0, y.1)) p
   whole_stops Device p = tt
-  whole_stops Turns p = tt
+  whole_stops TooManyReads p = tt
   whole_stops OutOfMemory p = tt
 
   pub iso_stops : (e : FieldFault) → ReadsField f va a s (faulty X e) b t → ReadsField (iso f to from) v a s (faulty Z e) b t
@@ -66,7 +66,7 @@ module _ {X Y A B Z : Type 0} (f : Format A) (g : A → Format B) (va : X → A)
   second_of_stops : (e : FieldFault) (x : X) → f.read (cursor_of a s) ≡ done (va x, cursor_of b t) → GivesReading vb (faulty Y e) (cursor_of c u) ((g (va x)).read (cursor_of b t)) → GivesReading v (faulty Z e) (cursor_of c u) ((and f g).read (cursor_of a s))
   second_of_stops (Misshapen n) x p q = ap (λ r. r >>= λ z. (g z.0).read z.1 >>= λ w. done ((z.0, w.0), w.1)) p ∙ ap (λ r. r >>= λ w. done ((va x, w.0), w.1)) q
   second_of_stops Device x p q = tt
-  second_of_stops Turns x p q = tt
+  second_of_stops TooManyReads x p q = tt
   second_of_stops OutOfMemory x p q = tt
 
   pub and_stops : (x : X) (e : FieldFault) → ReadsField f va a s (fine x) b t → ReadsField (g (va x)) vb b t (faulty Y e) c u → ReadsField (and f g) v a s (faulty Z e) c u

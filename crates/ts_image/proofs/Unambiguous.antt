@@ -3,7 +3,7 @@ use Rattle.std.proofs.Common.{◌≡◌, ◌+◌, ℕ, List, [], ◌∷◌, ◌+
 use Rattle.std.specs.Prelude.{◌≢◌}
 use Rattle.std.proofs.lemmas.List.{append-nil}
 use Rattle.ts_image.specs.declared.load_fault.LoadFault.{LoadFault}
-use Rattle.ts_image.specs.declared.load_fault.LoadFault.TheVariants.{NotAnImage, OtherVersion, Misshapen, Contradiction, Device, Turns, OutOfMemory}
+use Rattle.ts_image.specs.declared.load_fault.LoadFault.TheVariants.{NotAnImage, OtherVersion, Misshapen, Contradiction, Device, TooManyReads, OutOfMemory}
 use Rattle.ts_image.specs.Formats.{Cursor, Format, spelling}
 use Rattle.ts_image.specs.FormatLaws.{IsMisshapen, IsFormat}
 use Rattle.ts_image.specs.declared.version.Version.{Version}
@@ -71,7 +71,7 @@ no_fault v d bytes p q Contradiction o f =
     let s = same_image v f.0 d f.1 bytes p f.2 in
     f.3 (possible_as v f.0 d f.1 s.0 (same_data v f.0 d f.1 s.0 p.fits f.2.fits s.1) q)
 no_fault v d bytes p q Device o f = o
-no_fault v d bytes p q Turns o f = o
+no_fault v d bytes p q TooManyReads o f = o
 no_fault v d bytes p q OutOfMemory o f = o
 
 pub are_unambiguous : AreUnambiguous

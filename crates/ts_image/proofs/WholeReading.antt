@@ -9,7 +9,7 @@ use Rattle.ts_image.specs.declared.version.Version.{Version}
 use Rattle.ts_image.specs.declared.field_fault.FieldFault.{FieldFault}
 use Rattle.ts_image.specs.declared.field_fault.FieldFault.TheVariants as field
 use Rattle.ts_image.specs.declared.load_fault.LoadFault.{LoadFault}
-use Rattle.ts_image.specs.declared.load_fault.LoadFault.TheVariants.{NotAnImage, OtherVersion, Misshapen, Device, Turns, OutOfMemory}
+use Rattle.ts_image.specs.declared.load_fault.LoadFault.TheVariants.{NotAnImage, OtherVersion, Misshapen, Device, TooManyReads, OutOfMemory}
 use Rattle.ts_image.specs.declared.image_reading.Head.{Head}
 use Rattle.ts_image.specs.declared.image_reading.Head.TheVariants as head
 use Rattle.ts_image.specs.declared.image_reading.ImageParts.{ImageParts}
@@ -36,7 +36,7 @@ module _ {X Y : Type 0} (f : Format Y) (view : X → Y) (a b c : FieldsRead) (s 
   goes_on_behind : (e : FieldFault) → IsKnown a s → GivesEnd (faulty (Unit {0}) e) (cursor_of b t) → GivesWhole view (faulty X e) (read_whole f (cursor_of a s))
   goes_on_behind (field.Misshapen n) k g = ap whole_reading (r.value k) ∙ more_behind (view x) b.at (cursor_of b t).rest g.1 ∙ ap (λ (m : ℕ). failed m) (sym g.0)
   goes_on_behind field.Device k g = tt
-  goes_on_behind field.Turns k g = tt
+  goes_on_behind field.TooManyReads k g = tt
   goes_on_behind field.OutOfMemory k g = tt
 
   pub end_stops : (e : FieldFault) → (IsKnown b t → GivesEnd (faulty (Unit {0}) e) (cursor_of b t)) → CallsSource b.ahead t (faulty (Unit {0}) e) c.ahead u → ReadsWhole f view a s (faulty X e) c u
@@ -48,16 +48,16 @@ module _ {X Y : Type 0} (f : Format Y) (view : X → Y) (a b c : FieldsRead) (s 
 
 -- ---- what a source's bytes are
 
-out_not_turns : {T : Type 0} → (let r : Result T LoadFault = Err OutOfMemory in r ≡ Err Turns) → ⊥
+out_not_turns : {T : Type 0} → (let r : Result T LoadFault = Err OutOfMemory in r ≡ Err TooManyReads) → ⊥
 out_not_turns h = cc
 
-none_not_turns : {T : Type 0} → (let r : Result T LoadFault = Err NotAnImage in r ≡ Err Turns) → ⊥
+none_not_turns : {T : Type 0} → (let r : Result T LoadFault = Err NotAnImage in r ≡ Err TooManyReads) → ⊥
 none_not_turns h = cc
 
-other_not_turns : {T : Type 0} → (let r : Result T LoadFault = Err OtherVersion in r ≡ Err Turns) → ⊥
+other_not_turns : {T : Type 0} → (let r : Result T LoadFault = Err OtherVersion in r ≡ Err TooManyReads) → ⊥
 other_not_turns h = cc
 
-fine_not_turns : {T : Type 0} (x : T) → (let r : Result T LoadFault = Ok x in r ≡ Err Turns) → ⊥
+fine_not_turns : {T : Type 0} (x : T) → (let r : Result T LoadFault = Ok x in r ≡ Err TooManyReads) → ⊥
 fine_not_turns x h = cc
 
 if_known : (o : Option (List ℕ)) (P : List ℕ → Type 0) → ((bytes : List ℕ) → o ≡ Some bytes → P bytes) → IfSome o P
@@ -74,28 +74,28 @@ ended_of true h = refl
 ended_of false h = absurd (h refl)
 
 abbrev pub before_all : ℕ → FieldsRead
-before_all turns = record { ahead = nothing_ahead turns; at = 0 }
+before_all reads = record { ahead = nothing_ahead reads; at = 0 }
 
-module _ (turns : ℕ) (s : Input) where
-  known_all : (bytes : List ℕ) → s.remaining ≡ Some bytes → IsKnown (before_all turns) s
+module _ (reads : ℕ) (s : Input) where
+  known_all : (bytes : List ℕ) → s.remaining ≡ Some bytes → IsKnown (before_all reads) s
   known_all bytes e = subst (λ (o : Option (List ℕ)). IsSome (prepend_known [] o)) (sym e) refl
 
-  all_rest : (bytes : List ℕ) → s.remaining ≡ Some bytes → bytes ≡ (cursor_of (before_all turns) s).rest
+  all_rest : (bytes : List ℕ) → s.remaining ≡ Some bytes → bytes ≡ (cursor_of (before_all reads) s).rest
   all_rest bytes e = ap (λ (o : Option (List ℕ)). known_bytes (prepend_known [] o)) (sym e)
 
-  module _ {T : Type 0} (r : Result T FieldFault) (c : FieldsRead) (u : Input) (q : CallsSource (nothing_ahead turns) s r c.ahead u) where
-    turns_within : u.turns ≤ s.turns + turns
-    turns_within = let w = q.within (omega arith) in let a = q.allowed in let t = q.turns in omega (arith, w, a, t)
+  module _ {T : Type 0} (r : Result T FieldFault) (c : FieldsRead) (u : Input) (q : CallsSource (nothing_ahead reads) s r c.ahead u) where
+    turns_within : u.reads ≤ s.reads + reads
+    turns_within = let w = q.within (omega arith) in let a = q.allowed in let t = q.reads in omega (arith, w, a, t)
 
     -- the end was read if the counts of ends differ
     rest_of : u.ends ≢ s.ends → IsAtEnd u.remaining
     rest_of h = rest_at_end c.ahead.buffered u.remaining (q.end (ended_of c.ahead.ended (let n = q.ends in λ z. h (omega (arith, n, z)))))
 
-    all_spent : r ≡ Err field.Turns → (u.turns ≡ s.turns + turns) × (u.ends ≡ s.ends)
+    all_spent : r ≡ Err field.TooManyReads → (u.reads ≡ s.reads + reads) × (u.ends ≡ s.ends)
     all_spent e =
         let w = q.spent e in
         let a = q.allowed in
-        let t = q.turns in
+        let t = q.reads in
         let n = q.ends in
         let z : bit c.ahead.ended ≡ 0 = ap bit w.1 in
         (let x = w.0 in omega (arith, x, a, t), omega (arith, n, z))
@@ -103,13 +103,13 @@ module _ (turns : ℕ) (s : Input) where
   same_failures : (X Y : Type 0) (e : FieldFault) → one_if_failed (faulty X e) ≡ one_if_device_failed {T = Y} (Err (load_fault_of e))
   same_failures X Y (field.Misshapen n) = refl
   same_failures X Y field.Device = refl
-  same_failures X Y field.Turns = refl
+  same_failures X Y field.TooManyReads = refl
   same_failures X Y field.OutOfMemory = refl
 
-  turns_alone : (X Y : Type 0) (e : FieldFault) → (let r : Result Y LoadFault = Err (load_fault_of e) in r ≡ Err Turns) → faulty X e ≡ Err field.Turns
+  turns_alone : (X Y : Type 0) (e : FieldFault) → (let r : Result Y LoadFault = Err (load_fault_of e) in r ≡ Err TooManyReads) → faulty X e ≡ Err field.TooManyReads
   turns_alone X Y (field.Misshapen n) h = absurd cc
   turns_alone X Y field.Device h = absurd cc
-  turns_alone X Y field.Turns h = refl
+  turns_alone X Y field.TooManyReads h = refl
   turns_alone X Y field.OutOfMemory h = absurd cc
 
   -- a fault of the bytes that was found there
@@ -119,7 +119,7 @@ module _ (turns : ℕ) (s : Input) where
   of_none : (e : LoadFault) → ((bytes : List ℕ) → IsFaultOf bytes e) → IsFoundAs e
   of_none e h = if_known s.remaining (λ bytes. AreBytes bytes → IsFaultOf bytes e) (λ bytes k w. h bytes)
 
-  pub no_memory : {A : Type 0} → LoadsParts {A = A} s turns (Err OutOfMemory) s
+  pub no_memory : {A : Type 0} → LoadsParts {A = A} s reads (Err OutOfMemory) s
   no_memory {A} = record {
     ok = tt;
     err = of_none OutOfMemory (λ bytes. tt);
@@ -131,7 +131,7 @@ module _ (turns : ℕ) (s : Input) where
   }
 
   module _ (A : Type 0) (b : FieldsRead) (t : Input) where
-    loads_fault : (X : Type 0) (e : FieldFault) → IsFoundAs (load_fault_of e) → CallsSource (nothing_ahead turns) s (faulty X e) b.ahead t → LoadsParts {A = A} s turns (Err (load_fault_of e)) t
+    loads_fault : (X : Type 0) (e : FieldFault) → IsFoundAs (load_fault_of e) → CallsSource (nothing_ahead reads) s (faulty X e) b.ahead t → LoadsParts {A = A} s reads (Err (load_fault_of e)) t
     loads_fault X e found q = record {
       ok = tt;
       err = found;
@@ -142,16 +142,16 @@ module _ (turns : ℕ) (s : Input) where
       spent = λ h. all_spent (faulty X e) b t q (turns_alone X (Version × ImageParts A) e h);
     }
 
-    head_found : (e : FieldFault) → ReadsImageHead (before_all turns) s (faulty Head e) b t → IsFoundAs (load_fault_of e)
+    head_found : (e : FieldFault) → ReadsImageHead (before_all reads) s (faulty Head e) b t → IsFoundAs (load_fault_of e)
     head_found (field.Misshapen n) h = if_known s.remaining (λ bytes. AreBytes bytes → IsFaultOf bytes (Misshapen n)) (λ bytes k w. let v = h.value (known_all bytes k) in inl (all_rest bytes k ∙ v.0, v.1))
     head_found field.Device h = of_none Device (λ bytes. tt)
-    head_found field.Turns h = of_none Turns (λ bytes. tt)
+    head_found field.TooManyReads h = of_none TooManyReads (λ bytes. tt)
     head_found field.OutOfMemory h = of_none OutOfMemory (λ bytes. tt)
 
-    pub head_faults : (e : FieldFault) → ReadsImageHead (before_all turns) s (faulty Head e) b t → LoadsParts {A = A} s turns (Err (load_fault_of e)) t
+    pub head_faults : (e : FieldFault) → ReadsImageHead (before_all reads) s (faulty Head e) b t → LoadsParts {A = A} s reads (Err (load_fault_of e)) t
     head_faults e h = loads_fault Head e (head_found e h) h.calls
 
-    pub not_an_image : ReadsImageHead (before_all turns) s (fine head.None) b t → LoadsParts {A = A} s turns (Err NotAnImage) t
+    pub not_an_image : ReadsImageHead (before_all reads) s (fine head.None) b t → LoadsParts {A = A} s reads (Err NotAnImage) t
     not_an_image h = record {
       ok = tt;
       err = if_known s.remaining (λ bytes. AreBytes bytes → IsFaultOf bytes NotAnImage) (λ bytes k w e. h.value (known_all bytes k) (ap (take 4) (sym (all_rest bytes k)) ∙ e));
@@ -162,7 +162,7 @@ module _ (turns : ℕ) (s : Input) where
       spent = λ z. absurd (none_not_turns {T = Version × ImageParts A} z);
     }
 
-    pub other_version : ReadsImageHead (before_all turns) s (fine head.Other) b t → LoadsParts {A = A} s turns (Err OtherVersion) t
+    pub other_version : ReadsImageHead (before_all reads) s (fine head.Other) b t → LoadsParts {A = A} s reads (Err OtherVersion) t
     other_version h = record {
       ok = tt;
       err = if_known s.remaining (λ bytes. AreBytes bytes → IsFaultOf bytes OtherVersion) (λ bytes k w. let v = h.value (known_all bytes k) in (v.0, v.1, all_rest bytes k ∙ v.2, v.3, v.4));
@@ -173,7 +173,7 @@ module _ (turns : ℕ) (s : Input) where
       spent = λ z. absurd (other_not_turns {T = Version × ImageParts A} z);
     }
 
-    module _ (v : Version) (h : ReadsImageHead (before_all turns) s (fine (head.Of v)) b t) (bytes : List ℕ) (known : s.remaining ≡ Some bytes) (are : AreBytes bytes) where
+    module _ (v : Version) (h : ReadsImageHead (before_all reads) s (fine (head.Of v)) b t) (bytes : List ℕ) (known : s.remaining ≡ Some bytes) (are : AreBytes bytes) where
       abbrev left : List ℕ
       left = (cursor_of b t).rest
 
@@ -203,10 +203,10 @@ module _ (turns : ℕ) (s : Input) where
           let read : read_whole (image v) (body left) ≡ Err n = ap (read_whole (image v)) (sym cursor_is) ∙ e in
           inr (v, left, text_is, subst (λ (r : Result ImageData ℕ). IfErr r (IsMisshapen (image v) (body left))) read whole.fault)
 
-    module _ (c : FieldsRead) (u : Input) (v : Version) (h : ReadsImageHead (before_all turns) s (fine (head.Of v)) b t) where
-      pub loads : (parts : ImageParts A) → ReadsWhole (image v) image_of b t (fine parts) c u → LoadsParts s turns (Ok (v, parts)) u
+    module _ (c : FieldsRead) (u : Input) (v : Version) (h : ReadsImageHead (before_all reads) s (fine (head.Of v)) b t) where
+      pub loads : (parts : ImageParts A) → ReadsWhole (image v) image_of b t (fine parts) c u → LoadsParts s reads (Ok (v, parts)) u
       loads parts w =
-          let q = calls_more (nothing_ahead turns) b.ahead c.ahead s t u (head.Of v) (fine parts) h.calls w.calls in
+          let q = calls_more (nothing_ahead reads) b.ahead c.ahead s t u (head.Of v) (fine parts) h.calls w.calls in
           record {
             ok = if_known s.remaining (λ bytes. AreBytes bytes → IsImageOf v (image_of parts) bytes) (λ bytes k are. image_found v h bytes k are (image_of parts) (w.value (known_here v h bytes k are)));
             err = tt;
@@ -220,9 +220,9 @@ module _ (turns : ℕ) (s : Input) where
       body_found : (e : FieldFault) → ReadsWhole (image v) (image_of {A = A}) b t (faulty (ImageParts A) e) c u → IsFoundAs (load_fault_of e)
       body_found (field.Misshapen n) w = if_known s.remaining (λ bytes. AreBytes bytes → IsFaultOf bytes (Misshapen n)) (λ bytes k are. misshapen_found v h bytes k are n (w.value (known_here v h bytes k are)))
       body_found field.Device w = of_none Device (λ bytes. tt)
-      body_found field.Turns w = of_none Turns (λ bytes. tt)
+      body_found field.TooManyReads w = of_none TooManyReads (λ bytes. tt)
       body_found field.OutOfMemory w = of_none OutOfMemory (λ bytes. tt)
 
-  pub body_faults : {A : Type 0} (b c : FieldsRead) (t u : Input) (v : Version) → ReadsImageHead (before_all turns) s (fine (head.Of v)) b t → (e : FieldFault) → ReadsWhole (image v) (image_of {A = A}) b t (faulty (ImageParts A) e) c u → LoadsParts {A = A} s turns (Err (load_fault_of e)) u
+  pub body_faults : {A : Type 0} (b c : FieldsRead) (t u : Input) (v : Version) → ReadsImageHead (before_all reads) s (fine (head.Of v)) b t → (e : FieldFault) → ReadsWhole (image v) (image_of {A = A}) b t (faulty (ImageParts A) e) c u → LoadsParts {A = A} s reads (Err (load_fault_of e)) u
   body_faults {A} b c t u v h e w =
-      loads_fault A c u (ImageParts A) e (body_found A b t c u v h e w) (calls_more (nothing_ahead turns) b.ahead c.ahead s t u (head.Of v) (faulty (ImageParts A) e) h.calls w.calls)
+      loads_fault A c u (ImageParts A) e (body_found A b t c u v h e w) (calls_more (nothing_ahead reads) b.ahead c.ahead s t u (head.Of v) (faulty (ImageParts A) e) h.calls w.calls)

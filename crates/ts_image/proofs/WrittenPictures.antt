@@ -43,7 +43,7 @@ use Rattle.ts_store.specs.image.SavedContent.{SavedColumn, SavedSeries, saved_fi
 use Rattle.ts_store.specs.read.ViewResults.{no_points}
 use Rattle.ts_store.specs.store.SizedStores.{IsSized}
 use Rattle.ts_image.specs.SavedParts.{image_rule_of, image_settings_of, extremes_in}
-use Rattle.ts_image.specs.Saving.{image_cell_of, frozen_cells_at, image_cells_from, column_at, image_column_of, image_series_of, image_of}
+use Rattle.ts_image.specs.Saving.{image_cell_of, frozen_cells_at, image_cells_from, column_at, image_column_of, image_series_of, store_image}
 use Rattle.ts_image.proofs.Orders.{all_among, among_all, rising_keys, of_both}
 use Rattle.ts_image.proofs.RawPictures.{series_of, field_of, column_here, column_from, waiting_here, waiting_from}
 use Rattle.ts_image.proofs.ReloadLemmas.{is_waiting-among}
@@ -300,7 +300,7 @@ module _ (opening : Settings) (h : History) (k : StoreData) (order : List SavedS
   cells_written : PictureCells k.marks.lows k.cells (image_cells_from k 0 k.settings.rules) × AreOrderlyCells k.marks.lows (image_cells_from k 0 k.settings.rules)
   cells_written = all_written k (kept_from opening h k.waiting) (latest_of h) 0 k.settings.rules k.marks.lows k.cells refl refl sized.lows sized.cells st.rolled
 
-  pub written_picture : IsPictureOf k (image_of k order)
+  pub written_picture : IsPictureOf k (store_image k order)
   written_picture = record {
     settings = settings_back k.settings;
     marks = refl;
@@ -313,7 +313,7 @@ module _ (opening : Settings) (h : History) (k : StoreData) (order : List SavedS
   }
 
 module _ (opening : Settings) (h : History) (k : StoreData) (order : List SavedSeries) (st : StandsFor opening h (state_of k)) (well : IsWellFormed k) (w : SavesSeries k.series (map column_of k.columns) order) where
-  pub written_orderly : IsOrderly (image_of k order)
+  pub written_orderly : IsOrderly (store_image k order)
   written_orderly = record {
     raw = omega (arith, ints);
     durations = lasting k.settings.rules;

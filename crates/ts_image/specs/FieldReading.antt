@@ -4,7 +4,7 @@ use Rattle.std.specs.Io.KnownBytes.{Consumes, Keeps, IsAtEnd}
 use Rattle.ts_core.specs.io.Devices.{Input}
 use Rattle.ts_core.specs.io.ReadingAhead.{Ahead, pending, EndIsEnd, bit, weight}
 use Rattle.ts_image.specs.declared.field_fault.FieldFault.{FieldFault}
-use Rattle.ts_image.specs.declared.field_fault.FieldFault.TheVariants.{Misshapen, Device, Turns, OutOfMemory}
+use Rattle.ts_image.specs.declared.field_fault.FieldFault.TheVariants.{Misshapen, Device, TooManyReads, OutOfMemory}
 use Rattle.ts_image.specs.Formats.{Cursor, Read, Format}
 
 pub record FieldsRead : Type 0 where
@@ -31,17 +31,17 @@ abbrev pub one_if_failed : {T : Type 0} → Result T FieldFault → ℕ
 one_if_failed (Ok x) = 0
 one_if_failed (Err (Misshapen n)) = 0
 one_if_failed (Err Device) = 1
-one_if_failed (Err Turns) = 0
+one_if_failed (Err TooManyReads) = 0
 one_if_failed (Err OutOfMemory) = 0
 
 -- the effect on the counts of the source and of the read buffer
 pub record CallsSource {T : Type 0} (old : Ahead) (source : Input) (result : Result T FieldFault) (new : Ahead) (source' : Input) : Type 0 where
   pub end : EndIsEnd new source'
   pub allowed : new.limit ≡ old.limit
-  pub within : old.turns ≤ old.limit → new.turns ≤ new.limit
-  pub spent : result ≡ Err Turns → (new.turns ≡ new.limit) × (new.ended ≡ false)
+  pub within : old.reads ≤ old.limit → new.reads ≤ new.limit
+  pub spent : result ≡ Err TooManyReads → (new.reads ≡ new.limit) × (new.ended ≡ false)
   pub failures : source'.failures ≡ source.failures + one_if_failed result
-  pub turns : source'.turns + old.turns ≡ source.turns + new.turns
+  pub reads : source'.reads + old.reads ≡ source.reads + new.reads
   pub ends : source'.ends + bit old.ended ≡ source.ends + bit new.ended
 
 -- these bytes were consumed
@@ -60,7 +60,7 @@ abbrev pub FillsBuffer : FieldsRead → Input → Result (Unit {0}) FieldFault �
 FillsBuffer old source (Ok u) buffer new source' = UsesBytes old source buffer new source'
 FillsBuffer old source (Err (Misshapen n)) buffer new source' = (n ≡ old.at) × (IsKnown old source → length (cursor_of old source).rest < length buffer)
 FillsBuffer old source (Err Device) buffer new source' = Unit {0}
-FillsBuffer old source (Err Turns) buffer new source' = Unit {0}
+FillsBuffer old source (Err TooManyReads) buffer new source' = Unit {0}
 FillsBuffer old source (Err OutOfMemory) buffer new source' = Unit {0}
 
 -- the view of a call's result is the format's reading
@@ -68,7 +68,7 @@ abbrev pub GivesReading : {X Y : Type 0} → (X → Y) → Result X FieldFault �
 GivesReading view (Ok x) q read = read ≡ Ok (view x, q)
 GivesReading view (Err (Misshapen n)) q read = read ≡ Err n
 GivesReading view (Err Device) q read = Unit {0}
-GivesReading view (Err Turns) q read = Unit {0}
+GivesReading view (Err TooManyReads) q read = Unit {0}
 GivesReading view (Err OutOfMemory) q read = Unit {0}
 
 -- reads a value by its format, if the bytes to come are known
@@ -91,7 +91,7 @@ abbrev pub IsShaped : {T : Type 0} → Result T FieldFault → Type 0
 IsShaped (Ok x) = Unit {0}
 IsShaped (Err (Misshapen n)) = ⊥
 IsShaped (Err Device) = Unit {0}
-IsShaped (Err Turns) = Unit {0}
+IsShaped (Err TooManyReads) = Unit {0}
 IsShaped (Err OutOfMemory) = Unit {0}
 
 -- consumes the next byte, or there is none
@@ -106,10 +106,10 @@ pub record TakesChunk (old : FieldsRead) (before : List ℕ) (most : ℕ) (new :
   pub few : length chunk ≤ most
   pub put : after ≡ before ++ chunk
   pub used : (s : Input) → UsesBytes old s chunk new s
-  pub turns : new.ahead.turns ≡ old.ahead.turns
+  pub reads : new.ahead.reads ≡ old.ahead.reads
   pub limit : new.ahead.limit ≡ old.ahead.limit
   pub ended : new.ahead.ended ≡ old.ahead.ended
-  pub within : new.ahead.turns ≤ new.ahead.limit
+  pub within : new.ahead.reads ≤ new.ahead.limit
   pub end : (s : Input) → EndIsEnd old.ahead s → EndIsEnd new.ahead s
 
 -- consumes n bytes, or the input ends before
@@ -123,5 +123,5 @@ abbrev pub GivesEnd : Result (Unit {0}) FieldFault → Cursor → Type 0
 GivesEnd (Ok u) p = p.rest ≡ []
 GivesEnd (Err (Misshapen n)) p = (n ≡ p.at) × (0 < length p.rest)
 GivesEnd (Err Device) p = Unit {0}
-GivesEnd (Err Turns) p = Unit {0}
+GivesEnd (Err TooManyReads) p = Unit {0}
 GivesEnd (Err OutOfMemory) p = Unit {0}

@@ -2,7 +2,7 @@
 use Rattle.std.specs.Prelude.{◌≡◌, ◌≢◌, ℕ, ◌+◌, List, ◌∷◌, ◌++◌, take, Result, Ok, Err}
 use Rattle.ts_core.specs.io.Devices.{Input}
 use Rattle.ts_image.specs.declared.field_fault.FieldFault.{FieldFault}
-use Rattle.ts_image.specs.declared.field_fault.FieldFault.TheVariants.{Misshapen, Device, Turns, OutOfMemory}
+use Rattle.ts_image.specs.declared.field_fault.FieldFault.TheVariants.{Misshapen, Device, TooManyReads, OutOfMemory}
 use Rattle.ts_image.specs.declared.image_reading.Head.{Head}
 use Rattle.ts_image.specs.declared.image_reading.Head.TheVariants as head
 use Rattle.ts_image.specs.Formats.{Cursor}
@@ -16,7 +16,7 @@ GivesHead (Ok head.Other) p q = (b : ℕ) × (rest : List ℕ) × (p.rest ≡ im
 GivesHead (Ok head.None) p q = take 4 p.rest ≢ image_mark
 GivesHead (Err (Misshapen n)) p q = (p.rest ≡ image_mark) × (n ≡ p.at + 4)
 GivesHead (Err Device) p q = Unit {0}
-GivesHead (Err Turns) p q = Unit {0}
+GivesHead (Err TooManyReads) p q = Unit {0}
 GivesHead (Err OutOfMemory) p q = Unit {0}
 
 -- the bytes to come stay known if it is an image

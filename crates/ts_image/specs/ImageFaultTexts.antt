@@ -14,7 +14,7 @@ load_fault_text loading.OtherVersion = fault_text code.ImageVersion Alone
 load_fault_text (loading.Misshapen at) = fault_text code.BrokenImage (At at)
 load_fault_text loading.Contradiction = fault_text code.ContradictoryImage Alone
 load_fault_text loading.Device = fault_text code.ImageDevice Alone
-load_fault_text loading.Turns = fault_text code.EndlessImage Alone
+load_fault_text loading.TooManyReads = fault_text code.EndlessImage Alone
 load_fault_text loading.OutOfMemory = memory_text
 
 -- Data that doesn't fit the form contradicts itself.

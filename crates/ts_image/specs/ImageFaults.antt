@@ -1,7 +1,7 @@
 -- Faults of bytes that aren't the image of a store. (Own rules.)
 use Rattle.std.specs.Prelude.{◌≡◌, ◌≢◌, ◌⊎◌, ℕ, List, ◌∷◌, ◌++◌, take}
 use Rattle.ts_image.specs.declared.load_fault.LoadFault.{LoadFault}
-use Rattle.ts_image.specs.declared.load_fault.LoadFault.TheVariants.{NotAnImage, OtherVersion, Misshapen, Contradiction, Device, Turns, OutOfMemory}
+use Rattle.ts_image.specs.declared.load_fault.LoadFault.TheVariants.{NotAnImage, OtherVersion, Misshapen, Contradiction, Device, TooManyReads, OutOfMemory}
 use Rattle.ts_image.specs.FormatLaws.{IsMisshapen}
 use Rattle.ts_image.specs.declared.version.Version.{Version}
 use Rattle.ts_image.specs.Images.{ImageData, image, image_mark, version_byte, image_text, body}
@@ -24,7 +24,7 @@ IsFaultOf bytes (Misshapen n) = ((bytes ≡ image_mark) × (n ≡ 4)) ⊎ ((v : 
 IsFaultOf bytes Contradiction = (v : Version) × (d : ImageData) × IsImageOf v d bytes × (IsPossible v d → ⊥)
 -- errors of devices, of limits and of memory don't depend on the bytes
 IsFaultOf bytes Device = Unit {0}
-IsFaultOf bytes Turns = Unit {0}
+IsFaultOf bytes TooManyReads = Unit {0}
 IsFaultOf bytes OutOfMemory = Unit {0}
 
 -- the fault is one of the bytes
@@ -34,7 +34,7 @@ IsOfBytes OtherVersion = Unit {0}
 IsOfBytes (Misshapen n) = Unit {0}
 IsOfBytes Contradiction = Unit {0}
 IsOfBytes Device = ⊥
-IsOfBytes Turns = ⊥
+IsOfBytes TooManyReads = ⊥
 IsOfBytes OutOfMemory = ⊥
 
 -- an image without contradictions has no fault, and is of no other version and no other data

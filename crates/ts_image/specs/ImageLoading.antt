@@ -22,7 +22,7 @@ pub record IsLoaded {A : Type 0} (source : Input) (image : LoadedImage A) : Type
 
 -- loads an image without contradictions
 abbrev pub LoadsImage : {A : Type 0} → Input → ℕ → Result (LoadedImage A) LoadFault → Input → Type 0
-LoadsImage source turns result source' = Loads (IsLoaded source) source turns result source'
+LoadsImage source reads result source' = Loads (IsLoaded source) source reads result source'
 
 -- the source had the bytes of an image without contradictions, and the store is created from its data
 pub record IsLoadedStore (source : Input) (k : StoreData) : Type 0 where
@@ -34,7 +34,7 @@ pub record IsLoadedStore (source : Input) (k : StoreData) : Type 0 where
 
 -- loads a store
 abbrev pub LoadsStore : Input → ℕ → Result StoreData LoadFault → Input → Type 0
-LoadsStore source turns result source' = Loads (IsLoadedStore source) source turns result source'
+LoadsStore source reads result source' = Loads (IsLoadedStore source) source reads result source'
 
 -- if the source had the image of a store, the loaded store represents each history that this one represented
 abbrev pub StandsAsSaved : Input → StoreData → Type 0

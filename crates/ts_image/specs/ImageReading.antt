@@ -6,7 +6,7 @@ use Rattle.ts_image.specs.declared.version.Version.{Version}
 use Rattle.ts_image.specs.declared.field_fault.FieldFault.{FieldFault}
 use Rattle.ts_image.specs.declared.field_fault.FieldFault.TheVariants as field
 use Rattle.ts_image.specs.declared.load_fault.LoadFault.{LoadFault}
-use Rattle.ts_image.specs.declared.load_fault.LoadFault.TheVariants.{NotAnImage, OtherVersion, Misshapen, Contradiction, Device, Turns, OutOfMemory}
+use Rattle.ts_image.specs.declared.load_fault.LoadFault.TheVariants.{NotAnImage, OtherVersion, Misshapen, Contradiction, Device, TooManyReads, OutOfMemory}
 use Rattle.ts_image.specs.declared.image_reading.ImageParts.{ImageParts}
 use Rattle.ts_image.specs.Formats.{Format, read_whole}
 use Rattle.ts_image.specs.FormatLaws.{AreBytes}
@@ -25,7 +25,7 @@ abbrev pub GivesWhole : {X Y : Type 0} → (X → Y) → Result X FieldFault →
 GivesWhole view (Ok x) read = read ≡ Ok (view x)
 GivesWhole view (Err (field.Misshapen n)) read = read ≡ Err n
 GivesWhole view (Err field.Device) read = Unit {0}
-GivesWhole view (Err field.Turns) read = Unit {0}
+GivesWhole view (Err field.TooManyReads) read = Unit {0}
 GivesWhole view (Err field.OutOfMemory) read = Unit {0}
 
 -- reads a value up to the end of the input
@@ -42,11 +42,11 @@ one_if_device_failed (Err OtherVersion) = 0
 one_if_device_failed (Err (Misshapen n)) = 0
 one_if_device_failed (Err Contradiction) = 0
 one_if_device_failed (Err Device) = 1
-one_if_device_failed (Err Turns) = 0
+one_if_device_failed (Err TooManyReads) = 0
 one_if_device_failed (Err OutOfMemory) = 0
 
 -- a source is read to its end with a wanted result, or it has this fault
-pub record Loads {T : Type 0} (IsWanted : T → Type 0) (source : Input) (turns : ℕ) (result : Result T LoadFault) (source' : Input) : Type 0 where
+pub record Loads {T : Type 0} (IsWanted : T → Type 0) (source : Input) (reads : ℕ) (result : Result T LoadFault) (source' : Input) : Type 0 where
   pub ok : IfOk result IsWanted
   pub err : IfErr result (λ e. IfSome source.remaining (λ bytes. AreBytes bytes → IsFaultOf bytes e))
   -- once the end was read, the source has no byte left
@@ -55,9 +55,9 @@ pub record Loads {T : Type 0} (IsWanted : T → Type 0) (source : Input) (turns 
   pub failures : source'.failures ≡ source.failures + one_if_device_failed result
   -- the end was read
   pub ends : IfOk result (λ r. source'.ends ≡ source.ends + 1)
-  pub within : source'.turns ≤ source.turns + turns
+  pub within : source'.reads ≤ source.reads + reads
   -- all allowed reads saw no end
-  pub spent : result ≡ Err Turns → (source'.turns ≡ source.turns + turns) × (source'.ends ≡ source.ends)
+  pub spent : result ≡ Err TooManyReads → (source'.reads ≡ source.reads + reads) × (source'.ends ≡ source.ends)
 
 -- the source had the bytes of this image
 abbrev pub HadImage : Input → Version → ImageData → Type 0
@@ -65,4 +65,4 @@ HadImage source v d = IfSome source.remaining (λ bytes. AreBytes bytes → IsIm
 
 -- reads an image up to its form
 abbrev pub LoadsParts : {A : Type 0} → Input → ℕ → Result (Version × ImageParts A) LoadFault → Input → Type 0
-LoadsParts source turns result source' = Loads (λ r. HadImage source r.0 (image_of r.1)) source turns result source'
+LoadsParts source reads result source' = Loads (λ r. HadImage source r.0 (image_of r.1)) source reads result source'

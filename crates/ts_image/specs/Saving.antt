@@ -46,8 +46,8 @@ abbrev pub HasItsColumns : StoreData → SavedSeries → Type 0
 HasItsColumns k s = AllByRecursion (λ (c : SavedColumn). c.number < length k.columns) s.columns
 
 -- all data of a store, with its series and columns in this order
-abbrev pub image_of : StoreData → List SavedSeries → ImageData
-image_of k saved = record {
+abbrev pub store_image : StoreData → List SavedSeries → ImageData
+store_image k saved = record {
   settings = image_settings_of k.settings;
   marks = k.marks;
   runs = bit k.running;
@@ -99,8 +99,8 @@ IsOrder k order = SavesSeries k.series (map column_of k.columns) order
 -- Writes the image of a store in version 2. After a device error, a prefix of it was written. When out of memory, or if
 -- the data doesn't fit, nothing was written.
 pub record IsSaved {T : Type 0} (k : StoreData) (old : Output) (result : Result T SaveFault) (new : Output) : Type 0 where
-  pub ok : OnOk result ((order : List SavedSeries) × IsOrder k order × (image V2).fits (image_of k order) × Appends old.contents new.contents (image_text V2 (image_of k order)))
-  pub device : result ≡ Err Device → (order : List SavedSeries) × IsOrder k order × AppendsFront old.contents new.contents (image_text V2 (image_of k order))
+  pub ok : OnOk result ((order : List SavedSeries) × IsOrder k order × (image V2).fits (store_image k order) × Appends old.contents new.contents (image_text V2 (store_image k order)))
+  pub device : result ≡ Err Device → (order : List SavedSeries) × IsOrder k order × AppendsFront old.contents new.contents (image_text V2 (store_image k order))
   pub memory : result ≡ Err OutOfMemory → new ≡ old
   pub unfit : result ≡ Err Unfit → (new ≡ old) × ((order : List SavedSeries) × IsOrder k order × (FitsImage k order → ⊥))
   pub failures : new.failures ≡ old.failures + one_if_device_fault result

@@ -46,9 +46,9 @@ abbrev pub points_if : Text → ImageSeries → ℕ
 points_if m s = if same_text s.series.measurement m then points_of_series s else 0
 
 -- subtracts a number if it isn't greater
-abbrev pub IsTaken : ℕ → ℕ → Option ℕ → Type 0
-IsTaken left taken (Some rest) = rest + taken ≡ left
-IsTaken left taken None = left < taken
+abbrev pub IsSubtracted : ℕ → ℕ → Option ℕ → Type 0
+IsSubtracted left taken (Some rest) = rest + taken ≡ left
+IsSubtracted left taken None = left < taken
 
 -- the interval is at least a nanosecond
 abbrev pub HasLongInterval : {A : Type 0} → RuleParts A → Type 0

@@ -9,13 +9,13 @@ use Rattle.ts_image.specs.ImageTests.{IsPossible}
 use Rattle.ts_image.specs.Pictures.{IsPictureOf}
 use Rattle.ts_image.specs.SavedImages.{IsWellFormed}
 use Rattle.ts_store.specs.image.SavedContent.{SavedSeries}
-use Rattle.ts_image.specs.Saving.{image_of, FitsImage, IsOrder}
+use Rattle.ts_image.specs.Saving.{store_image, FitsImage, IsOrder}
 
 -- it fits the form of images, is a picture of the store, and has no contradiction
 pub record IsAcceptable (k : StoreData) (order : List SavedSeries) : Type 0 where
   pub fits : FitsImage k order
-  pub picture : IsPictureOf k (image_of k order)
-  pub possible : IsPossible V2 (image_of k order)
+  pub picture : IsPictureOf k (store_image k order)
+  pub possible : IsPossible V2 (store_image k order)
 
 abbrev pub WrittenImagesAreAcceptable : Type 0
 WrittenImagesAreAcceptable = (opening : Settings) (h : History) (k : StoreData) (order : List SavedSeries) → StandsFor opening h (state_of k) → IsWellFormed k → IsOrder k order → IsAcceptable k order

@@ -12,7 +12,7 @@ ghost use Rattle.ts_image.specs.CellParts.{lows_of, marks_of_parts, cell_key_of,
 use crate::column_reading::read_point;
 use crate::field_fault::FieldFault;
 use crate::field_reader::FieldReader;
-use crate::rule_reading::{RuleParts, read_texts};
+use crate::rule_reading::{RuleParts, read_strings};
 use std::alloc::Allocator;
 use std::io::Read;
 use ts_core::Source;
@@ -106,7 +106,7 @@ fn read_group<R: Read, A: Allocator + Copy>(
     requires { EndIsEnd reader.old.ahead source.old }
     ensures { ReadsField (along (λ (tag : Text). text) (rule_from_parts rule.now).kept_tags) texts_of reader.old source.old result reader.new source.new }
 {
-    read_texts(alloc, reader, source, rule.kept_tags.len() as u64)
+    read_strings(alloc, reader, source, rule.kept_tags.len() as u64)
 }
 
 /// Reads the key of a cell, with a value for each kept tag of its rule.

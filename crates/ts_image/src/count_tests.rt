@@ -6,15 +6,15 @@ ghost use Rattle.ts_image.specs.Images.{ImageColumn, ImageCell};
 ghost use Rattle.ts_image.specs.ImageTests.{points_of_series, points_in_all, count_frozen};
 ghost use Rattle.ts_image.specs.SeriesParts.{column_of_parts, series_of_parts, all_series_of};
 ghost use Rattle.ts_image.specs.CellParts.{cell_of_parts};
-ghost use Rattle.ts_image.specs.TestParts.{points_if, IsTaken};
+ghost use Rattle.ts_image.specs.TestParts.{points_if, IsSubtracted};
 
 use crate::cell_reading::CellParts;
 use crate::series_reading::{ColumnParts, SeriesParts};
 use std::alloc::Allocator;
 
 /// Subtracts the points of columns.
-fn take_columns<A: Allocator>(mut left: u64, columns: &[ColumnParts<A>]) -> Option<u64>
-    ensures { IsTaken left (sum_by (λ (c : ImageColumn). length c.points) (map column_of_parts columns.now)) result }
+fn subtract_columns<A: Allocator>(mut left: u64, columns: &[ColumnParts<A>]) -> Option<u64>
+    ensures { IsSubtracted left (sum_by (λ (c : ImageColumn). length c.points) (map column_of_parts columns.now)) result }
 {
     for column in columns {
         let points = column.points.len() as u64;
@@ -27,18 +27,18 @@ fn take_columns<A: Allocator>(mut left: u64, columns: &[ColumnParts<A>]) -> Opti
 }
 
 /// Subtracts the points of a series.
-fn take_one<A: Allocator>(left: u64, one: &SeriesParts<A>) -> Option<u64>
-    ensures { IsTaken left (points_of_series (series_of_parts one.now)) result }
+fn subtract_one<A: Allocator>(left: u64, one: &SeriesParts<A>) -> Option<u64>
+    ensures { IsSubtracted left (points_of_series (series_of_parts one.now)) result }
 {
-    take_columns(left, &one.columns)
+    subtract_columns(left, &one.columns)
 }
 
 /// Subtracts the points of all series.
-pub(crate) fn take_series<A: Allocator>(mut left: u64, series: &[SeriesParts<A>]) -> Option<u64>
-    ensures { IsTaken left (points_in_all (map series_of_parts series.now)) result }
+pub(crate) fn subtract_series<A: Allocator>(mut left: u64, series: &[SeriesParts<A>]) -> Option<u64>
+    ensures { IsSubtracted left (points_in_all (map series_of_parts series.now)) result }
 {
     for one in series {
-        match take_one(left, one) {
+        match subtract_one(left, one) {
             Some(rest) => left = rest,
             None => return None,
         }
@@ -46,26 +46,26 @@ pub(crate) fn take_series<A: Allocator>(mut left: u64, series: &[SeriesParts<A>]
     Some(left)
 }
 
-fn take_if<A: Allocator>(left: u64, one: &SeriesParts<A>, measurement: &str) -> Option<u64>
-    ensures { IsTaken left (points_if measurement.now (series_of_parts one.now)) result }
+fn subtract_if<A: Allocator>(left: u64, one: &SeriesParts<A>, measurement: &str) -> Option<u64>
+    ensures { IsSubtracted left (points_if measurement.now (series_of_parts one.now)) result }
 {
     if one.key.measurement.as_str() == measurement {
-        take_one(left, one)
+        subtract_one(left, one)
     } else {
         Some(left)
     }
 }
 
 /// Subtracts the points of a measurement.
-pub(crate) fn take_measurement<A: Allocator>(
+pub(crate) fn subtract_measurement<A: Allocator>(
     mut left: u64,
     series: &[SeriesParts<A>],
     measurement: &str,
 ) -> Option<u64>
-    ensures { IsTaken left (sum_by (points_if measurement.now) (map series_of_parts series.now)) result }
+    ensures { IsSubtracted left (sum_by (points_if measurement.now) (map series_of_parts series.now)) result }
 {
     for one in series {
-        match take_if(left, one, measurement) {
+        match subtract_if(left, one, measurement) {
             Some(rest) => left = rest,
             None => return None,
         }
@@ -74,8 +74,8 @@ pub(crate) fn take_measurement<A: Allocator>(
 }
 
 /// Subtracts the counts of cells.
-pub(crate) fn take_cells<A: Allocator>(mut left: u64, cells: &[CellParts<A>]) -> Option<u64>
-    ensures { IsTaken left (count_frozen (map cell_of_parts cells.now)) result }
+pub(crate) fn subtract_cells<A: Allocator>(mut left: u64, cells: &[CellParts<A>]) -> Option<u64>
+    ensures { IsSubtracted left (count_frozen (map cell_of_parts cells.now)) result }
 {
     for cell in cells {
         if cell.count > left {

@@ -12,7 +12,7 @@ pub(crate) enum FieldFault {
     /// A read failed.
     Device,
     /// Limit of reads, reached without an end of input.
-    Turns,
+    TooManyReads,
     /// Out of memory.
     OutOfMemory,
 }

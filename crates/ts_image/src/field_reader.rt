@@ -26,7 +26,7 @@ impl<A: Allocator + Copy> Model for FieldReader<A> {
 
     ghost view = { λ r. record { ahead = r.ahead; at = r.at } };
 
-    ghost invariant = { λ r. (r.at + length r.ahead.buffered ≤ r.ahead.turns * 65536) × (r.ahead.turns ≤ r.ahead.limit) × (r.ahead.limit ≤ 2 ^ 32) };
+    ghost invariant = { λ r. (r.at + length r.ahead.buffered ≤ r.ahead.reads * 65536) × (r.ahead.reads ≤ r.ahead.limit) × (r.ahead.limit ≤ 2 ^ 32) };
 }
 
 impl<A: Allocator + Copy> FieldReader<A> {
@@ -65,7 +65,7 @@ impl<A: Allocator + Copy> FieldReader<A> {
         match self.ahead.fill(source) {
             Ok(more) => Ok(more),
             Err(ReadFault::Device) => Err(FieldFault::Device),
-            Err(ReadFault::Turns) => Err(FieldFault::Turns),
+            Err(ReadFault::TooManyReads) => Err(FieldFault::TooManyReads),
         }
     }
 
@@ -86,7 +86,7 @@ impl<A: Allocator + Copy> FieldReader<A> {
 
     /// Does the work of `take` if not all bytes are buffered.
     #[cold]
-    fn take_bytewise<R: Read>(
+    fn read_bytewise<R: Read>(
         &mut self,
         source: &mut Source<R>,
         buffer: &mut [u8],
@@ -107,7 +107,7 @@ impl<A: Allocator + Copy> FieldReader<A> {
     }
 
     /// Fills `buffer` with the next bytes.
-    pub(crate) fn take<R: Read>(
+    pub(crate) fn read_exact<R: Read>(
         &mut self,
         source: &mut Source<R>,
         buffer: &mut [u8],
@@ -120,7 +120,7 @@ impl<A: Allocator + Copy> FieldReader<A> {
         let count = buffer.len();
         let rest = self.ahead.buffered();
         if rest.len() < count {
-            return self.take_bytewise(source, buffer);
+            return self.read_bytewise(source, buffer);
         }
         buffer.copy_from_slice(&rest[..count]);
         self.consume(count);
@@ -150,7 +150,7 @@ impl<A: Allocator + Copy> FieldReader<A> {
         ensures { ReadsField (number w8) (λ n. n) self.old source.old result self.new source.new }
     {
         let mut bytes = [0; 1];
-        self.take(source, &mut bytes)?;
+        self.read_exact(source, &mut bytes)?;
         Ok(u8::from_be_bytes(bytes))
     }
 
@@ -160,7 +160,7 @@ impl<A: Allocator + Copy> FieldReader<A> {
         ensures { ReadsField (number w32) (λ n. n) self.old source.old result self.new source.new }
     {
         let mut bytes = [0; 4];
-        self.take(source, &mut bytes)?;
+        self.read_exact(source, &mut bytes)?;
         Ok(u32::from_be_bytes(bytes))
     }
 
@@ -170,7 +170,7 @@ impl<A: Allocator + Copy> FieldReader<A> {
         ensures { ReadsField (number w64) (λ n. n) self.old source.old result self.new source.new }
     {
         let mut bytes = [0; 8];
-        self.take(source, &mut bytes)?;
+        self.read_exact(source, &mut bytes)?;
         Ok(u64::from_be_bytes(bytes))
     }
 
@@ -180,7 +180,7 @@ impl<A: Allocator + Copy> FieldReader<A> {
         ensures { ReadsField (signed_number w64) (λ n. n) self.old source.old result self.new source.new }
     {
         let mut bytes = [0; 8];
-        self.take(source, &mut bytes)?;
+        self.read_exact(source, &mut bytes)?;
         Ok(i64::from_be_bytes(bytes))
     }
 
@@ -190,12 +190,12 @@ impl<A: Allocator + Copy> FieldReader<A> {
         ensures { ReadsField (signed_number w128) (λ n. n) self.old source.old result self.new source.new }
     {
         let mut bytes = [0; 16];
-        self.take(source, &mut bytes)?;
+        self.read_exact(source, &mut bytes)?;
         Ok(i128::from_be_bytes(bytes))
     }
 
     /// Appends buffered bytes to `bytes`, at most `most`.
-    fn take_chunk(&mut self, bytes: &mut Vec<u8, A>, most: u64) -> Result<(), AllocError>
+    fn read_chunk(&mut self, bytes: &mut Vec<u8, A>, most: u64) -> Result<(), AllocError>
         requires some { 0 < length self.old.ahead.buffered }
         requires most { 0 < most }
         ensures ok { OnOk result (TakesChunk self.old bytes.old.items most self.new bytes.new.items) }
@@ -214,7 +214,7 @@ impl<A: Allocator + Copy> FieldReader<A> {
 
     /// Appends the next `length` bytes, or returns false if the input ends before. Allocates for bytes that were read,
     /// not by `length`.
-    fn take_text<R: Read>(
+    fn read_string<R: Read>(
         &mut self,
         source: &mut Source<R>,
         bytes: &mut Vec<u8, A>,
@@ -232,7 +232,7 @@ impl<A: Allocator + Copy> FieldReader<A> {
                 return Ok(false);
             }
             let left = length - bytes.len() as u64;
-            self.take_chunk(bytes, left)?;
+            self.read_chunk(bytes, left)?;
         }
         Ok(true)
     }
@@ -249,7 +249,7 @@ impl<A: Allocator + Copy> FieldReader<A> {
         let at = self.at;
         let length = self.u64(source)?;
         let mut bytes = Vec::new(alloc);
-        if !self.take_text(source, &mut bytes, length)? {
+        if !self.read_string(source, &mut bytes, length)? {
             return Err(FieldFault::Misshapen(at));
         }
         match String::from_utf8(bytes) {

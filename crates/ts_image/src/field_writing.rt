@@ -16,7 +16,7 @@ pub(crate) fn put_u8<W: Write, A: Allocator>(
 ) -> Result<(), Refused>
     ensures { PutsField (number w8) value sink.old out.old result sink.new out.new }
 {
-    out.put(&value.to_be_bytes(), sink)
+    out.write_all(&value.to_be_bytes(), sink)
 }
 
 /// Writes a number of four bytes.
@@ -27,7 +27,7 @@ pub(crate) fn put_u32<W: Write, A: Allocator>(
 ) -> Result<(), Refused>
     ensures { PutsField (number w32) value sink.old out.old result sink.new out.new }
 {
-    out.put(&value.to_be_bytes(), sink)
+    out.write_all(&value.to_be_bytes(), sink)
 }
 
 /// Writes a number of eight bytes.
@@ -38,7 +38,7 @@ pub(crate) fn put_u64<W: Write, A: Allocator>(
 ) -> Result<(), Refused>
     ensures { PutsField (number w64) value sink.old out.old result sink.new out.new }
 {
-    out.put(&value.to_be_bytes(), sink)
+    out.write_all(&value.to_be_bytes(), sink)
 }
 
 /// Writes a signed number of eight bytes.
@@ -49,7 +49,7 @@ pub(crate) fn put_i64<W: Write, A: Allocator>(
 ) -> Result<(), Refused>
     ensures { PutsField (signed_number w64) value.now sink.old out.old result sink.new out.new }
 {
-    out.put(&value.to_be_bytes(), sink)
+    out.write_all(&value.to_be_bytes(), sink)
 }
 
 /// Writes a signed number of sixteen bytes.
@@ -60,7 +60,7 @@ pub(crate) fn put_i128<W: Write, A: Allocator>(
 ) -> Result<(), Refused>
     ensures { PutsField (signed_number w128) value.now sink.old out.old result sink.new out.new }
 {
-    out.put(&value.to_be_bytes(), sink)
+    out.write_all(&value.to_be_bytes(), sink)
 }
 
 /// Writes a text: its length and its bytes.
@@ -71,12 +71,12 @@ pub(crate) fn put_text<W: Write, A: Allocator>(
 ) -> Result<(), Refused>
     ensures { PutsField text value.now sink.old out.old result sink.new out.new }
 {
-    out.put(&(value.len() as u64).to_be_bytes(), sink)?;
-    out.put(value.as_bytes(), sink)
+    out.write_all(&(value.len() as u64).to_be_bytes(), sink)?;
+    out.write_all(value.as_bytes(), sink)
 }
 
 /// Writes texts, one after another.
-pub(crate) fn put_texts<W: Write, A: Allocator>(
+pub(crate) fn put_strings<W: Write, A: Allocator>(
     texts: &[String<A>],
     out: &mut OutputBuffer<A>,
     sink: &mut Sink<W>,

@@ -18,7 +18,7 @@ use ts_core::{Settings, Source};
 use ts_store::Store;
 
 /// Limit of the reads of `load`: 2^32.
-const MOST_TURNS: u64 = 4_294_967_296;
+const MOST_READS: u64 = 4_294_967_296;
 
 /// An image without contradictions, and its settings.
 #[derive(Drop)]
@@ -48,16 +48,16 @@ fn possible_settings<A: Allocator + Copy>(
     }
 }
 
-/// Reads an image to the end of the input, with at most `turns` reads, and tests it for contradictions.
+/// Reads an image to the end of the input, with at most `reads` reads, and tests it for contradictions.
 pub fn load_parts<R: Read, A: Allocator + Copy>(
     alloc: A,
     source: &mut Source<R>,
-    turns: u64,
+    reads: u64,
 ) -> Result<LoadedImage<A>, LoadFault>
-    requires { turns ≤ 2 ^ 32 }
-    ensures { LoadsImage source.old turns result source.new }
+    requires { reads ≤ 2 ^ 32 }
+    ensures { LoadsImage source.old reads result source.new }
 {
-    let read = read_parts(alloc, source, turns)?;
+    let read = read_parts(alloc, source, reads)?;
     match possible_settings(alloc, read.0, &read.1)? {
         Some(settings) => Ok(LoadedImage {
             version: read.0,
@@ -68,17 +68,17 @@ pub fn load_parts<R: Read, A: Allocator + Copy>(
     }
 }
 
-/// Loads a store from an image to the end of the input, with at most `turns` reads.
+/// Loads a store from an image to the end of the input, with at most `reads` reads.
 pub fn load_within<R: Read, A: Allocator + Copy>(
     alloc: A,
     source: &mut Source<R>,
-    turns: u64,
+    reads: u64,
 ) -> Result<Store<A>, LoadFault>
-    requires { turns ≤ 2 ^ 32 }
-    ensures loads { LoadsStore source.old turns result source.new }
+    requires { reads ≤ 2 ^ 32 }
+    ensures loads { LoadsStore source.old reads result source.new }
     ensures stands { IfOk result (StandsAsSaved source.old) }
 {
-    let image = load_parts(alloc, source, turns)?;
+    let image = load_parts(alloc, source, reads)?;
     let store = make_store(alloc, image)?;
     Ok(store)
 }
@@ -91,5 +91,5 @@ pub fn load<R: Read, A: Allocator + Copy>(
     ensures loads { LoadsStore source.old (2 ^ 32) result source.new }
     ensures stands { IfOk result (StandsAsSaved source.old) }
 {
-    load_within(alloc, source, MOST_TURNS)
+    load_within(alloc, source, MOST_READS)
 }

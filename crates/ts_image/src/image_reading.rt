@@ -51,7 +51,7 @@ fn read_head<R: Read, A: Allocator + Copy>(
     ensures { ReadsImageHead reader.old source.old result reader.new source.new }
 {
     let mut mark = [0; 4];
-    match reader.take(source, &mut mark) {
+    match reader.read_exact(source, &mut mark) {
         Ok(()) => {}
         Err(FieldFault::Misshapen(_)) => return Ok(Head::None),
         Err(fault) => return Err(fault),
@@ -107,16 +107,16 @@ fn read_whole_body<R: Read, A: Allocator + Copy>(
     Ok(parts)
 }
 
-/// Reads an image to the end of the input, with at most `turns` reads. It is not tested for contradictions.
+/// Reads an image to the end of the input, with at most `reads` reads. It is not tested for contradictions.
 pub(crate) fn read_parts<R: Read, A: Allocator + Copy>(
     alloc: A,
     source: &mut Source<R>,
-    turns: u64,
+    reads: u64,
 ) -> Result<(Version, ImageParts<A>), LoadFault>
-    requires { turns ≤ 2 ^ 32 }
-    ensures { LoadsParts source.old turns result source.new }
+    requires { reads ≤ 2 ^ 32 }
+    ensures { LoadsParts source.old reads result source.new }
 {
-    let mut reader = FieldReader::new(alloc, turns)?;
+    let mut reader = FieldReader::new(alloc, reads)?;
     match read_head(&mut reader, source)? {
         Head::None => Err(LoadFault::NotAnImage),
         Head::Other => Err(LoadFault::OtherVersion),

@@ -12,7 +12,7 @@ ghost use Rattle.ts_image.specs.CellParts.{marks_of_parts, all_cells_of};
 ghost use Rattle.ts_image.specs.ImageReading.{image_of};
 ghost use Rattle.ts_image.specs.TestParts.{HasLongInterval, AreCountedAll, IsSmall, AreSeriesPossible, AreRulesPossible};
 
-use crate::count_tests::take_series;
+use crate::count_tests::subtract_series;
 use crate::image_reading::ImageParts;
 use crate::rule_tests::{are_all_cells, are_counted, are_lows};
 use crate::series_tests::{are_series, are_series_rising, is_time};
@@ -38,7 +38,7 @@ fn are_series_possible<A: Allocator>(parts: &ImageParts<A>) -> bool
     if !are_series_rising(&parts.series) {
         return false;
     }
-    take_series(parts.accepted, &parts.series).is_some()
+    subtract_series(parts.accepted, &parts.series).is_some()
 }
 
 fn are_rules_possible<A: Allocator>(version: Version, parts: &ImageParts<A>) -> bool

@@ -14,23 +14,23 @@ use ts_core::{FaultCode, FaultDetail};
 #[derive(Clone, Copy, Debug, PartialEq, Eq, Error)]
 pub enum LoadFault {
     /// The input doesn't begin as an image does.
-    #[error("{}", FaultCode::NotAnImage.words())]
+    #[error("{}", FaultCode::NotAnImage.message())]
     NotAnImage,
     /// The image is of another version.
-    #[error("{}", FaultCode::ImageVersion.words())]
+    #[error("{}", FaultCode::ImageVersion.message())]
     OtherVersion,
     /// The input isn't of the form of an image. The first field at fault begins at this offset.
-    #[error("{}, at byte {}", FaultCode::BrokenImage.words(), .0)]
+    #[error("{}, at byte {}", FaultCode::BrokenImage.message(), .0)]
     Misshapen(u64),
     /// The image is of the form and contradicts itself.
-    #[error("{}", FaultCode::ContradictoryImage.words())]
+    #[error("{}", FaultCode::ContradictoryImage.message())]
     Contradiction,
     /// A read failed.
-    #[error("{}", FaultCode::ImageDevice.words())]
+    #[error("{}", FaultCode::ImageDevice.message())]
     Device,
     /// Limit of reads, reached without an end of input.
-    #[error("{}", FaultCode::EndlessImage.words())]
-    Turns,
+    #[error("{}", FaultCode::EndlessImage.message())]
+    TooManyReads,
     /// Out of memory.
     #[error("out of memory")]
     OutOfMemory,
@@ -51,7 +51,7 @@ impl From<FieldFault> for LoadFault {
         match fault {
             FieldFault::Misshapen(at) => LoadFault::Misshapen(at),
             FieldFault::Device => LoadFault::Device,
-            FieldFault::Turns => LoadFault::Turns,
+            FieldFault::TooManyReads => LoadFault::TooManyReads,
             FieldFault::OutOfMemory => LoadFault::OutOfMemory,
         }
     }
@@ -70,7 +70,7 @@ impl LoadFault {
             LoadFault::Misshapen(at) => (FaultCode::BrokenImage, FaultDetail::At(*at as usize)),
             LoadFault::Contradiction => (FaultCode::ContradictoryImage, FaultDetail::Alone),
             LoadFault::Device => (FaultCode::ImageDevice, FaultDetail::Alone),
-            LoadFault::Turns => (FaultCode::EndlessImage, FaultDetail::Alone),
+            LoadFault::TooManyReads => (FaultCode::EndlessImage, FaultDetail::Alone),
             LoadFault::OutOfMemory => return text.push_str("fault memory"),
         };
         code.text_to(detail, text)

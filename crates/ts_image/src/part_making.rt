@@ -46,7 +46,7 @@ pub(crate) fn borrow_tags<'a, A: Allocator>(
 }
 
 /// Borrows texts.
-pub(crate) fn borrow_texts<'a, A: Allocator + Copy>(
+pub(crate) fn borrow_strings<'a, A: Allocator + Copy>(
     alloc: A,
     texts: &'a [String<A>],
 ) -> Result<Vec<&'a str, A>, AllocError>

@@ -38,7 +38,7 @@ impl<A: Allocator> RuleParts<A> {
 }
 
 /// Reads `count` texts.
-pub(crate) fn read_texts<R: Read, A: Allocator + Copy>(
+pub(crate) fn read_strings<R: Read, A: Allocator + Copy>(
     alloc: A,
     reader: &mut FieldReader<A>,
     source: &mut Source<R>,
@@ -56,7 +56,7 @@ pub(crate) fn read_texts<R: Read, A: Allocator + Copy>(
 }
 
 /// Reads the number of texts, and the texts.
-fn read_counted_texts<R: Read, A: Allocator + Copy>(
+fn read_counted_strings<R: Read, A: Allocator + Copy>(
     alloc: A,
     reader: &mut FieldReader<A>,
     source: &mut Source<R>,
@@ -65,7 +65,7 @@ fn read_counted_texts<R: Read, A: Allocator + Copy>(
     ensures { ReadsField (list_of w8 text) texts_of reader.old source.old result reader.new source.new }
 {
     let count = reader.u8(source)?;
-    read_texts(alloc, reader, source, u64::from(count))
+    read_strings(alloc, reader, source, u64::from(count))
 }
 
 /// Reads a rule.
@@ -82,7 +82,7 @@ pub(crate) fn read_rule<R: Read, A: Allocator + Copy>(
     let interval = reader.i64(source)?;
     let offset = reader.i64(source)?;
     let duration = reader.i64(source)?;
-    let kept_tags = read_counted_texts(alloc, reader, source)?;
+    let kept_tags = read_counted_strings(alloc, reader, source)?;
     Ok(RuleParts {
         name,
         measurement,

@@ -11,7 +11,7 @@ ghost use Rattle.ts_image.specs.TestParts.{HasCountedFacts, AreCountedAll, HasLo
 
 use crate::cell_reading::CellParts;
 use crate::cell_tests::are_cells;
-use crate::count_tests::{take_cells, take_measurement};
+use crate::count_tests::{subtract_cells, subtract_measurement};
 use crate::rule_reading::RuleParts;
 use crate::series_reading::SeriesParts;
 use crate::version::Version;
@@ -124,8 +124,8 @@ fn is_counted<A: Allocator>(
 ) -> bool
     ensures { IsTrue result ↔ HasCountedFacts accepted (map series_of_parts series.now) (rule_from_parts rule.now) (cells_of_parts cells.now) }
 {
-    match take_cells(accepted, cells) {
-        Some(left) => take_measurement(left, series, rule.measurement.as_str()).is_some(),
+    match subtract_cells(accepted, cells) {
+        Some(left) => subtract_measurement(left, series, rule.measurement.as_str()).is_some(),
         None => false,
     }
 }

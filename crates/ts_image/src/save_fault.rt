@@ -10,14 +10,14 @@ use ts_core::{FaultCode, FaultDetail, Refused};
 #[derive(Clone, Copy, Debug, PartialEq, Eq, Error)]
 pub enum SaveFault {
     /// A write failed. A prefix of the image was written.
-    #[error("{}", FaultCode::ImageDevice.words())]
+    #[error("{}", FaultCode::ImageDevice.message())]
     Device,
     /// Out of memory. Nothing was written.
     #[error("out of memory")]
     OutOfMemory,
     /// The data doesn't fit the form of images. Nothing was written. The data of a store that represents a history
     /// fits.
-    #[error("{}", FaultCode::ContradictoryImage.words())]
+    #[error("{}", FaultCode::ContradictoryImage.message())]
     Unfit,
 }
 

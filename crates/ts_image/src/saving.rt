@@ -5,7 +5,7 @@ ghost use Rattle.ts_core.specs.io.Devices.{IsPut};
 ghost use Rattle.ts_image.specs.declared.version.Version.TheVariants.{V2};
 ghost use Rattle.ts_image.specs.Images.{image, image_text};
 ghost use Rattle.ts_image.specs.FieldWriting.{PutsField};
-ghost use Rattle.ts_image.specs.Saving.{image_of, HasItsColumns, FitsImage, IsSaved};
+ghost use Rattle.ts_image.specs.Saving.{store_image, HasItsColumns, FitsImage, IsSaved};
 
 use crate::cell_saving::put_cells_from;
 use crate::field_writing::{put_u8, put_u64};
@@ -30,7 +30,7 @@ fn put_data<W: Write, A: Allocator + Copy>(
 ) -> Result<(), Refused>
     requires fits { FitsImage store.now all.now }
     requires columns { AllByRecursion (HasItsColumns store.now) all.now }
-    ensures { PutsField (image V2) (image_of store.now all.now) sink.old out.old result sink.new out.new }
+    ensures { PutsField (image V2) (store_image store.now all.now) sink.old out.old result sink.new out.new }
 {
     put_settings(store.settings(), out, sink)?;
     put_marks(store.marks(), out, sink)?;
@@ -50,10 +50,10 @@ fn put_image<W: Write, A: Allocator + Copy>(
     requires empty { out.old ≡ [] }
     requires fits { FitsImage store.now all.now }
     requires columns { AllByRecursion (HasItsColumns store.now) all.now }
-    ensures sent { IsPut sink.old result (image_text V2 (image_of store.now all.now)) sink.new }
-    ensures fits { OnOk result ((image V2).fits (image_of store.now all.now)) }
+    ensures sent { IsPut sink.old result (image_text V2 (store_image store.now all.now)) sink.new }
+    ensures fits { OnOk result ((image V2).fits (store_image store.now all.now)) }
 {
-    out.put(b"TSIM\x02", sink)?;
+    out.write_all(b"TSIM\x02", sink)?;
     put_data(store, all, out, sink)?;
     out.flush(sink)
 }

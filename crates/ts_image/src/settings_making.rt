@@ -7,7 +7,7 @@ ghost use Rattle.ts_image.specs.SettingsMade.{IsMadeIf, AreMadeIf};
 
 use crate::rule_reading::{RuleParts, SettingsParts};
 use std::alloc::{AllocError, Allocator};
-use ts_core::{Rule, Settings, try_clone_texts};
+use ts_core::{Rule, Settings, try_clone_strings};
 
 /// Returns the rule of these parts, or `None` if no rule has them.
 fn make_rule<A: Allocator + Copy>(
@@ -18,7 +18,7 @@ fn make_rule<A: Allocator + Copy>(
 {
     let name = String::from_str(alloc, parts.name.as_str())?;
     let measurement = String::from_str(alloc, parts.measurement.as_str())?;
-    let kept_tags = try_clone_texts(alloc, &parts.kept_tags)?;
+    let kept_tags = try_clone_strings(alloc, &parts.kept_tags)?;
     Ok(Rule::new(
         name,
         measurement,

@@ -8,13 +8,13 @@ ghost use Rattle.ts_image.specs.Images.{ImageRule, image_rule, image_settings, i
 ghost use Rattle.ts_image.specs.FieldWriting.{PutsField, PutsAll};
 ghost use Rattle.ts_image.specs.SavedParts.{image_rule_of, image_settings_of};
 
-use crate::field_writing::{put_i64, put_index, put_text, put_texts, put_u8};
+use crate::field_writing::{put_i64, put_index, put_strings, put_text, put_u8};
 use std::alloc::Allocator;
 use std::io::Write;
 use ts_core::{Marks, OutputBuffer, Refused, Rule, Settings, Sink};
 
 /// Writes the number of texts, and the texts.
-fn put_counted_texts<W: Write, A: Allocator>(
+fn put_counted_strings<W: Write, A: Allocator>(
     texts: &[String<A>],
     out: &mut OutputBuffer<A>,
     sink: &mut Sink<W>,
@@ -23,7 +23,7 @@ fn put_counted_texts<W: Write, A: Allocator>(
     ensures { PutsField (list_of w8 text) (map string_bytes texts.now) sink.old out.old result sink.new out.new }
 {
     put_u8(texts.len() as u8, out, sink)?;
-    put_texts(texts, out, sink)
+    put_strings(texts, out, sink)
 }
 
 /// Writes a rule.
@@ -40,7 +40,7 @@ fn put_rule<W: Write, A: Allocator>(
     put_i64(&rule.interval(), out, sink)?;
     put_i64(&rule.offset(), out, sink)?;
     put_i64(&(rule.duration() as i64), out, sink)?;
-    put_counted_texts(rule.kept_tags(), out, sink)
+    put_counted_strings(rule.kept_tags(), out, sink)
 }
 
 /// Writes rules, one after another.

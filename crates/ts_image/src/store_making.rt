@@ -9,7 +9,7 @@ ghost use Rattle.ts_core.specs.store.StoreStates.{column_of};
 ghost use Rattle.ts_core.specs.text.Texts.{borrowed_series};
 ghost use Rattle.ts_core.specs.facts.Times.{IsTime};
 ghost use Rattle.ts_line.specs.Names.{IsStatable};
-ghost use Rattle.ts_store.specs.image.Building.{new_built, with_series, with_column, with_cell, cell_map_at};
+ghost use Rattle.ts_store.specs.image.Building.{new_built, with_built_series, with_built_column, with_built_cell, cell_map_at};
 ghost use Rattle.ts_image.specs.CellParts.{cell_key_of, cell_of_parts, cells_of_parts};
 ghost use Rattle.ts_image.specs.ImageReading.{image_of};
 ghost use Rattle.ts_image.specs.ImageTests.{IsImageSeriesKey, IsPossible, settings_of_image};
@@ -23,7 +23,7 @@ ghost use Rattle.ts_image.specs.StoresMade.{IsAddedColumn, AreAddedColumns, IsAd
 use crate::cell_reading::CellParts;
 use crate::image_loading::LoadedImage;
 use crate::image_reading::ImageParts;
-use crate::part_making::{borrow_tags, borrow_texts, make_marks, make_part, make_points};
+use crate::part_making::{borrow_strings, borrow_tags, make_marks, make_part, make_points};
 use crate::series_reading::{ColumnParts, KeyParts, SeriesParts};
 use arrayvec::ArrayVec;
 use std::alloc::{AllocError, Allocator};
@@ -41,7 +41,7 @@ fn add_column<A: Allocator + Copy>(
     requires registered { series < length builder.old.series }
     requires absent { (s : Series) → IsAt builder.old.series series s → Among (record { series = s; field = string_bytes parts.field }) (map column_of builder.old.columns) → ⊥ }
     requires column { IsAddedColumn (column_of_parts parts) }
-    ensures { (s : Series) → IsAt builder.old.series series s → OnOk result (builder.new ≡ with_column (image_points_in s (column_of_parts parts)) (is_column_waiting (column_of_parts parts)) builder.old) }
+    ensures { (s : Series) → IsAt builder.old.series series s → OnOk result (builder.new ≡ with_built_column (image_points_in s (column_of_parts parts)) (is_column_waiting (column_of_parts parts)) builder.old) }
 {
     let points = make_points(alloc, &parts.points)?;
     builder.add_column(series, parts.field.as_str(), parts.waits == 1, points)
@@ -75,7 +75,7 @@ fn register<A: Allocator + Copy>(
     requires few { length builder.old.series < 1000000 }
     requires named { IsStatable (borrowed_series measurement.now tags.now) }
     ensures number { IfOk result (λ n. IsAt builder.new.series n (borrowed_series measurement.now tags.now)) }
-    ensures ok { OnOk result (builder.new ≡ with_series (borrowed_series measurement.now tags.now) builder.old) }
+    ensures ok { OnOk result (builder.new ≡ with_built_series (borrowed_series measurement.now tags.now) builder.old) }
 {
     let key = KeyRef::new(measurement, tags);
     builder.add_series(&key)
@@ -90,7 +90,7 @@ fn add_key<A: Allocator + Copy>(
     requires few { length builder.old.series < 1000000 }
     requires key { IsImageSeriesKey (key_of key.now) }
     ensures number { IfOk result (λ n. IsAt builder.new.series n (key_of key.now)) }
-    ensures ok { OnOk result (builder.new ≡ with_series (key_of key.now) builder.old) }
+    ensures ok { OnOk result (builder.new ≡ with_built_series (key_of key.now) builder.old) }
 {
     let mut tags = ArrayVec::<_, 64>::new();
     borrow_tags(&key.tags, &mut tags);
@@ -143,9 +143,9 @@ fn add_cell<A: Allocator + Copy>(
     requires rule { rule < length builder.old.settings.rules }
     requires absent { finmap.get (cell_map_at builder.old.cells rule) (cell_key_of parts.now.key) ≡ None }
     requires part { HasPart (cell_of_parts parts.now) }
-    ensures { OnOk result (builder.new ≡ with_cell rule (cell_key_of parts.now.key) (cell_part_of (cell_of_parts parts.now)) builder.old) }
+    ensures { OnOk result (builder.new ≡ with_built_cell rule (cell_key_of parts.now.key) (cell_part_of (cell_of_parts parts.now)) builder.old) }
 {
-    let group = borrow_texts(alloc, &parts.key.group)?;
+    let group = borrow_strings(alloc, &parts.key.group)?;
     let index = i128::from(parts.key.index);
     builder.add_cell(
         rule,

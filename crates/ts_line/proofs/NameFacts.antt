@@ -17,7 +17,7 @@ use Rattle.ts_line.specs.PartTexts.{begins_escapable, unescaped}
 use Rattle.ts_line.specs.Fields.{with_field}
 use Rattle.ts_line.specs.Lines.{parts_at}
 use Rattle.ts_line.specs.Spelling.{tags_from, AreTags, IsWrittenField, field_spelling, field_from, with_fields}
-use Rattle.ts_line.proofs.SortingLemmas.{put_all, entries_put_all}
+use Rattle.ts_line.proofs.SortingLemmas.{insert_all, entries_put_all}
 use Rattle.ts_line.proofs.TagFacts.{AreTold}
 use Rattle.ts_line.proofs.FieldFacts.{AreFieldsTold}
 use Rattle.ts_line.proofs.SpellingFacts.{IsMeasurement, ArePartsAt, parts_told}
@@ -96,9 +96,9 @@ put_named : (k v : Text) (es : List (Text × Text)) → IsKey k → IsName v →
 put_named k v [] key value named = ((key, value), tt)
 put_named k v (e ∷ es) key value named = put_by (text_cmp k e.0) k v e es refl key value named (put_named k v es key value named.1)
 
-all_named : (ts : List (Text × Text)) → AreTagTexts ts → AreTagTexts (put_all ts [])
+all_named : (ts : List (Text × Text)) → AreTagTexts ts → AreTagTexts (insert_all ts [])
 all_named [] named = tt
-all_named (t ∷ ts) named = put_named t.0 t.1 (put_all ts []) named.0.0 named.0.1 (all_named ts named.1)
+all_named (t ∷ ts) named = put_named t.0 t.1 (insert_all ts []) named.0.0 named.0.1 (all_named ts named.1)
 
 longer_by : (r : Ordering) (k v : Text) (e : Text × Text) (es : List (Text × Text)) → text_cmp k e.0 ≡ r → length (put text_cmp k v es) ≤ length es + 1 → length (put text_cmp k v (e ∷ es)) ≤ length (e ∷ es) + 1
 longer_by Less k v e es is ih = rw is (omega arith)
@@ -109,9 +109,9 @@ put_longer : (k v : Text) (es : List (Text × Text)) → length (put text_cmp k 
 put_longer k v [] = omega arith
 put_longer k v (e ∷ es) = longer_by (text_cmp k e.0) k v e es refl (put_longer k v es)
 
-all_few : (ts : List (Text × Text)) → length (put_all ts []) ≤ length ts
+all_few : (ts : List (Text × Text)) → length (insert_all ts []) ≤ length ts
 all_few [] = omega arith
-all_few (t ∷ ts) = omega (arith, put_longer t.0 t.1 (put_all ts []), all_few ts)
+all_few (t ∷ ts) = omega (arith, put_longer t.0 t.1 (insert_all ts []), all_few ts)
 
 -- the series of a line is one that a line can state
 series_named : (p : Parts) → AreParts p.measurement p.tags p.fields → IsStatable (series_of p)

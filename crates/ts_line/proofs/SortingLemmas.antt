@@ -78,11 +78,11 @@ put_new k v xs i found =
 -- ---- all of them
 
 -- each of the last ones first
-abbrev pub put_all : List (Text × Text) → List (Text × Text) → List (Text × Text)
-put_all [] es = es
-put_all (t ∷ ts) es = put text_cmp t.0 t.1 (put_all ts es)
+abbrev pub insert_all : List (Text × Text) → List (Text × Text) → List (Text × Text)
+insert_all [] es = es
+insert_all (t ∷ ts) es = put text_cmp t.0 t.1 (insert_all ts es)
 
-pub put_all_push : (ts : List (Text × Text)) (t : Text × Text) (es : List (Text × Text)) → put_all (ts ++ t ∷ []) es ≡ put_all ts (put text_cmp t.0 t.1 es)
+pub put_all_push : (ts : List (Text × Text)) (t : Text × Text) (es : List (Text × Text)) → insert_all (ts ++ t ∷ []) es ≡ insert_all ts (put text_cmp t.0 t.1 es)
 put_all_push [] t es = refl
 put_all_push (x ∷ ts) t es = ap (put text_cmp x.0 x.1) (put_all_push ts t es)
 
@@ -91,32 +91,32 @@ no_length [] e = refl
 no_length (x ∷ es) e = absurd (omega arith)
 
 -- the entries of a finite map that is built from them
-pub entries_put_all : (ts : List (Text × Text)) → finmap.entries (finmap.from_entries {R = text_cmp} ts) ≡ put_all ts []
+pub entries_put_all : (ts : List (Text × Text)) → finmap.entries (finmap.from_entries {R = text_cmp} ts) ≡ insert_all ts []
 entries_put_all [] = no_length (finmap.entries (finmap.empty {X = Text} {R = text_cmp})) (sym (len-entries (finmap.empty {X = Text} {R = text_cmp})) ∙ len-empty text_cmp Text)
 entries_put_all (t ∷ ts) = entries-insert nat_list_cmp_total (finmap.from_entries ts) t.0 t.1 ∙ ap (put text_cmp t.0 t.1) (entries_put_all ts)
 
-pub put_all_set : (ts : List (Text × Text)) (borrowed : Borrowed) → borrowed_pairs borrowed ≡ put_all ts [] → IsTagSet (borrowed_pairs borrowed)
+pub put_all_set : (ts : List (Text × Text)) (borrowed : Borrowed) → borrowed_pairs borrowed ≡ insert_all ts [] → IsTagSet (borrowed_pairs borrowed)
 put_all_set ts borrowed e = subst (λ (es : List (Text × Text)). T (is_sorted text_cmp es)) (sym (e ∙ sym (entries_put_all ts))) (entries_sorted (finmap.from_entries {R = text_cmp} ts))
 
 -- the last tag is put first
 pub put_last : (tags : List (LinePart × LinePart)) (t : LinePart × LinePart) (es all : List (Text × Text)) → 1 ≤ length tags → t ≡ get_or tags (length tags - 1) t
-    → put_all (map tag_texts tags) es ≡ all → put_all (map tag_texts (take (length tags - 1) tags)) (put text_cmp t.0.text t.1.text es) ≡ all
+    → insert_all (map tag_texts tags) es ≡ all → insert_all (map tag_texts (take (length tags - 1) tags)) (put text_cmp t.0.text t.1.text es) ≡ all
 put_last tags t es all some is so_far =
     let within : length tags - 1 < length tags = omega arith in
     let whole : (length tags - 1) + 1 ≡ length tags = omega arith in
     let split : tags ≡ take (length tags - 1) tags ++ t ∷ [] = sym (take_all (length tags) tags (omega arith)) ∙ ap (λ n. take n tags) (sym whole) ∙ take_more tags (length tags - 1) t within ∙ ap (λ x. take (length tags - 1) tags ++ x ∷ []) (sym is) in
     sym (put_all_push (map tag_texts (take (length tags - 1) tags)) (tag_texts t) es)
-    ∙ ap (λ ts. put_all ts es) (sym (map_push tag_texts (take (length tags - 1) tags) t) ∙ ap (map tag_texts) (sym split)) ∙ so_far
+    ∙ ap (λ ts. insert_all ts es) (sym (map_push tag_texts (take (length tags - 1) tags) t) ∙ ap (map tag_texts) (sym split)) ∙ so_far
 
 -- ---- tags in order
 
-rise_by : (t u : Text × Text) (ts : List (Text × Text)) (r : Ordering) → text_cmp t.0 u.0 ≡ r → is_lt r && rise (u ∷ ts) ≡ true → put_all (u ∷ ts) [] ≡ u ∷ ts → put_all (t ∷ u ∷ ts) [] ≡ t ∷ u ∷ ts
+rise_by : (t u : Text × Text) (ts : List (Text × Text)) (r : Ordering) → text_cmp t.0 u.0 ≡ r → is_lt r && rise (u ∷ ts) ≡ true → insert_all (u ∷ ts) [] ≡ u ∷ ts → insert_all (t ∷ u ∷ ts) [] ≡ t ∷ u ∷ ts
 rise_by t u ts Less e up ih = ap (put text_cmp t.0 t.1) ih ∙ rw e refl
 rise_by t u ts Equal e up ih = absurd cc
 rise_by t u ts Greater e up ih = absurd cc
 
 -- tags in order stay as they are
-pub rising_stand : (ts : List (Text × Text)) → rise ts ≡ true → put_all ts [] ≡ ts
+pub rising_stand : (ts : List (Text × Text)) → rise ts ≡ true → insert_all ts [] ≡ ts
 rising_stand [] up = refl
 rising_stand (t ∷ []) up = refl
 rising_stand (t ∷ u ∷ ts) up = rise_by t u ts (text_cmp t.0 u.0) refl up (rising_stand (u ∷ ts) (and_parts (is_lt (text_cmp t.0 u.0)) (rise (u ∷ ts)) up).1)

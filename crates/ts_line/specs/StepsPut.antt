@@ -17,7 +17,7 @@ put_by put (Ok read) = Ok (put read.0, read.1)
 put_by put (Err fault) = Err fault
 
 -- a call inserts the field at `start` into `before`, which gives `after` and sets the slots of its names
-pub record PutsNextField (before after : List (LinePart × ℤ)) (marks : List Bool) (line : Text) (start : ℕ) (result : Result ℕ ReadLineError) : Type 0 where
+pub record InsertsNextField (before after : List (LinePart × ℤ)) (marks : List Bool) (line : Text) (start : ℕ) (result : Result ℕ ReadLineError) : Type 0 where
   pub value : GivesIfMemory (λ end. (after, end)) result (put_by (with_field before) (next_field line start))
   pub marked : IfOk result (λ _. AreInFilter marks after)
   pub boundary : IfOk result (λ end. IsCharBoundary line end)

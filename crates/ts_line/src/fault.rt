@@ -38,7 +38,7 @@ pub enum LineFaultKind {
 
 /// Error in a line, with its byte offset.
 #[derive(Clone, Copy, Debug, PartialEq, Eq, Error)]
-#[error("{}, at byte {at}", .kind.code().words())]
+#[error("{}, at byte {at}", .kind.code().message())]
 pub struct LineFault {
     /// Kind of error.
     pub kind: LineFaultKind,

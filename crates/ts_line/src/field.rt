@@ -4,12 +4,12 @@ ghost use Rattle.std.specs.Str.{IsCharBoundary};
 ghost use Rattle.ts_line.specs.ReadSteps.{GivesIfMemory};
 ghost use Rattle.ts_line.specs.NameFilters.{AreInFilter};
 ghost use Rattle.ts_line.specs.Fields.{next_field, offset_from, with_field, fields_at};
-ghost use Rattle.ts_line.specs.StepsPut.{PutsNextField};
+ghost use Rattle.ts_line.specs.StepsPut.{InsertsNextField};
 ghost use Rattle.ts_line.specs.Values.{value_begun_at};
 
 use crate::fault::{LineFault, LineFaultKind, ReadLineError};
 use crate::line::Field;
-use crate::name_filter::slot_of;
+use crate::name_filter::filter_slot;
 use crate::part::part_at;
 use crate::scan::{Stops, end_at};
 use crate::short::short_integer;
@@ -74,7 +74,7 @@ fn offset_of<A: Allocator>(fields: &[Field<'_, A>], name: &str) -> Option<usize>
 }
 
 /// Appends a field, or replaces the value of the field with its name.
-fn put<'a, A: Allocator>(
+fn insert<'a, A: Allocator>(
     fields: &mut Vec<Field<'a, A>, A>,
     field: Field<'a, A>,
 ) -> Result<(), AllocError>
@@ -83,7 +83,7 @@ fn put<'a, A: Allocator>(
     match offset_of(fields, field.name().text()) {
         Some(at) => {
             let older = &mut fields[at];
-            older.take_value(&field);
+            older.replace_value(&field);
         }
         None => fields.push(field)?,
     }
@@ -92,7 +92,7 @@ fn put<'a, A: Allocator>(
 
 /// Parses the field at `start`, inserts it into `fields` and returns the offset after it. `marks` is a filter over the
 /// names so far: an unset slot means a new name.
-fn put_next<'a, A: Allocator + Copy>(
+fn insert_next<'a, A: Allocator + Copy>(
     alloc: A,
     fields: &mut Vec<Field<'a, A>, A>,
     marks: &mut [bool; 64],
@@ -101,12 +101,12 @@ fn put_next<'a, A: Allocator + Copy>(
 ) -> Result<usize, ReadLineError>
     requires boundary { IsCharBoundary line.now start }
     requires marked { AreInFilter marks.old fields.old.items }
-    ensures { PutsNextField fields.old.items fields.new.items marks.new line.now start result }
+    ensures { InsertsNextField fields.old.items fields.new.items marks.new line.now start result }
 {
     let (field, end) = next(alloc, line, start)?;
-    let slot = slot_of(field.name().text());
+    let slot = filter_slot(field.name().text());
     if marks[slot] {
-        put(fields, field)?;
+        insert(fields, field)?;
     } else {
         marks[slot] = true;
         fields.push(field)?;
@@ -129,7 +129,7 @@ pub fn fields<'a, A: Allocator + Copy>(
     let mut marks = [false; 64];
     let mut at = start;
     for _ in 0..FIELD_LIMIT {
-        let end = put_next(alloc, &mut fields, &mut marks, line, at)?;
+        let end = insert_next(alloc, &mut fields, &mut marks, line, at)?;
         if byte_at(line, end) != b',' {
             return Ok((fields, end));
         }

@@ -142,7 +142,7 @@ impl<'a, A: Allocator> Field<'a, A> {
     }
 
     /// Replaces the value by another field's.
-    pub(crate) fn take_value(&mut self, newer: &Field<'_, A>)
+    pub(crate) fn replace_value(&mut self, newer: &Field<'_, A>)
         ensures { self.new ≡ (self.old.0, newer.now.1) }
     {
         self.value = newer.value;
@@ -236,13 +236,13 @@ impl<'a, A: Allocator> Line<'a, A> {
         if rise(&self.tags) {
             push_all(pairs, &self.tags);
         } else {
-            self.put_all(pairs);
+            self.insert_all(pairs);
         }
     }
 
     /// Inserts the tags into `pairs` one by one in key order (insertion sort).
     #[cold]
-    fn put_all<'b, const N: usize>(&'b self, pairs: &mut ArrayVec<(&'b str, &'b str), N>)
+    fn insert_all<'b, const N: usize>(&'b self, pairs: &mut ArrayVec<(&'b str, &'b str), N>)
         requires none { pairs.old.items ≡ [] }
         requires few { length self.now.tags ≤ N }
         ensures value { borrowed_pairs pairs.new.items ≡ (series_of self.now).tags }
@@ -250,7 +250,7 @@ impl<'a, A: Allocator> Line<'a, A> {
     {
         let mut left = self.tags();
         while let [rest @ .., tag] = left {
-            put(pairs, tag.key.text(), tag.value.text());
+            insert(pairs, tag.key.text(), tag.value.text());
             left = rest;
         }
     }
@@ -301,7 +301,7 @@ fn offset_of(pairs: &[(&str, &str)], key: &str) -> Result<usize, usize>
 }
 
 /// Inserts a pair into pairs sorted by key, or replaces the value of its key.
-fn put<'a, const N: usize>(
+fn insert<'a, const N: usize>(
     pairs: &mut ArrayVec<(&'a str, &'a str), N>,
     key: &'a str,
     value: &'a str,

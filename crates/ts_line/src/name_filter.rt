@@ -1,12 +1,12 @@
 //! A 64-slot filter over names that spares most names the search for duplicates.
 ghost use Rattle.std.specs.Prelude.{◌≡◌, ◌<◌};
-ghost use Rattle.ts_line.specs.NameFilters.{slot_of};
+ghost use Rattle.ts_line.specs.NameFilters.{filter_slot};
 
 use ts_core::byte_at;
 
 /// Hashes a name to its slot of the filter. Most names of a line differ in length or in their last two bytes.
-pub(crate) fn slot_of(name: &str) -> usize
-    ensures value { result ≡ slot_of name.now }
+pub(crate) fn filter_slot(name: &str) -> usize
+    ensures value { result ≡ filter_slot name.now }
     ensures bound { result < 64 }
 {
     let bytes = name.as_bytes();

@@ -3,13 +3,13 @@ ghost use Rattle.std.specs.Prelude.{◌≡◌, ◌<◌, ◌≤◌, ◌+◌, ◌+
 ghost use Rattle.std.specs.Str.{IsCharBoundary};
 ghost use Rattle.ts_core.specs.text.Cursors.{IsOffsetFrom};
 ghost use Rattle.ts_line.specs.ReadSteps.{GivesIfMemory};
-ghost use Rattle.ts_line.specs.NameFilters.{AreKeysInFilter, slot_of};
+ghost use Rattle.ts_line.specs.NameFilters.{AreKeysInFilter, filter_slot};
 ghost use Rattle.ts_line.specs.TagParts.{has_key, next_tag, tags_at};
 ghost use Rattle.ts_line.specs.StepsPut.{PushesNextTag};
 
 use crate::fault::{LineFaultKind, ReadLineError};
 use crate::line::{TAG_LIMIT, Tag};
-use crate::name_filter::slot_of;
+use crate::name_filter::filter_slot;
 use crate::part::part_at;
 use crate::scan::{Stops, end_at};
 use std::alloc::Allocator;
@@ -29,10 +29,10 @@ fn has_key<A: Allocator>(tags: &[Tag<'_, A>], key: &str) -> bool
 fn is_repeated<A: Allocator>(marks: &mut [bool; 64], tags: &[Tag<'_, A>], key: &str) -> bool
     requires { AreKeysInFilter marks.old tags.now }
     ensures value { result ≡ has_key tags.now key.now }
-    ensures key { slice_index_or marks.new (slot_of key.now) false ≡ true }
+    ensures key { slice_index_or marks.new (filter_slot key.now) false ≡ true }
     ensures tags { AreKeysInFilter marks.new tags.now }
 {
-    let slot = slot_of(key);
+    let slot = filter_slot(key);
     let was_set = marks[slot];
     marks[slot] = true;
     was_set && has_key(tags, key)

@@ -11,7 +11,7 @@ use Rattle.ts_core.specs.settings.Settings.{Rule}
 use Rattle.ts_core.specs.settings.SettingsFaults.{unless}
 use Rattle.ts_core.specs.plans.Pieces.{MarkedRule, QueryContext, rule_named, start_of, IsBoundary, RuleServes, tags_of}
 use Rattle.ts_core.specs.declared.plans.fault.Fault.{Fault}
-use Rattle.ts_core.specs.plans.Faults.{is_boundary, divides, is_in_one_bucket, keeps, rule_fault, piece_fault}
+use Rattle.ts_core.specs.plans.Faults.{is_boundary, is_aligned, is_in_one_bucket, keeps, rule_fault, piece_fault}
 use Rattle.ts_core.specs.plans.Plans.{is_same_rule, is_faultless, extended}
 use Rattle.ts_core.proofs.facts.Ids.{same_text-eq}
 use Rattle.ts_core.proofs.settings.RuleNames.{name_of, rule_named-at}
@@ -20,7 +20,7 @@ use Rattle.ts_core.proofs.plans.Validity.{serves_from, serves_none, source_from}
 use Rattle.ts_core.proofs.plans.Walks.{faultless_none}
 use Rattle.ts_plan.specs.declared.steps.Step.{Step}
 use Rattle.ts_plan.specs.declared.walk.PendingPiece.{PendingPiece}
-use Rattle.ts_plan.specs.Steps.{IsPlannable, IsStep, has_columns, bucket_serves, name_or_none, bucket_piece}
+use Rattle.ts_plan.specs.Steps.{IsPlannable, IsStep, matches_query, is_usable, name_or_none, bucket_piece}
 use Rattle.ts_plan.specs.Joins.{pending_piece, joins, IsPendingPiece}
 use Rattle.ts_plan.proofs.RuleNumbers.{same_number, same_rule}
 
@@ -37,27 +37,27 @@ boundary_true : (r : Rule) (p : ℤ) → IsBoundary r p → is_boundary r p ≡ 
 boundary_true r p h = (Decides-int_eq (start_of r (index_of r p)) p).1 h
 
 -- where the rule has the columns and both ends are boundaries
-short_test : (q : Query) (r : MarkedRule) (a b : ℤ) → has_columns q r.rule ≡ true → IsBoundary r.rule a → IsBoundary r.rule b → bucket_serves q r a b ≡ is_faultless (rule_fault q (Some r) a b)
+short_test : (q : Query) (r : MarkedRule) (a b : ℤ) → matches_query q r.rule ≡ true → IsBoundary r.rule a → IsBoundary r.rule b → is_usable q r a b ≡ is_faultless (rule_fault q (Some r) a b)
 short_test q r a b h s e =
     let c = and_parts (same_text r.rule.measurement q.measurement) (list_all (keeps r.rule) (tags_of q)) h in
-    six (same_text r.rule.measurement q.measurement) (is_boundary r.rule a) (is_boundary r.rule b) (int_le r.low (index_of r.rule a)) (divides r.rule q || is_in_one_bucket q a b) (list_all (keeps r.rule) (tags_of q)) _ _ _ _ _ _ c.0 (boundary_true r.rule a s) (boundary_true r.rule b e) c.1
+    six (same_text r.rule.measurement q.measurement) (is_boundary r.rule a) (is_boundary r.rule b) (int_le r.low (index_of r.rule a)) (is_aligned r.rule q || is_in_one_bucket q a b) (list_all (keeps r.rule) (tags_of q)) _ _ _ _ _ _ c.0 (boundary_true r.rule a s) (boundary_true r.rule b e) c.1
 
-pub test_serves : (q : Query) (r : MarkedRule) (a b : ℤ) → has_columns q r.rule ≡ true → IsBoundary r.rule a → IsBoundary r.rule b → bucket_serves q r a b ≡ true → RuleServes q r a b
+pub test_serves : (q : Query) (r : MarkedRule) (a b : ℤ) → matches_query q r.rule ≡ true → IsBoundary r.rule a → IsBoundary r.rule b → is_usable q r a b ≡ true → RuleServes q r a b
 test_serves q r a b h s e w = serves_from q r a b (faultless_none (rule_fault q (Some r) a b) (sym (short_test q r a b h s e) ∙ w))
 
 -- a rule that serves somewhere has the columns
-pub serves_columns : (q : Query) (r : MarkedRule) (a b : ℤ) → RuleServes q r a b → has_columns q r.rule ≡ true
+pub serves_columns : (q : Query) (r : MarkedRule) (a b : ℤ) → RuleServes q r a b → matches_query q r.rule ≡ true
 serves_columns q r a b v = and_from _ _ (same_text-from_eq r.rule.measurement q.measurement v.measurement) (among_all (tags_of q) r.rule.kept_tags v.tags)
 
-pub serves_test : (q : Query) (r : MarkedRule) (a b : ℤ) → RuleServes q r a b → bucket_serves q r a b ≡ true
+pub serves_test : (q : Query) (r : MarkedRule) (a b : ℤ) → RuleServes q r a b → is_usable q r a b ≡ true
 serves_test q r a b v = short_test q r a b (serves_columns q r a b v) v.starts v.ends ∙ ap is_faultless (serves_none q r a b v)
 
 -- ---- a bucket joins a valid piece of its rule where the drawn piece fits
 
-fits_test : (t : QueryContext) (r : MarkedRule) (a c d b : ℤ) (nests : Bool) → nests ≡ divides r.rule t.query → RuleServes t.query r a c → RuleServes t.query r d b → (nests || is_in_one_bucket t.query a b) ≡ is_faultless (rule_fault t.query (Some r) a b)
-fits_test t r a c d b nests e v w =
+fits_test : (t : QueryContext) (r : MarkedRule) (a c d b : ℤ) (aligned : Bool) → aligned ≡ is_aligned r.rule t.query → RuleServes t.query r a c → RuleServes t.query r d b → (aligned || is_in_one_bucket t.query a b) ≡ is_faultless (rule_fault t.query (Some r) a b)
+fits_test t r a c d b aligned e v w =
     ap (λ z. z || is_in_one_bucket t.query a b) e
-    ∙ ap (λ z. z && (divides r.rule t.query || is_in_one_bucket t.query a b)) (sym (le_true r.low (index_of r.rule a) v.whole))
+    ∙ ap (λ z. z && (is_aligned r.rule t.query || is_in_one_bucket t.query a b)) (sym (le_true r.low (index_of r.rule a) v.whole))
     ∙ short_test t.query r a b (serves_columns t.query r a c v) v.starts w.ends
 
 pub not_same : (a b : Bool) → (b ≡ true → a ≡ true) → a ≡ false → b ≡ false
@@ -80,13 +80,13 @@ found : (t : QueryContext) (h : PendingPiece) → IsPlannable t → (pending : I
 found t h k pending = subst (λ z. rule_named (name_or_none z) t.rules ≡ Some pending.rule) (sym pending.there) (rule_named-at t.rules h.rule pending.rule k.named pending.there)
 
 -- of one number
-same_join : (t : QueryContext) (h : PendingPiece) (s : Step) → IsPlannable t → IsPendingPiece t h → IsStep t s → h.rule ≡ s.rule → (h.nests || is_in_one_bucket t.query h.from s.to) ≡ joins t (pending_piece t h) (bucket_piece t s)
+same_join : (t : QueryContext) (h : PendingPiece) (s : Step) → IsPlannable t → IsPendingPiece t h → IsStep t s → h.rule ≡ s.rule → (h.aligned || is_in_one_bucket t.query h.from s.to) ≡ joins t (pending_piece t h) (bucket_piece t s)
 same_join t h s k pending i e =
     let r = pending.rule in
     let same : i.rule ≡ r = same_rule t.rules h.rule s.rule r i.rule e pending.there i.there in
     let w : RuleServes t.query r s.from s.to = subst (λ (x : MarkedRule). RuleServes t.query x s.from s.to) same i.serves in
     let names : name_at t h.rule ≡ name_at t s.rule = ap (name_at t) e in
-    fits_test t r h.from h.to s.from s.to h.nests pending.nests pending.serves w
+    fits_test t r h.from h.to s.from s.to h.aligned pending.aligned pending.serves w
     ∙ ap (λ o. is_faultless (rule_fault t.query o h.from s.to)) (sym (found t h k pending))
     ∙ ap (λ z. z && is_faultless (piece_fault t (extended (pending_piece t h) (bucket_piece t s)))) (sym (same_text-from_eq (name_at t h.rule) (name_at t s.rule) names))
 
@@ -98,17 +98,17 @@ other_join t h s k pending i e =
     nat_eq_true h.rule s.rule (same_number t.rules h.rule s.rule pending.rule i.rule k.named pending.there i.there names)) e in
     ap (λ z. z && is_faultless (piece_fault t (extended (pending_piece t h) (bucket_piece t s)))) (sym apart)
 
-pub join_is : (t : QueryContext) (h : PendingPiece) (s : Step) → IsPlannable t → IsPendingPiece t h → IsStep t s → (nat_eq h.rule s.rule && (h.nests || is_in_one_bucket t.query h.from s.to)) ≡ joins t (pending_piece t h) (bucket_piece t s)
+pub join_is : (t : QueryContext) (h : PendingPiece) (s : Step) → IsPlannable t → IsPendingPiece t h → IsStep t s → (nat_eq h.rule s.rule && (h.aligned || is_in_one_bucket t.query h.from s.to)) ≡ joins t (pending_piece t h) (bucket_piece t s)
 join_is t h s k pending i =
-    elim (nat_eq h.rule s.rule) as (λ z. nat_eq h.rule s.rule ≡ z → (z && (h.nests || is_in_one_bucket t.query h.from s.to)) ≡ joins t (pending_piece t h) (bucket_piece t s)) [
+    elim (nat_eq h.rule s.rule) as (λ z. nat_eq h.rule s.rule ≡ z → (z && (h.aligned || is_in_one_bucket t.query h.from s.to)) ≡ joins t (pending_piece t h) (bucket_piece t s)) [
       | true ↦ λ e. same_join t h s k pending i (nat_eq_from h.rule s.rule e)
       | false ↦ λ e. other_join t h s k pending i e
     ] refl
 
 -- a pending piece and a bucket that join are a pending piece
-pub join_pending : (t : QueryContext) (h d : PendingPiece) (s : Step) → IsPlannable t → IsPendingPiece t h → d ≡ record { rule = h.rule; nests = h.nests; from = h.from; to = s.to } → joins t (pending_piece t h) (bucket_piece t s) ≡ true → IsPendingPiece t d
+pub join_pending : (t : QueryContext) (h d : PendingPiece) (s : Step) → IsPlannable t → IsPendingPiece t h → d ≡ record { rule = h.rule; aligned = h.aligned; from = h.from; to = s.to } → joins t (pending_piece t h) (bucket_piece t s) ≡ true → IsPendingPiece t d
 join_pending t h d s k pending e j =
     let none = faultless_none (piece_fault t (extended (pending_piece t h) (bucket_piece t s))) (and_parts (is_same_rule (pending_piece t h).source (bucket_piece t s).source) _ j).1 in
     let v = source_from t (pending_piece t h).source h.from s.to none in
     let q : v.0 ≡ pending.rule = (let f : Some v.0 ≡ Some pending.rule = sym v.1 ∙ found t h k pending in cc) in
-    subst (IsPendingPiece t) (sym e) (record { rule = pending.rule; there = pending.there; spelled = pending.spelled; nests = pending.nests; serves = subst (λ (x : MarkedRule). RuleServes t.query x h.from s.to) q v.2 })
+    subst (IsPendingPiece t) (sym e) (record { rule = pending.rule; there = pending.there; spelled = pending.spelled; aligned = pending.aligned; serves = subst (λ (x : MarkedRule). RuleServes t.query x h.from s.to) q v.2 })

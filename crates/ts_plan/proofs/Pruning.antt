@@ -13,7 +13,7 @@ use Rattle.ts_core.proofs.plans.GoodPlaces.{rule_wide, good_within, good_leads}
 use Rattle.ts_core.proofs.settings.RuleNames.{rule_named-at}
 use Rattle.ts_core.proofs.lists.Comparisons.{le_from, le_true}
 use Rattle.ts_plan.specs.declared.steps.Step.{Step}
-use Rattle.ts_plan.specs.Steps.{IsPlannable, IsStep, Upto, Ascends, starts_first, starts_at, leads_on, kept_if, kept_steps}
+use Rattle.ts_plan.specs.Steps.{IsPlannable, IsStep, Upto, Ascends, starts_first, starts_at, reaches_end, kept_if, pruned_steps}
 
 -- ---- steps that reach the end
 
@@ -64,7 +64,7 @@ starts_good t (g ∷ gs) e k a h =
       | inr q ↦ starts_good t gs e k a.1 q
     ]
 
-pub leads_good : (t : QueryContext) (gs : List Step) (e : ℤ) → IsPlannable t → e ≤ℤ t.query.to → AllByRecursion (IsGoodStep t) gs → leads_on t gs e ≡ true → ReachesEnd t e
+pub leads_good : (t : QueryContext) (gs : List Step) (e : ℤ) → IsPlannable t → e ≤ℤ t.query.to → AllByRecursion (IsGoodStep t) gs → reaches_end t gs e ≡ true → ReachesEnd t e
 leads_good t gs e k l a h =
     by_lt_z e t.query.to
     (λ m. elim (or_cases (int_eq e t.query.to) (int_le t.mark e || starts_at e gs) h) as (λ _. ReachesEnd t e) [
@@ -80,11 +80,11 @@ kept_all : (t : QueryContext) (b : Bool) (s : Step) (gs : List Step) → AllByRe
 kept_all t true s gs a h = (h refl, a)
 kept_all t false s gs a h = a
 
-pub kept_good : (t : QueryContext) (ss : List Step) → IsPlannable t → AllByRecursion (IsStep t) ss → AllByRecursion (IsGoodStep t) (kept_steps t ss)
+pub kept_good : (t : QueryContext) (ss : List Step) → IsPlannable t → AllByRecursion (IsStep t) ss → AllByRecursion (IsGoodStep t) (pruned_steps t ss)
 kept_good t [] k a = tt
 kept_good t (x ∷ ss) k a =
     let ih = kept_good t ss k a.1 in
-    kept_all t _ x _ ih (λ b. record { step = a.0; good = leads_good t (kept_steps t ss) x.to k a.0.inside ih b })
+    kept_all t _ x _ ih (λ b. record { step = a.0; good = leads_good t (pruned_steps t ss) x.to k a.0.inside ih b })
 
 pub steps_of_good : (t : QueryContext) (ss : List Step) → AllByRecursion (IsGoodStep t) ss → AllByRecursion (IsStep t) ss
 steps_of_good t [] a = tt
@@ -109,7 +109,7 @@ step_at t e k f m l g =
     let s : Step = record { from = e; rule = n.n; to = n.end } in
     record { step = s; good = on_step t s k f m n.leads; at = refl }
 
-pub good_leads_on : (t : QueryContext) (gs : List Step) (e : ℤ) → IsPlannable t → t.query.from ≤ℤ e → e ≤ℤ t.query.to → ReachesEnd t e → ((x : Step) → IsGoodStep t x → x.from ≡ e → Among x gs) → leads_on t gs e ≡ true
+pub good_leads_on : (t : QueryContext) (gs : List Step) (e : ℤ) → IsPlannable t → t.query.from ≤ℤ e → e ≤ℤ t.query.to → ReachesEnd t e → ((x : Step) → IsGoodStep t x → x.from ≡ e → Among x gs) → reaches_end t gs e ≡ true
 good_leads_on t gs e k f l g all =
     by_lt_z e t.query.to
     (λ m. or_right (int_eq e t.query.to) _ (by_lt_z e t.mark
@@ -130,7 +130,7 @@ kept_here : (b : Bool) (s x : Step) (gs : List Step) → x ≡ s → b ≡ true 
 kept_here true s x gs e h = inl e
 kept_here false s x gs e h = absurd (true≢false (sym h))
 
-pub kept_among : (t : QueryContext) (ss : List Step) → IsPlannable t → Closed t ss → (x : Step) → IsGoodStep t x → Among x ss → Among x (kept_steps t ss)
+pub kept_among : (t : QueryContext) (ss : List Step) → IsPlannable t → Closed t ss → (x : Step) → IsGoodStep t x → Among x ss → Among x (pruned_steps t ss)
 kept_among t [] k c x g h = h
 kept_among t (y ∷ ss) k c x g (inr h) = kept_more _ y x _ (kept_among t ss k c.1 x g h)
 kept_among t (y ∷ ss) k c x g (inl e) =
@@ -138,8 +138,8 @@ kept_among t (y ∷ ss) k c x g (inl e) =
     let up = step_up t x k g.step in
     let same : x.to ≡ y.to = ap (λ z. z.to) e in
     let same2 : x.from ≡ y.from = ap (λ z. z.from) e in
-    kept_here _ y x _ e (subst (λ z. leads_on t (kept_steps t ss) z ≡ true) same
-    (good_leads_on t (kept_steps t ss) x.to k (omega (arith, ints)) g.step.inside g.good
+    kept_here _ y x _ e (subst (λ z. reaches_end t (pruned_steps t ss) z ≡ true) same
+    (good_leads_on t (pruned_steps t ss) x.to k (omega (arith, ints)) g.step.inside g.good
     (λ z gz at. kept_among t ss k c.1 z gz (c.0 z gz.step (omega (arith, ints))))))
 
 pub closed_from : (t : QueryContext) (c : ℤ) (ss : List Step) → Ascends ss → ((x : Step) → IsStep t x → c <ℤ x.from → Among x ss) → AllByRecursion (λ (x : Step). c ≤ℤ x.from) ss → Closed t ss

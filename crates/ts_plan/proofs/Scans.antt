@@ -9,7 +9,7 @@ use Rattle.ts_core.specs.settings.Settings.{Rule}
 use Rattle.ts_core.specs.plans.Pieces.{MarkedRule, QueryContext, IsBoundary, RuleServes}
 use Rattle.ts_core.proofs.plans.GoodPlaces.{rule_wide, to_next, next_boundary}
 use Rattle.ts_plan.specs.declared.steps.Step.{Step}
-use Rattle.ts_plan.specs.Steps.{IsPlannable, IsStep, Upto, Ascends, has_columns, bucket_serves, IsFirstStart, IsNextInstant, step_of, with_step, Adds}
+use Rattle.ts_plan.specs.Steps.{IsPlannable, IsStep, Upto, Ascends, matches_query, is_usable, IsFirstStart, IsNextInstant, step_of, with_step, Adds}
 use Rattle.ts_plan.proofs.WalkSteps.{in_range}
 use Rattle.ts_core.proofs.lists.ListSteps.{all_push}
 use Rattle.ts_plan.proofs.ListLemmas.{among_push, among_last}
@@ -54,7 +54,7 @@ step_place t n r x g i e =
     let q : i.rule ≡ r = same_rule t.rules n x.rule r i.rule (sym e) g i.there in
     record { one = i.one ∙ ap (λ (z : MarkedRule). x.from +ℤ z.rule.interval) q; inside = i.inside; serves = subst (λ z. RuleServes t.query z x.from x.to) q i.serves }
 
-pub scan_more : (t : QueryContext) (n : ℕ) (r : MarkedRule) (p : ℤ) (q : Option ℤ) (old ss new : List Step) → IsPlannable t → slice_get t.rules n ≡ Some r → has_columns t.query r.rule ≡ true → p <ℤ t.mark → IsNextInstant t r p q → new ≡ with_step t r n p q ss → Scanned t n r (Some p) old ss → Scanned t n r q old new
+pub scan_more : (t : QueryContext) (n : ℕ) (r : MarkedRule) (p : ℤ) (q : Option ℤ) (old ss new : List Step) → IsPlannable t → slice_get t.rules n ≡ Some r → matches_query t.query r.rule ≡ true → p <ℤ t.mark → IsNextInstant t r p q → new ≡ with_step t r n p q ss → Scanned t n r (Some p) old ss → Scanned t n r q old new
 scan_more t n r p None old ss new s g c m nx e k =
     let wide = rule_wide t.rules n r s.wide.rules g in
     subst (Scanned t n r None old) (sym e) (record {
@@ -72,7 +72,7 @@ scan_more t n r p (Some u) old ss new s g c m nx e k =
     let one = nx.0 in
     let inside = nx.1 in
     let low = k.instant.1 in
-    let test : Bool = bucket_serves t.query r p u in
+    let test : Bool = is_usable t.query r p u in
     let at : IsBoundary r.rule u = subst (IsBoundary r.rule) (sym one) (next_boundary r.rule p wide k.instant.0) in
     subst (Scanned t n r (Some u) old) (sym e) (record {
       instant = (at, omega (arith, ints), inside);
@@ -131,7 +131,7 @@ scan_smaller t r p None h l n = omega arith
 scan_smaller t r p (Some e) h l n = let n0 = n.0 in let n1 = n.1 in omega (arith, ints)
 
 -- a rule without the columns has no step
-pub adds_none : (t : QueryContext) (n : ℕ) (r : MarkedRule) (ss : List Step) → slice_get t.rules n ≡ Some r → has_columns t.query r.rule ≡ false → Adds t n ss ss
+pub adds_none : (t : QueryContext) (n : ℕ) (r : MarkedRule) (ss : List Step) → slice_get t.rules n ≡ Some r → matches_query t.query r.rule ≡ false → Adds t n ss ss
 adds_none t n r ss g w = record {
   sound = λ a. a;
   complete = λ x i e. absurd (true≢false (sym (serves_columns t.query r x.from x.to (step_place t n r x g i e).serves) ∙ w));

@@ -8,7 +8,7 @@ use Rattle.ts_core.specs.plans.Pieces.{QueryContext}
 use Rattle.std.proofs.lemmas.Int.{ints, by_lt_z}
 use Rattle.std.proofs.lemmas.Bool.Decides.{Decides-int_eq}
 use Rattle.ts_plan.specs.declared.steps.Step.{Step}
-use Rattle.ts_plan.specs.Steps.{Ascends, Upto, starts_at, kept_if, kept_steps}
+use Rattle.ts_plan.specs.Steps.{Ascends, Upto, starts_at, kept_if, pruned_steps}
 use Rattle.std.proofs.lemmas.Bool.{or_from, or_left, or_right}
 
 cmp_up : (a b e : ℤ) → a ≤ℤ b → ordering_index (int_cmp a e) ≤ ordering_index (int_cmp b e)
@@ -67,7 +67,7 @@ upto_kept : (t : QueryContext) (s x : Step) (b : Bool) (gs : List Step) → Upto
 upto_kept t s x true gs u a = (u, a)
 upto_kept t s x false gs u a = a
 
-uptos_kept : (t : QueryContext) (s : Step) (ss : List Step) → AllByRecursion (λ (y : Step). Upto s y) ss → AllByRecursion (λ (y : Step). Upto s y) (kept_steps t ss)
+uptos_kept : (t : QueryContext) (s : Step) (ss : List Step) → AllByRecursion (λ (y : Step). Upto s y) ss → AllByRecursion (λ (y : Step). Upto s y) (pruned_steps t ss)
 uptos_kept t s [] a = tt
 uptos_kept t s (x ∷ ss) a = upto_kept t s x _ _ a.0 (uptos_kept t s ss a.1)
 
@@ -75,6 +75,6 @@ ascends_if : (t : QueryContext) (s : Step) (b : Bool) (gs : List Step) → AllBy
 ascends_if t s true gs u a = (u, a)
 ascends_if t s false gs u a = a
 
-pub kept_ascends : (t : QueryContext) (ss : List Step) → Ascends ss → Ascends (kept_steps t ss)
+pub kept_ascends : (t : QueryContext) (ss : List Step) → Ascends ss → Ascends (pruned_steps t ss)
 kept_ascends t [] a = tt
 kept_ascends t (s ∷ ss) a = ascends_if t s _ _ (uptos_kept t s ss a.0) (kept_ascends t ss a.1)

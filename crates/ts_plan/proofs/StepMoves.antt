@@ -2,7 +2,7 @@
 use Rattle.std.proofs.Common.{◌≡◌, ℕ, ◌≤◌, List, length, take, drop}
 use Rattle.ts_plan.specs.declared.steps.Step.{Step}
 use Rattle.ts_core.specs.plans.Pieces.{QueryContext}
-use Rattle.ts_plan.specs.Steps.{kept_steps}
+use Rattle.ts_plan.specs.Steps.{pruned_steps}
 
 -- from begin on there are the steps that remain of those from index on; below index nothing has moved
 pub record Moved (t : QueryContext) (index begin : ℕ) (now old : List Step) : Type 0 where
@@ -10,4 +10,4 @@ pub record Moved (t : QueryContext) (index begin : ℕ) (now old : List Step) : 
   pub within : begin ≤ length now
   pub same : length now ≡ length old
   pub left : take index now ≡ take index old
-  pub kept : drop begin now ≡ kept_steps t (drop index old)
+  pub kept : drop begin now ≡ pruned_steps t (drop index old)

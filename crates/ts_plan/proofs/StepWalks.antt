@@ -8,7 +8,7 @@ use Rattle.std.proofs.lemmas.Bool.Decides.{Decides-int_eq}
 use Rattle.std.specs.List.{AllByRecursion}
 use Rattle.ts_core.specs.lists.Members.{Among}
 use Rattle.ts_core.specs.plans.Pieces.{QueryContext}
-use Rattle.ts_core.specs.plans.Plans.{ReachesEnd, raw_piece, LeadsOn, NoneBefore, IsFirstToLead, IsWalk}
+use Rattle.ts_core.specs.plans.Plans.{ReachesEnd, raw_piece, LeadsOn, NoneBefore, IsFirstToReach, IsWalk}
 use Rattle.ts_plan.specs.declared.steps.Step.{Step}
 use Rattle.ts_plan.specs.Steps.{IsPlannable, Upto, Ascends, name_or_none, bucket_piece, walked}
 use Rattle.ts_plan.proofs.ListLemmas.{pick}
@@ -48,7 +48,7 @@ walks t p (g ∷ gs) k a ok f l good all =
             | inl q ↦ let r : m ≡ g.rule = ap (λ z. z.rule) q in absurd (omega arith)
             | inr q ↦ let u = (pick (Upto g) x gs a.0 q).rule at in absurd (omega arith)
           ] in
-          let lead : IsFirstToLead t name p g.to = record { n = g.rule; leads = on; named = named; first = first } in
+          let lead : IsFirstToReach t name p g.to = record { n = g.rule; leads = on; named = named; first = first } in
           let more : HasAll t g.to gs = λ x gx m.
           elim (all x gx (omega (arith, ints))) as (λ _. Among x gs) [
             | inl q ↦ let r : x.from ≡ g.from = ap (λ z. z.from) q in absurd (omega (arith, ints))

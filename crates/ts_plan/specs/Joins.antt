@@ -2,7 +2,7 @@
 use Rattle.std.specs.Prelude.{◌≡◌, Bool, true, ◌&&◌, List, [], ◌∷◌, Option, Some, None, slice_get}
 use Rattle.ts_core.specs.settings.SettingsFaults.{is_rule_name}
 use Rattle.ts_core.specs.plans.Pieces.{Piece, MarkedRule, QueryContext, RuleServes}
-use Rattle.ts_core.specs.plans.Faults.{piece_fault, divides}
+use Rattle.ts_core.specs.plans.Faults.{piece_fault, is_aligned}
 use Rattle.ts_core.specs.plans.Plans.{rollup_piece, is_same_rule, is_faultless, extended, merged_onto, joined}
 use Rattle.ts_plan.specs.Steps.{name_or_none}
 use Rattle.ts_plan.specs.declared.walk.PendingPiece.{PendingPiece}
@@ -27,7 +27,7 @@ pub record IsPendingPiece (t : QueryContext) (h : PendingPiece) : Type 0 where
   pub rule : MarkedRule
   pub there : slice_get t.rules h.rule ≡ Some rule
   pub spelled : is_rule_name rule.rule.name ≡ true
-  pub nests : h.nests ≡ divides rule.rule t.query
+  pub aligned : h.aligned ≡ is_aligned rule.rule t.query
   pub serves : RuleServes t.query rule h.from h.to
 
 abbrev pub ArePending : QueryContext → Option PendingPiece → Type 0

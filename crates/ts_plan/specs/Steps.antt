@@ -9,7 +9,7 @@ use Rattle.ts_core.specs.settings.SettingsFaults.{is_rule_name}
 use Rattle.ts_core.specs.store.Marks.{index_of}
 use Rattle.ts_core.specs.queries.Queries.{Query}
 use Rattle.ts_core.specs.plans.Pieces.{Piece, MarkedRule, QueryContext, IsBoundary, tags_of, RuleServes, IsValidPiece}
-use Rattle.ts_core.specs.plans.Faults.{divides, is_in_one_bucket, keeps}
+use Rattle.ts_core.specs.plans.Faults.{is_aligned, is_in_one_bucket, keeps}
 use Rattle.ts_core.specs.plans.Plans.{rollup_piece, raw_piece}
 use Rattle.ts_core.proofs.settings.Intervals.{IsWide}
 use Rattle.ts_plan.specs.declared.steps.Step.{Step}
@@ -33,12 +33,12 @@ pub record IsBucketAt (t : QueryContext) (r : MarkedRule) (p : ℤ) (bucket : Pi
   pub inside : bucket.to ≤ℤ t.query.to
 
 -- the rule is of the query's measurement, and keeps all tags that the query uses
-abbrev pub has_columns : Query → Rule → Bool
-has_columns q r = same_text r.measurement q.measurement && list_all (keeps r) (tags_of q)
+abbrev pub matches_query : Query → Rule → Bool
+matches_query q r = same_text r.measurement q.measurement && list_all (keeps r) (tags_of q)
 
 -- the bucket from a to b is still complete, and doesn't cross a bucket boundary of the query
-abbrev pub bucket_serves : Query → MarkedRule → ℤ → ℤ → Bool
-bucket_serves q r a b = int_le r.low (index_of r.rule a) && (divides r.rule q || is_in_one_bucket q a b)
+abbrev pub is_usable : Query → MarkedRule → ℤ → ℤ → Bool
+is_usable q r a b = int_le r.low (index_of r.rule a) && (is_aligned r.rule q || is_in_one_bucket q a b)
 
 -- one bucket of a rule that is a valid piece, within the range, and starts below the raw mark
 pub record IsStep (t : QueryContext) (s : Step) : Type 0 where
@@ -75,7 +75,7 @@ step_of p n e = record { from = p; rule = n; to = e }
 -- appends the step of rule n from p to e, if it is a valid piece
 abbrev pub with_step : QueryContext → MarkedRule → ℕ → ℤ → Option ℤ → List Step → List Step
 with_step t r n p None ss = ss
-with_step t r n p (Some e) ss = if bucket_serves t.query r p e then (ss ++ step_of p n e ∷ []) else ss
+with_step t r n p (Some e) ss = if is_usable t.query r p e then (ss ++ step_of p n e ∷ []) else ss
 
 -- adds all steps of rule n, and nothing else
 pub record Adds (t : QueryContext) (n : ℕ) (old new : List Step) : Type 0 where
@@ -94,16 +94,16 @@ starts_first e [] = false
 starts_first e (s ∷ ss) = int_eq s.from e
 
 -- the end can be reached from e: the end itself, a time at or above the raw mark, or the start of a step
-abbrev pub leads_on : QueryContext → List Step → ℤ → Bool
-leads_on t gs e = int_eq e t.query.to || (int_le t.mark e || starts_at e gs)
+abbrev pub reaches_end : QueryContext → List Step → ℤ → Bool
+reaches_end t gs e = int_eq e t.query.to || (int_le t.mark e || starts_at e gs)
 
 abbrev pub kept_if : Bool → Step → List Step → List Step
 kept_if b s gs = if b then (s ∷ gs) else gs
 
 -- the steps, sorted, from which the end can be reached
-abbrev pub kept_steps : QueryContext → List Step → List Step
-kept_steps t [] = []
-kept_steps t (s ∷ ss) = kept_if (leads_on t (kept_steps t ss) s.to) s (kept_steps t ss)
+abbrev pub pruned_steps : QueryContext → List Step → List Step
+pruned_steps t [] = []
+pruned_steps t (s ∷ ss) = kept_if (reaches_end t (pruned_steps t ss) s.to) s (pruned_steps t ss)
 
 -- ---- the walk over the remaining steps
 

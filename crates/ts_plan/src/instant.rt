@@ -39,7 +39,7 @@ impl Instant {
     }
 
     /// Adds `width` nanoseconds; returns `None` if the sum is after `end`.
-    pub(crate) fn later(self, width: i128, end: Instant) -> Option<Instant>
+    pub(crate) fn checked_add(self, width: i128, end: Instant) -> Option<Instant>
         requires forward { pos 0 ≤ℤ width }
         requires bound { width ≤ℤ pos (2 ^ 64) }
         ensures { MatchOption result (end <ℤ (self +ℤ width)) (λ p. (p ≡ self +ℤ width) × (p ≤ℤ end)) }

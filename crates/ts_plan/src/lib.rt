@@ -20,9 +20,9 @@
 mod context;
 mod fault;
 mod instant;
+mod matching;
 mod planner;
 mod prune;
-mod serving;
 mod steps;
 mod too_many;
 mod walk;

@@ -9,7 +9,7 @@ ghost use Rattle.ts_plan.specs.Steps.{IsPlannable, IsStep, Ascends};
 
 use crate::context::PlanContext;
 use crate::fault::{PlanError, PlanFault};
-use crate::prune::{keep_steps, leads_on, steps_from};
+use crate::prune::{prune_steps, reaches_end, steps_from};
 use crate::steps::{Step, all_steps};
 use crate::too_many::is_too_many;
 use crate::walk::walk;
@@ -31,9 +31,9 @@ fn plan_over<A: Allocator + Copy>(
     requires order { Ascends steps.old }
     ensures { IfOk result (λ plan. MatchOption plan (ReachesEnd context.now context.now.query.from → ⊥) (λ pieces. IsPlanOf context.now pieces.items)) }
 {
-    let begin = keep_steps(context, steps);
+    let begin = prune_steps(context, steps);
     let kept = steps_from(steps, begin);
-    if !leads_on(context, kept, context.start()) {
+    if !reaches_end(context, kept, context.start()) {
         return Ok(None);
     }
     Ok(Some(walk(alloc, context, kept)?))

@@ -1,6 +1,6 @@
 //! Prunes the steps that can't reach the end of the range.
 ghost use Rattle.std.specs.Prelude.{◌≡◌, ◌≤◌, length, drop};
-ghost use Rattle.ts_plan.specs.Steps.{Ascends, starts_first, starts_at, leads_on, kept_steps};
+ghost use Rattle.ts_plan.specs.Steps.{Ascends, starts_first, starts_at, reaches_end, pruned_steps};
 
 use crate::context::PlanContext;
 use crate::instant::Instant;
@@ -40,13 +40,13 @@ fn starts_at(steps: &[Step], instant: Instant) -> bool
 
 /// Returns true if the end can be reached from `instant`. It can from the end itself, from times at or above the raw
 /// mark, and from the start of a step.
-pub(crate) fn leads_on<A: Allocator>(
+pub(crate) fn reaches_end<A: Allocator>(
     context: &PlanContext<'_, A>,
     steps: &[Step],
     instant: Instant,
 ) -> bool
     requires { Ascends steps.now }
-    ensures { result ≡ leads_on context.now steps.now instant }
+    ensures { result ≡ reaches_end context.now steps.now instant }
 {
     instant == context.end() || instant >= context.mark() || starts_at(steps, instant)
 }
@@ -60,17 +60,17 @@ pub(crate) fn steps_from(steps: &[Step], begin: usize) -> &[Step]
 }
 
 /// Compacts the steps from which the end is reachable at the back of the slice; returns the index of the first.
-pub(crate) fn keep_steps<A: Allocator>(context: &PlanContext<'_, A>, steps: &mut [Step]) -> usize
+pub(crate) fn prune_steps<A: Allocator>(context: &PlanContext<'_, A>, steps: &mut [Step]) -> usize
     requires { Ascends steps.old }
     ensures bound { result ≤ length steps.new }
-    ensures kept { drop result steps.new ≡ kept_steps context.now steps.old }
+    ensures kept { drop result steps.new ≡ pruned_steps context.now steps.old }
 {
     let mut begin = steps.len();
     let mut index = steps.len();
     while index > 0 {
         index -= 1;
         let step = steps[index];
-        if leads_on(context, steps_from(steps, begin), step.to) {
+        if reaches_end(context, steps_from(steps, begin), step.to) {
             begin -= 1;
             steps[begin] = step;
         }

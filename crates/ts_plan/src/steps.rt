@@ -2,7 +2,7 @@
 ghost use Rattle.std.specs.Prelude.{◌≡◌, ◌-ℤ◌, ◌≤ℤ◌, pos, int_le, ◌&&◌, ◌||◌, Some, slice_get, IfOk};
 ghost use Rattle.std.specs.Int.{int_rem_euclid};
 ghost use Rattle.std.specs.List.{AllByRecursion};
-ghost use Rattle.ts_core.specs.plans.Faults.{divides, is_in_one_bucket};
+ghost use Rattle.ts_core.specs.plans.Faults.{is_aligned, is_in_one_bucket};
 ghost use Rattle.ts_core.specs.store.Marks.{index_of};
 ghost use Rattle.ts_core.specs.lists.Members.{Among};
 ghost use Rattle.ts_plan.specs.declared.steps.Step.{Step};
@@ -10,9 +10,9 @@ ghost use Rattle.ts_plan.specs.Steps.{IsPlannable, IsStep, Ascends, IsFirstStart
 
 use crate::context::PlanContext;
 use crate::instant::Instant;
-use crate::serving::has_columns;
+use crate::matching::matches_query;
 use std::alloc::{AllocError, Allocator};
-use ts_check::{MarkedRule, divides};
+use ts_check::{MarkedRule, is_aligned};
 use ts_core::{Rule, index_of};
 
 /// One bucket of a rule, as a step of the walk.
@@ -41,27 +41,27 @@ fn first_boundary<A: Allocator>(rule: &Rule<A>, from: Instant, end: Instant) -> 
 {
     let offset_in_bucket = offset_in_bucket(rule, from);
     if offset_in_bucket == 0 {
-        return from.later(offset_in_bucket, end);
+        return from.checked_add(offset_in_bucket, end);
     }
     let ahead = i128::from(rule.interval()) - offset_in_bucket;
-    from.later(ahead, end)
+    from.checked_add(ahead, end)
 }
 
-/// Returns true if a bucket of the rule is still complete and doesn't cross a bucket boundary of the query. `nests` is
+/// Returns true if a bucket of the rule is still complete and doesn't cross a bucket boundary of the query. `aligned` is
 /// true if no bucket of the rule does.
-fn bucket_serves<A: Allocator>(
+fn is_usable<A: Allocator>(
     context: &PlanContext<'_, A>,
     marked: &MarkedRule<'_, A>,
-    nests: bool,
+    aligned: bool,
     step: &Step,
 ) -> bool
     requires { pos 1 ≤ℤ marked.now.rule.interval }
-    ensures { result ≡ (int_le marked.now.low (index_of marked.now.rule step.now.from) && (nests || is_in_one_bucket context.now.query step.now.from step.now.to)) }
+    ensures { result ≡ (int_le marked.now.low (index_of marked.now.rule step.now.from) && (aligned || is_in_one_bucket context.now.query step.now.from step.now.to)) }
 {
     if index_of(marked.rule, i128::from(step.from.nanos())) < marked.low {
         return false;
     }
-    nests || context.is_in_one_bucket(step.from, step.to)
+    aligned || context.is_in_one_bucket(step.from, step.to)
 }
 
 /// Appends the step of the bucket that starts at `from`, if it is a valid piece. Returns the start of the next bucket,
@@ -71,16 +71,16 @@ fn push_step<A: Allocator>(
     context: &PlanContext<'_, A>,
     number: usize,
     marked: &MarkedRule<'_, A>,
-    nests: bool,
+    aligned: bool,
     from: Instant,
 ) -> Result<Option<Instant>, AllocError>
     requires rule { pos 1 ≤ℤ marked.now.rule.interval }
-    requires nests { nests ≡ divides marked.now.rule context.now.query }
+    requires aligned { aligned ≡ is_aligned marked.now.rule context.now.query }
     ensures next { IfOk result (λ next. IsNextInstant context.now marked.now from next) }
     ensures steps { IfOk result (λ next. steps.new.items ≡ with_step context.now marked.now number from next steps.old.items) }
 {
     let width = i128::from(marked.rule.interval());
-    match from.later(width, context.end()) {
+    match from.checked_add(width, context.end()) {
         None => Ok(None),
         Some(to) => {
             let step = Step {
@@ -88,7 +88,7 @@ fn push_step<A: Allocator>(
                 rule: number,
                 to,
             };
-            if bucket_serves(context, marked, nests, &step) {
+            if is_usable(context, marked, aligned, &step) {
                 steps.push(step)?;
             }
             Ok(Some(to))
@@ -107,17 +107,17 @@ fn push_steps<A: Allocator>(
     requires rule { slice_get context.now.rules number ≡ Some marked.now }
     ensures { IfOk result (λ _. Adds context.now number steps.old.items steps.new.items) }
 {
-    if !has_columns(marked.rule, context.query()) {
+    if !matches_query(marked.rule, context.query()) {
         return Ok(());
     }
-    let nests = divides(marked.rule, context.query());
+    let aligned = is_aligned(marked.rule, context.query());
     let mark = context.mark();
     let mut next = first_boundary(marked.rule, context.start(), context.end());
     while let Some(from) = next {
         if from >= mark {
             break;
         }
-        next = push_step(steps, context, number, marked, nests, from)?;
+        next = push_step(steps, context, number, marked, aligned, from)?;
     }
     Ok(())
 }

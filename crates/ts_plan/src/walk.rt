@@ -10,7 +10,7 @@ use crate::context::PlanContext;
 use crate::instant::Instant;
 use crate::steps::Step;
 use std::alloc::{AllocError, Allocator};
-use ts_check::{Piece, PieceSource, RuleName, divides};
+use ts_check::{Piece, PieceSource, RuleName, is_aligned};
 
 /// Pending piece, which the next bucket may extend.
 #[derive(Clone, Copy)]
@@ -18,7 +18,7 @@ pub(crate) struct PendingPiece {
     /// Index of the rule.
     rule: usize,
     /// True if each bucket of the rule is within a bucket of the query.
-    nests: bool,
+    aligned: bool,
     from: Instant,
     to: Instant,
 }
@@ -34,7 +34,7 @@ impl PendingPiece {
         let marked = context.rule_at(step.rule).unwrap();
         PendingPiece {
             rule: step.rule,
-            nests: divides(marked.rule, context.query()),
+            aligned: is_aligned(marked.rule, context.query()),
             from: step.from,
             to: step.to,
         }
@@ -59,7 +59,7 @@ impl PendingPiece {
         requires step { IsStep context.now step.now }
         ensures { result ≡ joins context.now (pending_piece context.now self.now) (bucket_piece context.now step.now) }
     {
-        self.rule == step.rule && (self.nests || context.is_in_one_bucket(self.from, step.to))
+        self.rule == step.rule && (self.aligned || context.is_in_one_bucket(self.from, step.to))
     }
 }
 

@@ -16,7 +16,7 @@ use Rattle.ts_ql.proofs.EndRuns.{EndsAt, end_steps, ending_leads}
 use Rattle.ts_ql.proofs.ClauseRuns.{continued_by, measurement_ends, term_ends, tag_ends, item_ends, fill_ends}
 use Rattle.ts_ql.proofs.WhereRuns.{after_term_leads}
 use Rattle.ts_ql.proofs.GroupRuns.{tag_cast_leads, tag_comma_leads, item_comma_leads}
-use Rattle.ts_ql.proofs.WordLemmas.{not_where_group, not_group_and}
+use Rattle.ts_ql.proofs.KeywordLemmas.{not_where_group, not_group_and}
 
 -- ---- the end of a statement
 

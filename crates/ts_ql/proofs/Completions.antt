@@ -12,7 +12,7 @@ use Rattle.ts_ql.specs.Laws.{CanBeWritten, Within, ReadsTokens}
 use Rattle.ts_ql.specs.Reading.{Progress, is_done}
 use Rattle.ts_ql.specs.Statements.{Meaning}
 use Rattle.ts_ql.specs.Tokens.{Lexeme}
-use Rattle.ts_ql.specs.Words.{is_time_column}
+use Rattle.ts_ql.specs.Keywords.{is_time_column}
 use Rattle.ts_ql.proofs.Rests.{Rest, FillTail, DimensionTail, FilterTail, SelectTail, Closing, Outside, Inside, levels, left_closing, left_at, left, SuitsAt, Suits}
 
 -- ---- tokens

@@ -6,7 +6,7 @@ use Rattle.std.proofs.lemmas.Int.{ints, unsigned_abs-mul}
 use Rattle.jiff_core.specs.Calendar.{is_leap_year, days_in_month, days_of_years, days_of_months, day_count, days_from_civil}
 use Rattle.ts_core.specs.facts.Durations.{in_64_bits}
 use Rattle.ts_core.specs.facts.Facts.{Text}
-use Rattle.ts_ql.specs.Dates.{digits, midnight, date_of, fraction, place_value, clock_nanos, time_of_day, without_zone, later, timestamp_of}
+use Rattle.ts_ql.specs.Dates.{digits, midnight, date_of, fraction, place_value, clock_nanos, time_of_day, without_zone, day_plus_clock, timestamp_of}
 use Rattle.ts_ql.specs.Literals.{magnitude, literal}
 
 -- P of the value, if there is one
@@ -147,13 +147,13 @@ day_near : (o : Option ℤ) → Holds IsDay o → Holds IsNear o
 day_near None h = tt
 day_near (Some z) h = omega arith
 
-later_near : (date : Option ℤ) (clock : Option ℕ) → Holds IsDay date → Holds IsClock clock → Holds IsNear (later date clock)
+later_near : (date : Option ℤ) (clock : Option ℕ) → Holds IsDay date → Holds IsClock clock → Holds IsNear (day_plus_clock date clock)
 later_near None clock h k = tt
 later_near (Some day) None h k = tt
 later_near (Some day) (Some nanos) h k = omega (arith, ints)
 
 told_by_length : (text : Text) (short parted : Bool) → Holds IsNear (if short then date_of text
-    else if parted then later (date_of (take 10 text)) (time_of_day (without_zone (drop 11 text))) else None)
+    else if parted then day_plus_clock (date_of (take 10 text)) (time_of_day (without_zone (drop 11 text))) else None)
 told_by_length text true parted = day_near (date_of text) (date_near text)
 told_by_length text false true = later_near (date_of (take 10 text)) (time_of_day (without_zone (drop 11 text))) (date_near (take 10 text)) (time_of_day_short (without_zone (drop 11 text)))
 told_by_length text false false = tt

@@ -17,7 +17,7 @@ use Rattle.ts_ql.specs.Tokens.{Lexeme}
 use Rattle.ts_ql.specs.Productions.{literal_fault, spell_number}
 use Rattle.ts_ql.specs.Builders.{meaning}
 use Rattle.ts_ql.proofs.Rests.{left_at, left_ending, said_ending}
-use Rattle.ts_ql.proofs.WordLemmas.{not_null_none, not_null_previous, not_none_previous}
+use Rattle.ts_ql.proofs.KeywordLemmas.{not_null_none, not_null_previous, not_none_previous}
 use Rattle.ts_ql.proofs.Steps.{at, Answer, Leads, passes, fails, passed, failed, carried}
 
 abbrev pub filled : Progress → State → FillStep → Advance

@@ -18,7 +18,7 @@ use Rattle.ts_ql.specs.Reading.{Progress, Advance, with_builder, in_groups}
 use Rattle.ts_ql.specs.Selects.{Select, of_interval, moved, with_text}
 use Rattle.ts_ql.specs.Productions.{literal_fault, again_fault, interval_fault, interval_fault_of, spell_offset, spell_tag_type}
 use Rattle.ts_ql.specs.Tokens.{Lexeme}
-use Rattle.ts_ql.specs.Words.{is_time_column}
+use Rattle.ts_ql.specs.Keywords.{is_time_column}
 use Rattle.ts_ql.proofs.Rests.{DimensionTail, left_at, left_dimensions, said_dimensions, with_buckets}
 use Rattle.ts_ql.proofs.Steps.{at, Answer, Leads, passes, fails, passed, failed, carried}
 use Rattle.ts_ql.proofs.WhereRuns.{time_is_name}

@@ -18,7 +18,7 @@ pub mod StandLemmas
 pub mod CountLemmas
 pub mod StepLemmas
 pub mod RunLemmas
-pub mod WordLemmas
+pub mod KeywordLemmas
 pub mod TokenEnds
 pub mod ReadingLemmas
 -- Values of literals.

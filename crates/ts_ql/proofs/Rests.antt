@@ -21,7 +21,7 @@ use Rattle.ts_ql.specs.Selects.{Select, moved}
 use Rattle.ts_ql.specs.Productions.{field_fault, literal_fault, interval_fault, change_fault, type_word, spell_type, spell_alias, spell_call, spell_calls, spell_from, kind_of_measure, spell_changes, spell_instant, kind_of_comparison, spell_tag_type, equality, spell_cond, spell_filter, spell_signed, spell_offset, spell_dimension, spell_dimensions, spell_group, spell_option, spell_fill, spell_statement, spell_ending}
 use Rattle.ts_ql.specs.Statements.{Meaning}
 use Rattle.ts_ql.specs.Tokens.{Lexeme}
-use Rattle.ts_ql.specs.Words.{named}
+use Rattle.ts_ql.specs.Keywords.{named}
 
 -- ---- the rests of a statement: after its groups, its conditions, its source, and an aggregate
 

@@ -20,10 +20,10 @@ use Rattle.ts_ql.specs.SelectSteps as steps
 use Rattle.ts_ql.specs.Productions.{function_fault, function_fault_at, known_function, field_fault}
 use Rattle.ts_ql.specs.Builders.{meaning}
 use Rattle.ts_ql.specs.Tokens.{Lexeme}
-use Rattle.ts_ql.specs.Words.{function_called, named}
+use Rattle.ts_ql.specs.Keywords.{function_called, named}
 use Rattle.ts_ql.proofs.Rests.{Rest, SelectTail, ClosedTail, FilterTail, left_at, left_filter, said_at}
 use Rattle.ts_ql.proofs.Steps.{at, Answer, Leads, passes, fails, passed, failed, carried}
-use Rattle.ts_ql.proofs.WordLemmas.{another_word}
+use Rattle.ts_ql.proofs.KeywordLemmas.{another_word}
 
 abbrev pub selecting : Progress → State → Selecting → Advance
 selecting s p step = with_builder (at p s) (in_selection s.builder step)

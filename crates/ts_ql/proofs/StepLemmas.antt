@@ -27,7 +27,7 @@ use Rattle.ts_ql.specs.Statements.{statement_query}
 use Rattle.ts_ql.specs.Tokenizing.{is_end_of_text}
 use Rattle.ts_ql.specs.Tokens.{Lexeme}
 use Rattle.ts_ql.specs.WhereSteps.{Filtered, where_at, where_step, term_at, after_term}
-use Rattle.ts_ql.specs.Words.{function_called, is_time_column, named}
+use Rattle.ts_ql.specs.Keywords.{function_called, is_time_column, named}
 
 -- ---- within a statement
 

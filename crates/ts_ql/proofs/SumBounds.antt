@@ -203,20 +203,20 @@ step_follows now t s = finishing_time_follows now t s (finish_time_at s.state t.
 
 -- the sum after n tokens
 abbrev pub IsAfter : ℤ → ℕ → Progress → Type 0
-IsAfter now turn s = unsigned_abs s.builder.moment.total ≤ turn * 2 ^ 102 + unsigned_abs now
+IsAfter now round s = unsigned_abs s.builder.moment.total ≤ round * 2 ^ 102 + unsigned_abs now
 
 pub starts : (now : ℤ) (s : Progress) → s ≡ start_progress → IsAfter now 0 s
 starts now s e = rw e (omega arith)
 
-taken : (now : ℤ) (s n : Progress) (r : Advance) (turn : ℕ) → ProgressFollows now s r → r ≡ Ok n → IsAfter now turn s → IsAfter now (turn + 1) n
-taken now s n (Ok m) turn h e before =
+taken : (now : ℤ) (s n : Progress) (r : Advance) (round : ℕ) → ProgressFollows now s r → r ≡ Ok n → IsAfter now round s → IsAfter now (round + 1) n
+taken now s n (Ok m) round h e before =
     let same : m ≡ n = cc in
-    let far = h (turn * 2 ^ 102 + unsigned_abs now) (omega arith) before in
-    subst (λ (k : Progress). IsAfter now (turn + 1) k) same (omega (arith, far))
-taken now s n (Err f) turn h e before = absurd cc
+    let far = h (round * 2 ^ 102 + unsigned_abs now) (omega arith) before in
+    subst (λ (k : Progress). IsAfter now (round + 1) k) same (omega (arith, far))
+taken now s n (Err f) round h e before = absurd cc
 
-pub follows_on : (now : ℤ) (t : Lexeme) (s n : Progress) (turn : ℕ) → step now t s ≡ Ok n → IsAfter now turn s → IsAfter now (turn + 1) n
-follows_on now t s n turn e before = taken now s n (step now t s) turn (step_follows now t s) e before
+pub follows_on : (now : ℤ) (t : Lexeme) (s n : Progress) (round : ℕ) → step now t s ≡ Ok n → IsAfter now round s → IsAfter now (round + 1) n
+follows_on now t s n round e before = taken now s n (step now t s) round (step_follows now t s) e before
 
-pub has_room : (now : ℤ) (s : Progress) (turn : ℕ) → turn ≤ 65536 → IsAfter now turn s → CanAddMore now s.builder.moment
-has_room now s turn few before = omega arith
+pub has_room : (now : ℤ) (s : Progress) (round : ℕ) → round ≤ 65536 → IsAfter now round s → CanAddMore now s.builder.moment
+has_room now s round few before = omega arith

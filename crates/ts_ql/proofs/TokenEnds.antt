@@ -14,7 +14,7 @@ use Rattle.ts_ql.specs.declared.token.Kind.TheVariants as kinds
 use Rattle.ts_ql.specs.Lexing.{is_in, run_end, end_of_run, is_escape_byte, closing, closing_quote, parts_end, duration_end, double, single, single_at, double_at, operator_at, number_token_at, closed_at, quoted_at, shape_at, kind_of, token_at}
 use Rattle.ts_ql.specs.DurationUnits.{unit_len}
 use Rattle.ts_ql.specs.Tokenizing.{is_end_of_text}
-use Rattle.ts_ql.specs.Words.{is_keyword}
+use Rattle.ts_ql.specs.Keywords.{is_keyword}
 use Rattle.ts_ql.proofs.LexingLemmas.{in_text, unit_cases}
 
 -- ---- runs of bytes

@@ -20,7 +20,7 @@ use Rattle.ts_ql.specs.Statements.{Meaning}
 use Rattle.ts_ql.specs.Builders.{BuilderState, meaning}
 use Rattle.ts_ql.specs.Tokens.{Lexeme}
 use Rattle.ts_ql.specs.WhereSteps.{Filtered, Filtering, with_condition, term_at, where_at, after_term}
-use Rattle.ts_ql.specs.Words.{is_time_column, named}
+use Rattle.ts_ql.specs.Keywords.{is_time_column, named}
 use Rattle.ts_ql.proofs.Completions.{closing_of, closing_levels}
 use Rattle.ts_ql.proofs.Rests.{Closing, Outside, Inside, GroupTail, levels, after_conds, spell_conds, Rest, left, left_at, left_closing, with_match, said_closing, all_said, SoundAt, Suits, SuitsAt}
 use Rattle.ts_ql.proofs.Steps.{at, Answer, Leads, passes, fails, passed, failed}

@@ -66,13 +66,13 @@ time_of_day text =
 unfoldable pub without_zone : Text → Text
 without_zone text = if slice_index text (length text - 1) == 90 then take (length text - 1) text else text
 
-abbrev pub later : Option ℤ → Option ℕ → Option ℤ
-later date clock = option_and_then (λ day. option_map (λ nanos. day +ℤ pos nanos) clock) date
+abbrev pub day_plus_clock : Option ℤ → Option ℕ → Option ℤ
+day_plus_clock date clock = option_and_then (λ day. option_map (λ nanos. day +ℤ pos nanos) clock) date
 
 -- a date alone; or a date, `T` or a space, and a time of day with or without `Z`
 unfoldable pub timestamp_of : Text → Option ℤ
 timestamp_of text =
     if nat_le (length text) 10 then date_of text
     else if slice_index text 10 == 84 || slice_index text 10 == 32
-    then later (date_of (take 10 text)) (time_of_day (without_zone (drop 11 text)))
+    then day_plus_clock (date_of (take 10 text)) (time_of_day (without_zone (drop 11 text)))
     else None

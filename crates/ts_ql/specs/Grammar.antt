@@ -24,7 +24,7 @@ use Rattle.ts_ql.specs.declared.token.Kind.TheVariants as kinds
 use Rattle.ts_ql.specs.QueryFaults.{Fault}
 use Rattle.ts_ql.specs.Literals.{is_word}
 use Rattle.ts_ql.specs.Tokens.{Lexeme}
-use Rattle.ts_ql.specs.Words.{is_time_column}
+use Rattle.ts_ql.specs.Keywords.{is_time_column}
 
 -- ---- tokens
 

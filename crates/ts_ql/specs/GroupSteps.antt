@@ -14,7 +14,7 @@ use Rattle.ts_ql.specs.declared.token.Kind.TheVariants as kinds
 use Rattle.ts_ql.specs.QueryFaults.{Fault, OutOfRange, unexpected}
 use Rattle.ts_ql.specs.Literals.{is_word, literal, text_spelled}
 use Rattle.ts_ql.specs.Tokens.{Lexeme}
-use Rattle.ts_ql.specs.Words.{is_time_column}
+use Rattle.ts_ql.specs.Keywords.{is_time_column}
 
 -- state of the clause: the buckets, the text offset of the bucket offset's first token, and the sorted set of tags
 pub record Grouped : Type 0 where

@@ -9,7 +9,7 @@ use Rattle.ts_ql.specs.declared.token.Kind.{Kind}
 use Rattle.ts_ql.specs.declared.token.Kind.TheVariants as kinds
 use Rattle.ts_ql.specs.DurationUnits.{unit_len}
 use Rattle.ts_ql.specs.Tokens.{Lexeme}
-use Rattle.ts_ql.specs.Words.{is_keyword}
+use Rattle.ts_ql.specs.Keywords.{is_keyword}
 
 -- ---- runs of bytes
 

@@ -6,7 +6,7 @@ pub mod Lexing
 pub mod Tokenizing
 pub mod Literals
 pub mod Dates
-pub mod Words
+pub mod Keywords
 pub mod QueryFaults
 pub mod QueryFaultText
 pub mod Selects

@@ -19,7 +19,7 @@ use Rattle.ts_ql.specs.Literals.{literal}
 use Rattle.ts_ql.specs.Selects.{Projection, Select, function_name, with_text, of_interval, moved}
 use Rattle.ts_ql.specs.Statements.{Meaning, statement_query}
 use Rattle.ts_ql.specs.Tokens.{Lexeme}
-use Rattle.ts_ql.specs.Words.{function_called, named}
+use Rattle.ts_ql.specs.Keywords.{function_called, named}
 
 -- the meaning of an empty statement
 abbrev pub no_meaning : Meaning

@@ -17,7 +17,7 @@ use Rattle.ts_ql.specs.Meanings.{no_meaning, base_start, base_value, total_after
 use Rattle.ts_ql.specs.Selects.{Select}
 use Rattle.ts_ql.specs.Statements.{Meaning, statement_query}
 use Rattle.ts_ql.specs.Tokens.{Lexeme}
-use Rattle.ts_ql.specs.Words.{function_called, named}
+use Rattle.ts_ql.specs.Keywords.{function_called, named}
 
 -- ---- checks
 

@@ -8,7 +8,7 @@ use Rattle.ts_ql.specs.declared.fault.QlFaultKind.TheVariants as faults
 use Rattle.ts_ql.specs.declared.fault.ParseError.{ParseError}
 use Rattle.ts_ql.specs.declared.fault.ParseError.TheVariants as errors
 use Rattle.ts_ql.specs.Tokens.{Lexeme}
-use Rattle.ts_ql.specs.Words.{is_unsupported}
+use Rattle.ts_ql.specs.Keywords.{is_unsupported}
 
 pub data Fault : Type 0 where
   -- no supported text continues with this token

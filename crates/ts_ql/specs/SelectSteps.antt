@@ -13,7 +13,7 @@ use Rattle.ts_ql.specs.QueryFaults.{Fault, unsupported, unexpected}
 use Rattle.ts_ql.specs.Literals.{is_word}
 use Rattle.ts_ql.specs.Selects.{Projection, function_name}
 use Rattle.ts_ql.specs.Tokens.{Lexeme}
-use Rattle.ts_ql.specs.Words.{function_called, named}
+use Rattle.ts_ql.specs.Keywords.{function_called, named}
 
 -- state of the clause: the columns, the function of the current column, the one field, and the measurement
 pub record Selected : Type 0 where

@@ -11,7 +11,7 @@ use Rattle.ts_ql.specs.declared.token.Kind.TheVariants as kinds
 use Rattle.ts_ql.specs.QueryFaults.{Fault, unsupported, unexpected}
 use Rattle.ts_ql.specs.Literals.{is_word, text_spelled}
 use Rattle.ts_ql.specs.Tokens.{Lexeme}
-use Rattle.ts_ql.specs.Words.{is_time_column}
+use Rattle.ts_ql.specs.Keywords.{is_time_column}
 
 -- state of the clause: the tag conditions, the tag and operator of the current one, and the number of open parentheses
 pub record Filtered : Type 0 where

@@ -40,7 +40,7 @@ impl Filling {
 
     /// Sets a number whose first token is at offset `first`; returns the next state. Fails with `OutOfRange` at
     /// `first`.
-    fn take_number<'a>(
+    fn parse_number<'a>(
         &mut self,
         first: usize,
         negative: bool,
@@ -59,7 +59,7 @@ impl Filling {
 
     /// Consumes the next token in state `state`; returns the next state.
     #[tactic(auto, unfolding(crate::specs::GroupSteps::fill_step))]
-    pub(crate) fn take<'a>(
+    pub(crate) fn parse_token<'a>(
         &mut self,
         state: State,
         token: &Token<'a>,
@@ -81,8 +81,8 @@ impl Filling {
                 self.first = token.start;
                 Ok(State::FillMinus)
             }
-            (State::FillOption, Kind::Integer) => self.take_number(token.start, false, token),
-            (State::FillMinus, Kind::Integer) => self.take_number(self.first, true, token),
+            (State::FillOption, Kind::Integer) => self.parse_number(token.start, false, token),
+            (State::FillMinus, Kind::Integer) => self.parse_number(self.first, true, token),
             (State::FillClose, Kind::Close) => Ok(State::AfterFill),
             _ => Err(ParseError::Fault(token.unexpected())),
         }

@@ -59,7 +59,7 @@ impl<A: Allocator + Copy> Filter<A> {
     }
 
     /// Consumes the column that a term begins with; returns the next state.
-    fn take_column<'a>(&mut self, alloc: A, token: &Token<'a>) -> Result<State, ParseError<'a>>
+    fn parse_column<'a>(&mut self, alloc: A, token: &Token<'a>) -> Result<State, ParseError<'a>>
         ensures { GivesWith result (filtered self.new) (term_at (lexeme token.now) (filtered self.old)) }
     {
         if token.is_time_column() {
@@ -71,7 +71,7 @@ impl<A: Allocator + Copy> Filter<A> {
 
     /// Consumes the next token in state `state`; returns the next state.
     #[tactic(auto, unfolding(crate::specs::WhereSteps::where_step))]
-    pub(crate) fn take<'a>(
+    pub(crate) fn parse_token<'a>(
         &mut self,
         alloc: A,
         state: State,
@@ -87,7 +87,7 @@ impl<A: Allocator + Copy> Filter<A> {
                 self.depth += 1;
                 Ok(State::Term)
             }
-            (State::Term, Kind::Word | Kind::QuotedName) => self.take_column(alloc, token),
+            (State::Term, Kind::Word | Kind::QuotedName) => self.parse_column(alloc, token),
             (State::TagEnd, Kind::Cast) => Ok(State::TagType),
             (State::TagType, Kind::Word) if is_word(token.text, "tag") => Ok(State::TagSign),
             (State::TagEnd | State::TagSign, Kind::Equals) => {

@@ -51,7 +51,7 @@ impl<A: Allocator + Copy> Groups<A> {
     }
 
     /// Consumes the column that an item begins with; returns the next state. Fails at a second `time`.
-    fn take_column<'a>(&mut self, alloc: A, token: &Token<'a>) -> Result<State, ParseError<'a>>
+    fn parse_column<'a>(&mut self, alloc: A, token: &Token<'a>) -> Result<State, ParseError<'a>>
         ensures { GivesWith result self.new (item_at (lexeme token.now) self.old) }
     {
         if token.is_time_column() {
@@ -66,7 +66,7 @@ impl<A: Allocator + Copy> Groups<A> {
     }
 
     /// Consumes the interval; returns the next state. Fails with `OutOfRange`.
-    fn take_interval<'a>(&mut self, token: &Token<'a>) -> Result<State, ParseError<'a>>
+    fn parse_interval<'a>(&mut self, token: &Token<'a>) -> Result<State, ParseError<'a>>
         ensures { GivesWith result self.new (with_interval (lexeme token.now) self.old (literal false token.now.text.now)) }
     {
         match literal(false, token.text) {
@@ -83,7 +83,7 @@ impl<A: Allocator + Copy> Groups<A> {
 
     /// Consumes the bucket offset, whose first token is at `first`; returns the next state. Fails with `OutOfRange` at
     /// `first`.
-    fn take_offset<'a>(
+    fn parse_offset<'a>(
         &mut self,
         first: usize,
         negative: bool,
@@ -105,7 +105,7 @@ impl<A: Allocator + Copy> Groups<A> {
 
     /// Consumes the next token in state `state`; returns the next state.
     #[tactic(auto, unfolding(crate::specs::GroupSteps::group_step))]
-    pub(crate) fn take<'a>(
+    pub(crate) fn parse_token<'a>(
         &mut self,
         alloc: A,
         state: State,
@@ -115,16 +115,16 @@ impl<A: Allocator + Copy> Groups<A> {
     {
         match (state, token.kind) {
             (State::GroupBy, Kind::Keyword) if is_word(token.text, "by") => Ok(State::Item),
-            (State::Item, Kind::Word | Kind::QuotedName) => self.take_column(alloc, token),
+            (State::Item, Kind::Word | Kind::QuotedName) => self.parse_column(alloc, token),
             (State::TimeOpen, Kind::Open) => Ok(State::Interval),
-            (State::Interval, Kind::Duration) => self.take_interval(token),
+            (State::Interval, Kind::Duration) => self.parse_interval(token),
             (State::IntervalEnd, Kind::Comma) => Ok(State::Offset),
             (State::Offset, Kind::Minus) => {
                 self.first = token.start;
                 Ok(State::OffsetMinus)
             }
-            (State::Offset, Kind::Duration) => self.take_offset(token.start, false, token),
-            (State::OffsetMinus, Kind::Duration) => self.take_offset(self.first, true, token),
+            (State::Offset, Kind::Duration) => self.parse_offset(token.start, false, token),
+            (State::OffsetMinus, Kind::Duration) => self.parse_offset(self.first, true, token),
             (State::IntervalEnd | State::OffsetEnd, Kind::Close) => Ok(State::AfterItem),
             (State::AfterTag, Kind::Cast) => Ok(State::GroupTagType),
             (State::GroupTagType, Kind::Word) if is_word(token.text, "tag") => Ok(State::AfterItem),

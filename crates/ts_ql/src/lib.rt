@@ -21,6 +21,7 @@ mod fault;
 mod filling;
 mod filter;
 mod groups;
+mod keywords;
 mod literal;
 mod moment;
 mod number;
@@ -32,7 +33,6 @@ mod state;
 mod statement;
 mod token;
 mod unit;
-mod words;
 
 pub use fault::{ParseError, QlFault, QlFaultKind};
 pub use query::{Condition, Projection, Query, QueryParts, count_query};

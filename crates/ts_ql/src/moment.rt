@@ -101,7 +101,7 @@ impl Moment {
 
     /// Consumes the next token in state `state`; returns the next state.
     #[tactic(auto, unfolding(crate::specs::MomentSteps::moment_step))]
-    pub(crate) fn take<'a>(
+    pub(crate) fn parse_token<'a>(
         &mut self,
         now: Time,
         state: State,

@@ -132,7 +132,12 @@ impl<A: Allocator + Copy> Reader<A> {
 
     /// Consumes the next token.
     #[tactic(auto, unfolding(crate::specs::Reading::step))]
-    fn take<'a>(&mut self, alloc: A, now: Time, token: &Token<'a>) -> Result<(), ParseError<'a>>
+    fn parse_token<'a>(
+        &mut self,
+        alloc: A,
+        now: Time,
+        token: &Token<'a>,
+    ) -> Result<(), ParseError<'a>>
         requires { CanAddMore now self.old.builder.moment }
         ensures { LeavesState result (progress self.new) (step now (lexeme token.now) (progress self.old)) }
     {
@@ -145,7 +150,7 @@ impl<A: Allocator + Copy> Reader<A> {
         }
         self.state = match next_clause(self.state, token) {
             Some(next) => next,
-            None => self.builder.take(alloc, now, self.state, token)?,
+            None => self.builder.parse_token(alloc, now, self.state, token)?,
         };
         Ok(())
     }
@@ -162,9 +167,9 @@ fn read<A: Allocator + Copy>(
 {
     let mut reader = Reader::new(alloc);
     let mut at = 0;
-    for _turn in 0..text.len() + 1 {
+    for _round in 0..text.len() + 1 {
         let token = Token::at(text, at);
-        reader.take(alloc, now, &token)?;
+        reader.parse_token(alloc, now, &token)?;
         if let State::Done = reader.state {
             return Ok(reader.queries);
         }

@@ -6,11 +6,11 @@ ghost use Rattle.ts_ql.specs.SelectSteps.{selected, select_step, with_column, wi
 ghost use Rattle.ts_ql.specs.Tokens.{lexeme};
 
 use crate::fault::ParseError;
+use crate::keywords::{function_called, function_name};
 use crate::literal::{is_word, text_spelled};
 use crate::query::Projection;
 use crate::state::State;
 use crate::token::{Kind, Token};
-use crate::words::{function_called, function_name};
 use std::alloc::{AllocError, Allocator};
 use ts_core::Function;
 
@@ -55,7 +55,7 @@ impl<A: Allocator + Copy> Selection<A> {
 
     /// Consumes the field of a function; returns the next state. Fails with `OutOfProfile` if another function has
     /// another field.
-    fn take_field<'a>(&mut self, alloc: A, token: &Token<'a>) -> Result<State, ParseError<'a>>
+    fn parse_field<'a>(&mut self, alloc: A, token: &Token<'a>) -> Result<State, ParseError<'a>>
         ensures { GivesWith result (selected self.new) (with_call_field (lexeme token.now) (selected self.old) (selected self.old).field) }
     {
         let name = text_spelled(alloc, token.text)?;
@@ -72,7 +72,7 @@ impl<A: Allocator + Copy> Selection<A> {
     /// Consumes the name of a function; returns the next state. Fails with `OutOfProfile` if it is no supported
     /// function.
     #[tactic(auto, unfolding(crate::specs::SelectSteps::select_step))]
-    fn take_function<'a>(&mut self, token: &Token<'a>) -> Result<State, ParseError<'a>>
+    fn parse_function<'a>(&mut self, token: &Token<'a>) -> Result<State, ParseError<'a>>
         ensures { GivesWith result (selected self.new) (select_step State.Function (lexeme token.now) (selected self.old)) }
     {
         match token.kind {
@@ -90,7 +90,7 @@ impl<A: Allocator + Copy> Selection<A> {
 
     /// Consumes the token after a function call: a comma, FROM or AS. Returns the next state.
     #[tactic(auto, unfolding(crate::specs::SelectSteps::select_step))]
-    fn take_after_column<'a>(
+    fn parse_after_column<'a>(
         &mut self,
         alloc: A,
         token: &Token<'a>,
@@ -113,7 +113,11 @@ impl<A: Allocator + Copy> Selection<A> {
 
     /// Consumes the measurement; returns the next state.
     #[tactic(auto, unfolding(crate::specs::SelectSteps::select_step))]
-    fn take_measurement<'a>(&mut self, alloc: A, token: &Token<'a>) -> Result<State, ParseError<'a>>
+    fn parse_measurement<'a>(
+        &mut self,
+        alloc: A,
+        token: &Token<'a>,
+    ) -> Result<State, ParseError<'a>>
         ensures { GivesWith result (selected self.new) (select_step State.Measurement (lexeme token.now) (selected self.old)) }
     {
         match token.kind {
@@ -128,7 +132,7 @@ impl<A: Allocator + Copy> Selection<A> {
 
     /// Consumes the next token in state `state`; returns the next state.
     #[tactic(auto, unfolding(crate::specs::SelectSteps::select_step))]
-    pub(crate) fn take<'a>(
+    pub(crate) fn parse_token<'a>(
         &mut self,
         alloc: A,
         state: State,
@@ -137,16 +141,16 @@ impl<A: Allocator + Copy> Selection<A> {
         ensures { GivesWith result (selected self.new) (select_step state (lexeme token.now) (selected self.old)) }
     {
         match (state, token.kind) {
-            (State::Function, _) => self.take_function(token),
+            (State::Function, _) => self.parse_function(token),
             (State::FunctionOpen, Kind::Open) => Ok(State::Field),
-            (State::Field, Kind::Word | Kind::QuotedName) => self.take_field(alloc, token),
+            (State::Field, Kind::Word | Kind::QuotedName) => self.parse_field(alloc, token),
             (State::FieldEnd | State::FieldClose, Kind::Close) => Ok(State::AfterColumn),
             (State::FieldEnd, Kind::Cast) => Ok(State::FieldType),
             (State::FieldType, Kind::Word)
                 if is_word(token.text, "field") || is_word(token.text, "integer") => {
                 Ok(State::FieldClose)
             }
-            (State::AfterColumn, _) => self.take_after_column(alloc, token),
+            (State::AfterColumn, _) => self.parse_after_column(alloc, token),
             (State::Alias, Kind::Word | Kind::QuotedName) => {
                 self.push(text_spelled(alloc, token.text)?)?;
                 Ok(State::AfterAlias)
@@ -155,7 +159,7 @@ impl<A: Allocator + Copy> Selection<A> {
             (State::AfterAlias, Kind::Keyword) if is_word(token.text, "from") => Ok(
                 State::Measurement,
             ),
-            (State::Measurement, _) => self.take_measurement(alloc, token),
+            (State::Measurement, _) => self.parse_measurement(alloc, token),
             _ => Err(ParseError::Fault(token.unexpected())),
         }
     }

@@ -200,7 +200,7 @@ impl<A: Allocator + Copy> StatementBuilder<A> {
 
     /// Passes the next token to the builder of its clause; returns the next state.
     #[tactic(auto, unfolding(crate::specs::Reading::builder_step))]
-    pub(crate) fn take<'a>(
+    pub(crate) fn parse_token<'a>(
         &mut self,
         alloc: A,
         now: Time,
@@ -211,11 +211,11 @@ impl<A: Allocator + Copy> StatementBuilder<A> {
         ensures { GivesWith result (builder_state self.new) (builder_step now state (lexeme token.now) (builder_state self.old)) }
     {
         match state.clause() {
-            Clause::Select => self.selection.take(alloc, state, token),
-            Clause::Where => self.filter.take(alloc, state, token),
-            Clause::Moment => self.moment.take(now, state, token),
-            Clause::Group => self.groups.take(alloc, state, token),
-            Clause::Fill => self.filling.take(state, token),
+            Clause::Select => self.selection.parse_token(alloc, state, token),
+            Clause::Where => self.filter.parse_token(alloc, state, token),
+            Clause::Moment => self.moment.parse_token(now, state, token),
+            Clause::Group => self.groups.parse_token(alloc, state, token),
+            Clause::Fill => self.filling.parse_token(state, token),
             Clause::None => Err(ParseError::Fault(token.unexpected())),
         }
     }

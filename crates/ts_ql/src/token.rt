@@ -3,14 +3,14 @@ ghost use Rattle.std.specs.Prelude.{◌≡◌, ◌≢◌, ◌<◌};
 ghost use Rattle.std.specs.Str.{IsCharBoundary};
 ghost use Rattle.ts_ql.specs.Lexing.{token_at};
 ghost use Rattle.ts_ql.specs.Tokens.{lexeme};
-ghost use Rattle.ts_ql.specs.Words.{is_time_column, is_unsupported};
+ghost use Rattle.ts_ql.specs.Keywords.{is_time_column, is_unsupported};
 ghost use Rattle.ts_ql.specs.QueryFaults.{as_fault, unsupported, unexpected};
 
 use crate::bytes::{Class, end_of_run};
 use crate::fault::{QlFault, QlFaultKind};
+use crate::keywords::{is_keyword, is_unsupported_keyword, is_unsupported_word};
 use crate::literal::is_word;
 use crate::shape::shape_at;
-use crate::words::{is_keyword, is_unsupported_keyword, is_unsupported_word};
 
 /// Kind of a token.
 #[derive(Clone, Copy, Debug, PartialEq, Eq)]
@@ -90,7 +90,7 @@ impl<'a> Token<'a> {
     }
 
     /// Returns true if the token names the time column.
-    #[tactic(auto, unfolding(crate::specs::Words::is_time_column))]
+    #[tactic(auto, unfolding(crate::specs::Keywords::is_time_column))]
     pub(crate) fn is_time_column(&self) -> bool
         ensures { result ≡ is_time_column self.now.kind self.now.text.now }
     {
@@ -102,7 +102,7 @@ impl<'a> Token<'a> {
     }
 
     /// Returns true if the token belongs to unsupported InfluxQL. If unexpected, it is `OutOfProfile`.
-    #[tactic(auto, unfolding(crate::specs::Words::is_unsupported))]
+    #[tactic(auto, unfolding(crate::specs::Keywords::is_unsupported))]
     fn is_unsupported(&self) -> bool
         ensures { result ≡ is_unsupported self.now.kind self.now.text.now }
     {

@@ -10,7 +10,7 @@ use Rattle.ts_block.proofs.DecodingLemmas.{values_inside}
 use Rattle.ts_raw.specs.declared.block_handle.BlockHandle.{BlockHandle}
 use Rattle.ts_raw.specs.Columns.{AreTimed}
 use Rattle.ts_raw.specs.PlainColumns.{IsRising}
-use Rattle.ts_raw.specs.CodedPoints.{text_at, points_at, coded_points, blocks_at, all_joined, IsBlockHandle, AreBlocks, AreBlockHandles, AreOrdered, AreCountedBlocks, AllEndBefore, OthersEndBy}
+use Rattle.ts_raw.specs.CodedPoints.{block_text_at, block_points_at, coded_points, blocks_at, all_joined, IsBlockHandle, AreBlocks, AreBlockHandles, AreOrdered, AreCountedBlocks, AllEndBefore, OthersEndBy}
 use Rattle.ts_raw.proofs.PushLemmas.{mark_kept, mark_moved, all_within, others_from, marks_push, marks_split, blocks_push, new_mark}
 use Rattle.ts_raw.specs.Rewriting.{IsEncoded}
 use Rattle.ts_raw.proofs.CodedLemmas.{part}
@@ -20,14 +20,14 @@ use Rattle.ts_raw.proofs.CodedLemmas.{part}
 pub coded_concat : (bytes : List ℕ) (ms : List BlockHandle) → coded_points bytes ms ≡ all_joined (blocks_at bytes ms)
 unfolding coded_points
 coded_concat bytes [] = refl
-coded_concat bytes (m ∷ ms) = ap (λ (x : List (ℤ × ℤ)). points_at bytes m ++ x) (coded_concat bytes ms)
+coded_concat bytes (m ∷ ms) = ap (λ (x : List (ℤ × ℤ)). block_points_at bytes m ++ x) (coded_concat bytes ms)
 
 pub same_points : (b c : List ℕ) (ms ns : List BlockHandle) → blocks_at c ns ≡ blocks_at b ms → coded_points c ns ≡ coded_points b ms
 same_points b c ms ns e = coded_concat c ns ∙ ap all_joined e ∙ sym (coded_concat b ms)
 
 pub blocks_of_marks : (bytes : List ℕ) (before : ℕ) (ms : List BlockHandle) → AreBlockHandles bytes before ms → AreBlocks bytes ms
 blocks_of_marks bytes before [] h = tt
-blocks_of_marks bytes before (m ∷ ms) h = (h.0, blocks_of_marks bytes (before + length (points_at bytes m)) ms h.2)
+blocks_of_marks bytes before (m ∷ ms) h = (h.0, blocks_of_marks bytes (before + length (block_points_at bytes m)) ms h.2)
 
 -- ---- last times
 
@@ -41,23 +41,23 @@ pub ends_again : (t : ℤ) (b c : List ℕ) (ms ns : List BlockHandle) → AreBl
 ends_again t b c ms [] h k e a = tt
 ends_again t b c [] (n ∷ ns) h k e a = absurd (let s = ap length e in omega arith)
 ends_again t b c (m ∷ ms) (n ∷ ns) h k e a =
-    let here = k.0.last_is ∙ ap last_time (list_head (points_at c n) (points_at b m) (blocks_at c ns) (blocks_at b ms) e) ∙ sym h.0.last_is in
-    (subst (λ z. z <ℤ t) (sym here) a.0, ends_again t b c ms ns h.1 k.1 (list_tail (points_at c n) (points_at b m) (blocks_at c ns) (blocks_at b ms) e) a.1)
+    let here = k.0.last_is ∙ ap last_time (list_head (block_points_at c n) (block_points_at b m) (blocks_at c ns) (blocks_at b ms) e) ∙ sym h.0.last_is in
+    (subst (λ z. z <ℤ t) (sym here) a.0, ends_again t b c ms ns h.1 k.1 (list_tail (block_points_at c n) (block_points_at b m) (blocks_at c ns) (blocks_at b ms) e) a.1)
 
 pub ordered_again : (b c : List ℕ) (ms ns : List BlockHandle) → AreBlocks b ms → AreBlocks c ns → blocks_at c ns ≡ blocks_at b ms → AreOrdered ms → AreOrdered ns
 ordered_again b c ms [] h k e o = tt
 ordered_again b c [] (n ∷ ns) h k e o = absurd (let s = ap length e in omega arith)
 ordered_again b c (m ∷ ms) (n ∷ ns) h k e o =
-    let rest = list_tail (points_at c n) (points_at b m) (blocks_at c ns) (blocks_at b ms) e in
-    let here : n.last ≡ m.last = k.0.last_is ∙ ap last_time (list_head (points_at c n) (points_at b m) (blocks_at c ns) (blocks_at b ms) e) ∙ sym h.0.last_is in
+    let rest = list_tail (block_points_at c n) (block_points_at b m) (blocks_at c ns) (blocks_at b ms) e in
+    let here : n.last ≡ m.last = k.0.last_is ∙ ap last_time (list_head (block_points_at c n) (block_points_at b m) (blocks_at c ns) (blocks_at b ms) e) ∙ sym h.0.last_is in
     (all_above n.last ms ns h.1 k.1 rest (subst (λ z. AllByRecursion (λ (x : BlockHandle). z <ℤ x.last) ms) (sym here) o.0), ordered_again b c ms ns h.1 k.1 rest o.1)
   where
     all_above : (t : ℤ) (ms ns : List BlockHandle) → AreBlocks b ms → AreBlocks c ns → blocks_at c ns ≡ blocks_at b ms → AllByRecursion (λ (x : BlockHandle). t <ℤ x.last) ms → AllByRecursion (λ (x : BlockHandle). t <ℤ x.last) ns
     all_above t ms [] h k e a = tt
     all_above t [] (n ∷ ns) h k e a = absurd (let s = ap length e in omega arith)
     all_above t (m ∷ ms) (n ∷ ns) h k e a =
-        let here = k.0.last_is ∙ ap last_time (list_head (points_at c n) (points_at b m) (blocks_at c ns) (blocks_at b ms) e) ∙ sym h.0.last_is in
-        (subst (λ z. t <ℤ z) (sym here) a.0, all_above t ms ns h.1 k.1 (list_tail (points_at c n) (points_at b m) (blocks_at c ns) (blocks_at b ms) e) a.1)
+        let here = k.0.last_is ∙ ap last_time (list_head (block_points_at c n) (block_points_at b m) (blocks_at c ns) (blocks_at b ms) e) ∙ sym h.0.last_is in
+        (subst (λ z. t <ℤ z) (sym here) a.0, all_above t ms ns h.1 k.1 (list_tail (block_points_at c n) (block_points_at b m) (blocks_at c ns) (blocks_at b ms) e) a.1)
 
 -- the same blocks elsewhere hold the same points
 pub counted_again : (b c : List ℕ) (ms ns : List BlockHandle) (total : ℕ) → AreCountedBlocks b ms total → AreBlockHandles c 0 ns → blocks_at c ns ≡ blocks_at b ms → AreCountedBlocks c ns total
@@ -81,8 +81,8 @@ module _ (f q : List ℕ) where
   blocks_longer (m ∷ ms) before h =
       let whole : IsBlockHandle (f ++ []) m = subst (λ (x : List ℕ). IsBlockHandle x m) (sym (append-nil f)) h.0 in
       let k = mark_kept f [] q m whole h.0.within in
-      let same : points_at (f ++ q) m ≡ points_at f m = k.1 ∙ ap (λ (x : List ℕ). points_at x m) (append-nil f) in
-      let rest = blocks_longer ms (before + length (points_at f m)) h.2 in (
+      let same : block_points_at (f ++ q) m ≡ block_points_at f m = k.1 ∙ ap (λ (x : List ℕ). block_points_at x m) (append-nil f) in
+      let rest = blocks_longer ms (before + length (block_points_at f m)) h.2 in (
         (k.0, h.1, subst (λ (x : List (ℤ × ℤ)). AreBlockHandles (f ++ q) (before + length x) ms) (sym same) rest.0),
         (λ i. same i ∷ rest.1 i),
       )
@@ -97,34 +97,34 @@ pub stays : (old new : List ℕ) (ms ns : List BlockHandle) (n : ℕ) → n ≡ 
 stays old new ms ns n size front items marked =
     subst (λ (x : List BlockHandle). AreBlockHandles new 0 x × (blocks_at new x ≡ blocks_at old ms)) (sym items) (marks_stay old new ms (subst (λ k. take k new ≡ old) size front) marked)
 
-pub mark_stays : (old new : List ℕ) (m : BlockHandle) → take (length old) new ≡ old → IsBlockHandle old m → IsBlockHandle new m × (points_at new m ≡ points_at old m)
+pub mark_stays : (old new : List ℕ) (m : BlockHandle) → take (length old) new ≡ old → IsBlockHandle old m → IsBlockHandle new m × (block_points_at new m ≡ block_points_at old m)
 mark_stays old new m front h =
     let text : new ≡ old ++ drop (length old) new = sym (take-append-drop (length old) new) ∙ ap (λ (x : List ℕ). x ++ drop (length old) new) front in
     let whole : IsBlockHandle (old ++ []) m = subst (λ (x : List ℕ). IsBlockHandle x m) (sym (append-nil old)) h in
     let k = mark_kept old [] (drop (length old) new) m whole h.within in
-    let both : IsBlockHandle (old ++ drop (length old) new) m × (points_at (old ++ drop (length old) new) m ≡ points_at old m) = (k.0, k.1 ∙ ap (λ (x : List ℕ). points_at x m) (append-nil old)) in
-    subst (λ (x : List ℕ). IsBlockHandle x m × (points_at x m ≡ points_at old m)) (sym text) both
+    let both : IsBlockHandle (old ++ drop (length old) new) m × (block_points_at (old ++ drop (length old) new) m ≡ block_points_at old m) = (k.0, k.1 ∙ ap (λ (x : List ℕ). block_points_at x m) (append-nil old)) in
+    subst (λ (x : List ℕ). IsBlockHandle x m × (block_points_at x m ≡ block_points_at old m)) (sym text) both
 
 -- ---- blocks that are copied
 
-text_size : (bytes : List ℕ) (m : BlockHandle) → m.start < m.end → m.end ≤ length bytes → length (text_at bytes m) ≡ m.end - m.start
+text_size : (bytes : List ℕ) (m : BlockHandle) → m.start < m.end → m.end ≤ length bytes → length (block_text_at bytes m) ≡ m.end - m.start
 text_size bytes m s h = length-take-le (m.end - m.start) (drop m.start bytes) (let e = length-drop m.start bytes in omega arith)
 
 -- the bytes of a block at the end of others
-pub mark_copied : (src old new : List ℕ) (m n : BlockHandle) → IsBlockHandle src m → new ≡ old ++ text_at src m → n.start ≡ length old → n.end ≡ length new → n.values ≡ m.values → n.count ≡ m.count → n.last ≡ m.last → n.summary ≡ m.summary
-    → IsBlockHandle new n × (points_at new n ≡ points_at src m)
+pub mark_copied : (src old new : List ℕ) (m n : BlockHandle) → IsBlockHandle src m → new ≡ old ++ block_text_at src m → n.start ≡ length old → n.end ≡ length new → n.values ≡ m.values → n.count ≡ m.count → n.last ≡ m.last → n.summary ≡ m.summary
+    → IsBlockHandle new n × (block_points_at new n ≡ block_points_at src m)
 mark_copied src old new m n h is s e v k l a =
     let size = text_size src m h.some h.within in
-    let all = ap length is ∙ length-append old (text_at src m) in
+    let all = ap length is ∙ length-append old (block_text_at src m) in
     let some = h.some in
-    let width : n.end - n.start ≡ length (text_at src m) = omega arith in
-    let text : text_at new n ≡ text_at src m = (λ i. take (width i) (drop (s i) (is i))) ∙ ap (take (length (text_at src m))) (drop-append_seam old (text_at src m)) ∙ take-length (text_at src m) in
+    let width : n.end - n.start ≡ length (block_text_at src m) = omega arith in
+    let text : block_text_at new n ≡ block_text_at src m = (λ i. take (width i) (drop (s i) (is i))) ∙ ap (take (length (block_text_at src m))) (drop-append_seam old (block_text_at src m)) ∙ take-length (block_text_at src m) in
     mark_moved src new m n h text (omega arith) (omega arith) v k l a
 
-module _ (old new : List ℕ) (ms : List BlockHandle) (m n : BlockHandle) (h : AreBlockHandles old 0 (ms ++ m ∷ [])) (is : new ≡ old ++ text_at old m)
+module _ (old new : List ℕ) (ms : List BlockHandle) (m n : BlockHandle) (h : AreBlockHandles old 0 (ms ++ m ∷ [])) (is : new ≡ old ++ block_text_at old m)
     (s : n.start ≡ length old) (e : n.end ≡ length new) (v : n.values ≡ m.values) (k : n.count ≡ m.count) (b : n.before ≡ m.before) (l : n.last ≡ m.last) (a : n.summary ≡ m.summary) where
   front : take (length old) new ≡ old
-  front = ap (take (length old)) is ∙ take-append_seam old (text_at old m)
+  front = ap (take (length old)) is ∙ take-append_seam old (block_text_at old m)
 
   old_parts : AreBlockHandles old 0 ms × IsBlockHandle old m × (m.before ≡ 0 + length (coded_points old ms))
   old_parts = marks_split old m ms 0 h
@@ -132,7 +132,7 @@ module _ (old new : List ℕ) (ms : List BlockHandle) (m n : BlockHandle) (h : A
   stay : AreBlockHandles new 0 ms × (blocks_at new ms ≡ blocks_at old ms)
   stay = marks_stay old new ms front old_parts.0
 
-  moved : IsBlockHandle new n × (points_at new n ≡ points_at old m)
+  moved : IsBlockHandle new n × (block_points_at new n ≡ block_points_at old m)
   moved = mark_copied old old new m n old_parts.1 is s e v k l a
 
   pub moved_marked : AreBlockHandles new 0 (ms ++ n ∷ [])
@@ -152,8 +152,8 @@ unfolding coded_points
 before_at bytes [] before i d h l = absurd (omega arith)
 before_at bytes (m ∷ ms) before zero d h l = h.1 ∙ (let n : before ≡ before + 0 = omega arith in n)
 before_at bytes (m ∷ ms) before (suc i) d h l =
-    let a = before_at bytes ms (before + length (points_at bytes m)) i d h.2 (omega arith) in
-    let b = length-append (points_at bytes m) (coded_points bytes (take i ms)) in
+    let a = before_at bytes ms (before + length (block_points_at bytes m)) i d h.2 (omega arith) in
+    let b = length-append (block_points_at bytes m) (coded_points bytes (take i ms)) in
     omega arith
 
 pub take_next : {X : Type 0} (xs : List X) (i : ℕ) (d : X) → i < length xs → take (i + 1) xs ≡ take i xs ++ (get_or xs i d ∷ [])
@@ -164,12 +164,12 @@ take_next (x ∷ xs) (suc i) d l =
     ap (λ k. take k (x ∷ xs)) n ∙ ap (λ (z : List _). x ∷ z) (take_next xs i d (omega arith))
 
 -- one more block is copied
-pub copied_more : (src old new : List ℕ) (all ms : List BlockHandle) (i : ℕ) (n d : BlockHandle) → AreBlockHandles src 0 all → i < length all → AreBlockHandles old 0 ms → blocks_at old ms ≡ blocks_at src (take i all) → new ≡ old ++ text_at src (get_or all i d)
+pub copied_more : (src old new : List ℕ) (all ms : List BlockHandle) (i : ℕ) (n d : BlockHandle) → AreBlockHandles src 0 all → i < length all → AreBlockHandles old 0 ms → blocks_at old ms ≡ blocks_at src (take i all) → new ≡ old ++ block_text_at src (get_or all i d)
     → n.start ≡ length old → n.end ≡ length new → n.values ≡ (get_or all i d).values → n.count ≡ (get_or all i d).count → n.before ≡ (get_or all i d).before → n.last ≡ (get_or all i d).last → n.summary ≡ (get_or all i d).summary
     → AreBlockHandles new 0 (ms ++ n ∷ []) × (blocks_at new (ms ++ n ∷ []) ≡ blocks_at src (take (i + 1) all))
 copied_more src old new all ms i n d h l marked blocks is s e v k b last summary =
     let m : BlockHandle = get_or all i d in
-    let front : take (length old) new ≡ old = ap (take (length old)) is ∙ take-append_seam old (text_at src m) in
+    let front : take (length old) new ≡ old = ap (take (length old)) is ∙ take-append_seam old (block_text_at src m) in
     let stay = marks_stay old new ms front marked in
     let here = mark_copied src old new m n (mark_at src all 0 i d h l) is s e v k last summary in
     let count = before_at src all 0 i d h l in

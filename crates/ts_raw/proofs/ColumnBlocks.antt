@@ -20,7 +20,7 @@ use Rattle.ts_raw.specs.declared.block_handle.BlockHandle.{BlockHandle}
 use Rattle.ts_raw.specs.declared.rewriting.Rewritten.{Rewritten}
 use Rattle.ts_raw.specs.Columns.{AreTimed}
 use Rattle.ts_raw.specs.PlainColumns.{IsRising, IsStartOf}
-use Rattle.ts_raw.specs.CodedPoints.{text_at, points_at, coded_points, blocks_at, IsBlockHandle, AreBlocks, AreBlockHandles, AreOrdered, AreCountedBlocks, with_starts, count_in_blocks, before_first, AllEndBefore, OthersEndBy, IsLastBefore, CutFits}
+use Rattle.ts_raw.specs.CodedPoints.{block_text_at, block_points_at, coded_points, blocks_at, IsBlockHandle, AreBlocks, AreBlockHandles, AreOrdered, AreCountedBlocks, with_starts, count_in_blocks, before_first, AllEndBefore, OthersEndBy, IsLastBefore, CutFits}
 use Rattle.ts_raw.specs.Rewriting.{IsRewritten, blocks_of, handles_replaced, cut_in_block, cut_after}
 use Rattle.ts_raw.specs.BlockColumns.{AreBlocksOf, texts_at, IsColumn}
 use Rattle.ts_raw.proofs.CodedLemmas.{points_hold}
@@ -36,7 +36,7 @@ use Rattle.ts_raw.proofs.RewriteLemmas.{counts_are, marks_numbered, coded_join, 
 pub cut_within : (bytes : List ℕ) (ms : List BlockHandle) (cut : ℕ) → CutFits cut (blocks_at bytes ms) → cut ≤ length (coded_points bytes ms)
 unfolding coded_points
 cut_within bytes [] cut h = omega arith
-cut_within bytes (m ∷ ms) cut h = let a = length-append (points_at bytes m) (coded_points bytes ms) in omega arith
+cut_within bytes (m ∷ ms) cut h = let a = length-append (block_points_at bytes m) (coded_points bytes ms) in omega arith
 
 few_in : (ps : List (ℤ × ℤ)) → ArePoints ps → (length ps ≤ 256) × (0 < length ps)
 few_in [] h = absurd h
@@ -44,7 +44,7 @@ few_in (p ∷ ps) h = let a = h.0 in (omega arith, omega arith)
 
 pub cut_few : (bytes : List ℕ) (ms : List BlockHandle) (cut : ℕ) → AreBlockHandles bytes 0 ms → CutFits cut (blocks_at bytes ms) → cut ≤ 255
 cut_few bytes [] cut marked h = omega arith
-cut_few bytes (m ∷ ms) cut marked h = let a = (few_in (points_at bytes m) marked.0.block.points_are).0 in omega arith
+cut_few bytes (m ∷ ms) cut marked h = let a = (few_in (block_points_at bytes m) marked.0.block.points_are).0 in omega arith
 
 pub no_points : (bytes : List ℕ) (ms : List BlockHandle) (capacity handles_capacity : ℕ) → bytes ≡ [] → ms ≡ [] → IsColumn bytes ms 0 0 0 capacity handles_capacity None
 no_points bytes ms c d b m = subst (λ (x : List BlockHandle). IsColumn bytes x 0 0 0 c d None) (sym m) (record {
@@ -58,19 +58,19 @@ no_points bytes ms c d b m = subst (λ (x : List BlockHandle). IsColumn bytes x 
 
 pub blocks_are : (bytes : List ℕ) (ms : List BlockHandle) (before : ℕ) → AreBlockHandles bytes before ms → AreBlocksOf (texts_at bytes ms) (blocks_at bytes ms)
 blocks_are bytes [] before h = tt
-blocks_are bytes (m ∷ ms) before h = (h.0.block, blocks_are bytes ms (before + length (points_at bytes m)) h.2)
+blocks_are bytes (m ∷ ms) before h = (h.0.block, blocks_are bytes ms (before + length (block_points_at bytes m)) h.2)
 
-pub mark_found : (bytes : List ℕ) (ms : List BlockHandle) (before i : ℕ) (m : BlockHandle) → AreBlockHandles bytes before ms → slice_get ms i ≡ Some m → IsBlockHandle bytes m × (slice_get (texts_at bytes ms) i ≡ Some (text_at bytes m))
+pub mark_found : (bytes : List ℕ) (ms : List BlockHandle) (before i : ℕ) (m : BlockHandle) → AreBlockHandles bytes before ms → slice_get ms i ≡ Some m → IsBlockHandle bytes m × (slice_get (texts_at bytes ms) i ≡ Some (block_text_at bytes m))
 mark_found bytes [] before i m h e = absurd (none_some m e)
   where
     none_some : (m : BlockHandle) → slice_get {X = BlockHandle} [] i ≡ Some m → ⊥
     none_some m e = cc
-mark_found bytes (n ∷ ms) before zero m h e = let same : n ≡ m = ap (λ (x : Option BlockHandle). or_else n x) e in (subst (IsBlockHandle bytes) same h.0, ap (λ x. Some (text_at bytes x)) same)
+mark_found bytes (n ∷ ms) before zero m h e = let same : n ≡ m = ap (λ (x : Option BlockHandle). or_else n x) e in (subst (IsBlockHandle bytes) same h.0, ap (λ x. Some (block_text_at bytes x)) same)
   where
     or_else : BlockHandle → Option BlockHandle → BlockHandle
     or_else d None = d
     or_else d (Some x) = x
-mark_found bytes (n ∷ ms) before (suc i) m h e = mark_found bytes ms (before + length (points_at bytes n)) i m h.2 e
+mark_found bytes (n ∷ ms) before (suc i) m h e = mark_found bytes ms (before + length (block_points_at bytes n)) i m h.2 e
 
 -- ---- the value at a time
 
@@ -117,7 +117,7 @@ pub reaches : (t : ℤ) (ms : List BlockHandle) (at : ℕ) (d : BlockHandle) →
 reaches t ms at d l p = not_less (get_or ms at d).last t (p.1 at d (omega arith) l)
 
 pub is_rewritten : (old new : List ℕ) (ms : List BlockHandle) (at cut : ℕ) (d : BlockHandle) (p : ℤ × ℤ) (r : Rewritten) → AreBlockHandles old 0 ms → at < length ms → IsLastBefore p.0 ms at → r.at ≡ at → AreBlocks new (blocks_of r)
-    → coded_points new (blocks_of r) ≡ put int_cmp p.0 p.1 (drop (cut_in_block at cut) (points_at old (get_or ms at d))) → take (length old) new ≡ old → IsRewritten new ms cut p r
+    → coded_points new (blocks_of r) ≡ put int_cmp p.0 p.1 (drop (cut_in_block at cut) (block_points_at old (get_or ms at d))) → take (length old) new ≡ old → IsRewritten new ms cut p r
 is_rewritten old new ms at cut d p r marked l part is blocks points front =
     let stays = mark_stays old new (get_or ms at d) front (mark_at old ms 0 at d marked l) in
     record {
@@ -167,15 +167,15 @@ marks_above : (bytes : List ℕ) (t : ℤ) (ms : List BlockHandle) → AreBlocks
 unfolding coded_points
 marks_above bytes t [] h a = tt
 marks_above bytes t (m ∷ ms) h a =
-    let parts = all_first t (points_at bytes m) (coded_points bytes ms) a in
-    (subst (λ z. t <ℤ z) (sym h.0.last_is) (last_above t (points_at bytes m) h.0.block.points_are parts.0), marks_above bytes t ms h.1 parts.1)
+    let parts = all_first t (block_points_at bytes m) (coded_points bytes ms) a in
+    (subst (λ z. t <ℤ z) (sym h.0.last_is) (last_above t (block_points_at bytes m) h.0.block.points_are parts.0), marks_above bytes t ms h.1 parts.1)
 
 pub ordered_from : (bytes : List ℕ) (ms : List BlockHandle) → AreBlocks bytes ms → IsRising (coded_points bytes ms) → AreOrdered ms
 unfolding coded_points
 ordered_from bytes [] h s = tt
 ordered_from bytes (m ∷ ms) h s = (
-  subst (λ z. AllByRecursion (λ (n : BlockHandle). z <ℤ n.last) ms) (sym h.0.last_is) (marks_above bytes (last_time (points_at bytes m)) ms h.1 (above_last (points_at bytes m) (coded_points bytes ms) h.0.block.points_are s)),
-  ordered_from bytes ms h.1 (rising_rest (points_at bytes m) (coded_points bytes ms) s),
+  subst (λ z. AllByRecursion (λ (n : BlockHandle). z <ℤ n.last) ms) (sym h.0.last_is) (marks_above bytes (last_time (block_points_at bytes m)) ms h.1 (above_last (block_points_at bytes m) (coded_points bytes ms) h.0.block.points_are s)),
+  ordered_from bytes ms h.1 (rising_rest (block_points_at bytes m) (coded_points bytes ms) s),
 )
 
 -- blocks that are counted anew hold rising points
@@ -210,7 +210,7 @@ blocks_join bytes (m ∷ ms) ns h k = (h.0, blocks_join bytes ms ns h.1 k)
 marks_front : (bytes : List ℕ) (before k : ℕ) (ms : List BlockHandle) → AreBlockHandles bytes before ms → AreBlockHandles bytes before (take k ms)
 marks_front bytes before zero ms h = tt
 marks_front bytes before (suc k) [] h = tt
-marks_front bytes before (suc k) (m ∷ ms) h = (h.0, h.1, marks_front bytes (before + length (points_at bytes m)) k ms h.2)
+marks_front bytes before (suc k) (m ∷ ms) h = (h.0, h.1, marks_front bytes (before + length (block_points_at bytes m)) k ms h.2)
 
 all_dropped : (t : ℤ) (k : ℕ) (ps : List (ℤ × ℤ)) → AllByRecursion (λ (q : ℤ × ℤ). q.0 <ℤ t) ps → AllByRecursion (λ (q : ℤ × ℤ). q.0 <ℤ t) (drop k ps)
 all_dropped t zero ps h = h
@@ -224,7 +224,7 @@ module _ (bytes : List ℕ) (ms : List BlockHandle) (total cut : ℕ) (p : ℤ �
   F = coded_points bytes (take r.at ms)
 
   abbrev P : List (ℤ × ℤ)
-  P = points_at bytes w.old
+  P = block_points_at bytes w.old
 
   abbrev B : List (ℤ × ℤ)
   B = coded_points bytes (drop (r.at + 1) ms)
@@ -262,14 +262,14 @@ module _ (bytes : List ℕ) (ms : List BlockHandle) (total cut : ℕ) (p : ℤ �
   later_case zero n = absurd (n refl)
   later_case (suc k) n = (refl, refl)
 
-  first_cut : (ns : List BlockHandle) (m : BlockHandle) (ys : List BlockHandle) → ns ≡ m ∷ ys → CutFits cut (blocks_at bytes ns) → cut < length (points_at bytes m)
+  first_cut : (ns : List BlockHandle) (m : BlockHandle) (ys : List BlockHandle) → ns ≡ m ∷ ys → CutFits cut (blocks_at bytes ns) → cut < length (block_points_at bytes m)
   first_cut ns m ys e h = subst (λ (x : List BlockHandle). CutFits cut (blocks_at bytes x)) e h
 
   front_cut : (ns : List BlockHandle) (at : ℕ) → (at ≡ 0 → ⊥) → at < length ns → CutFits cut (blocks_at bytes ns) → cut ≤ length (coded_points bytes (take at ns))
   unfolding coded_points
   front_cut ns zero n l h = absurd (n refl)
   front_cut [] (suc k) n l h = absurd (omega arith)
-  front_cut (m ∷ ns) (suc k) n l h = let a = length-append (points_at bytes m) (coded_points bytes (take k ns)) in omega arith
+  front_cut (m ∷ ns) (suc k) n l h = let a = length-append (block_points_at bytes m) (coded_points bytes (take k ns)) in omega arith
 
   whole : (at : ℕ) → r.at ≡ at → (F ++ (put int_cmp p.0 p.1 (drop (cut_in_block at cut) P) ++ B) ≡ put int_cmp p.0 p.1 (drop (cut_in_block at cut) (F ++ (P ++ B))))
       × (drop (cut_after at cut) (F ++ (put int_cmp p.0 p.1 (drop (cut_in_block at cut) P) ++ B)) ≡ put int_cmp p.0 p.1 (drop cut (F ++ (P ++ B))))
@@ -327,7 +327,7 @@ module _ (bytes : List ℕ) (ms : List BlockHandle) (total cut : ℕ) (p : ℤ �
   replaced_points is = ap (drop (cut_after r.at cut)) ((replaced_anew is).1 ∙ new_is) ∙ (whole r.at refl).1 ∙ ap (λ (x : List (ℤ × ℤ)). put int_cmp p.0 p.1 (drop cut x)) (sym old_is)
 
   cut_again : (at : ℕ) → r.at ≡ at → CutFits (cut_after at cut) (blocks_at bytes (handles_replaced r ms))
-  cut_again zero e = subst (λ k. CutFits 0 (blocks_at bytes (take k ms ++ (blocks_of r ++ drop (r.at + 1) ms)))) (sym e) ((few_in (points_at bytes r.first) w.blocks.0.block.points_are).1)
+  cut_again zero e = subst (λ k. CutFits 0 (blocks_at bytes (take k ms ++ (blocks_of r ++ drop (r.at + 1) ms)))) (sym e) ((few_in (block_points_at bytes r.first) w.blocks.0.block.points_are).1)
   cut_again (suc k) e = subst (λ j. CutFits cut (blocks_at bytes (take j ms ++ (blocks_of r ++ drop (r.at + 1) ms)))) (sym e) (same_first ms f (subst (λ j. j < length ms) e w.within))
     where
       same_first : (ns : List BlockHandle) → CutFits cut (blocks_at bytes ns) → suc k < length ns → CutFits cut (blocks_at bytes (take (suc k) ns ++ (blocks_of r ++ drop (r.at + 1) ms)))
@@ -409,9 +409,9 @@ module _ (bytes : List ℕ) (ms : List BlockHandle) (total cut at n : ℕ) (t : 
       let m : BlockHandle = get_or ms at d in
       let first : drop at ms ≡ m ∷ drop (suc at) ms = drop-cons ms at d h in
       let is_mark = mark_at bytes ms 0 at d c.coded.marked h in
-      let held : before_first t (points_at bytes m ++ coded_points bytes (drop (suc at) ms)) ≡ before_first t (points_at bytes m) = points_hold t (points_at bytes m) (coded_points bytes (drop (suc at) ms)) is_mark.block.points_are (ap (λ z. int_lt z t) (sym is_mark.last_is) ∙ part.1 at d (omega arith) h) in
-      let some : before_first t R ≡ before_first t (points_at bytes m) = ap (λ (x : List BlockHandle). before_first t (coded_points bytes x)) first ∙ held in
-      let fewer = last_stays t (points_at bytes m) is_mark.block.points_are (not_less (last_time (points_at bytes m)) t (ap (λ z. int_lt z t) (sym is_mark.last_is) ∙ part.1 at d (omega arith) h)) in
+      let held : before_first t (block_points_at bytes m ++ coded_points bytes (drop (suc at) ms)) ≡ before_first t (block_points_at bytes m) = points_hold t (block_points_at bytes m) (coded_points bytes (drop (suc at) ms)) is_mark.block.points_are (ap (λ z. int_lt z t) (sym is_mark.last_is) ∙ part.1 at d (omega arith) h) in
+      let some : before_first t R ≡ before_first t (block_points_at bytes m) = ap (λ (x : List BlockHandle). before_first t (coded_points bytes x)) first ∙ held in
+      let fewer = last_stays t (block_points_at bytes m) is_mark.block.points_are (not_less (last_time (block_points_at bytes m)) t (ap (λ z. int_lt z t) (sym is_mark.last_is) ∙ part.1 at d (omega arith) h)) in
       let count = count_is in
       let cuts = first_or_none at refl in
       subst (λ (x : List BlockHandle). CutFits (max n cut - length G) (blocks_at bytes x)) (sym first) (omega arith)
@@ -426,17 +426,17 @@ module _ (bytes : List ℕ) (ms : List BlockHandle) (total cut at n : ℕ) (t : 
 
       front_cut : (ns : List BlockHandle) (k : ℕ) → suc k ≤ length ns → CutFits cut (blocks_at bytes ns) → cut ≤ length (coded_points bytes (take (suc k) ns))
       front_cut [] k a b = absurd (omega arith)
-      front_cut (x ∷ ns) k a b = let e = length-append (points_at bytes x) (coded_points bytes (take k ns)) in omega arith
+      front_cut (x ∷ ns) k a b = let e = length-append (block_points_at bytes x) (coded_points bytes (take k ns)) in omega arith
 
-      first_or_none : (k : ℕ) → at ≡ k → (cut - length G) < length (points_at bytes (get_or ms at d))
+      first_or_none : (k : ℕ) → at ≡ k → (cut - length G) < length (block_points_at bytes (get_or ms at d))
       first_or_none zero e =
           let here = drop-cons ms at d h in
           let ms_is : ms ≡ get_or ms at d ∷ drop (suc at) ms = ap (λ j. drop j ms) (sym e) ∙ here in
-          let first : cut < length (points_at bytes (get_or ms at d)) = subst (λ (x : List BlockHandle). CutFits cut (blocks_at bytes x)) ms_is f in
+          let first : cut < length (block_points_at bytes (get_or ms at d)) = subst (λ (x : List BlockHandle). CutFits cut (blocks_at bytes x)) ms_is f in
           omega arith
       first_or_none (suc k) e =
           let fits : cut ≤ length G = subst (λ j. cut ≤ length (coded_points bytes (take j ms))) (sym e) (front_cut ms k (omega arith) f) in
-          let some = (few_in (points_at bytes (get_or ms at d)) (mark_at bytes ms 0 at d c.coded.marked h).block.points_are).1 in
+          let some = (few_in (block_points_at bytes (get_or ms at d)) (mark_at bytes ms 0 at d c.coded.marked h).block.points_are).1 in
           omega arith
 
 pub dropped_column : (bytes : List ℕ) (ms : List BlockHandle) (total cut at tail capacity handles_capacity : ℕ) → AreCountedBlocks bytes ms total → OthersEndBy tail ms → CutFits cut (blocks_at bytes (drop at ms))
@@ -479,7 +479,7 @@ cut_at_later zero cut n = absurd (n refl)
 cut_at_later (suc at) cut n = (refl, refl)
 
 pub rewritten_if_ok : (old new : List ℕ) (ms : List BlockHandle) (at cut : ℕ) (d : BlockHandle) (p : ℤ × ℤ) (r : Result Rewritten AllocError) → AreBlockHandles old 0 ms → at < length ms → IsLastBefore p.0 ms at → IfOk r (λ n. n.at ≡ at) → IfOk r (λ n. AreBlocks new (blocks_of n))
-    → IfOk r (λ n. coded_points new (blocks_of n) ≡ put int_cmp p.0 p.1 (drop (cut_in_block at cut) (points_at old (get_or ms at d)))) → take (length old) new ≡ old → IfOk r (λ n. IsRewritten new ms cut p n)
+    → IfOk r (λ n. coded_points new (blocks_of n) ≡ put int_cmp p.0 p.1 (drop (cut_in_block at cut) (block_points_at old (get_or ms at d)))) → take (length old) new ≡ old → IfOk r (λ n. IsRewritten new ms cut p n)
 rewritten_if_ok old new ms at cut d p (Ok n) marked l part is blocks points front = is_rewritten old new ms at cut d p n marked l part is blocks points front
 rewritten_if_ok old new ms at cut d p (Err e) marked l part is blocks points front = tt
 

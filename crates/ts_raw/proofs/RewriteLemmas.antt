@@ -16,7 +16,7 @@ use Rattle.ts_block.specs.Appending.{last_time}
 use Rattle.ts_raw.specs.declared.block_handle.BlockHandle.{BlockHandle}
 use Rattle.ts_raw.specs.Columns.{AreTimed}
 use Rattle.ts_raw.specs.PlainColumns.{IsRising}
-use Rattle.ts_raw.specs.CodedPoints.{points_at, coded_points, blocks_at, IsBlockHandle, AreBlocks, AreBlockHandles, with_starts, count_in_blocks}
+use Rattle.ts_raw.specs.CodedPoints.{block_points_at, coded_points, blocks_at, IsBlockHandle, AreBlocks, AreBlockHandles, with_starts, count_in_blocks}
 use Rattle.ts_raw.specs.declared.rewriting.Rewritten.{Rewritten}
 use Rattle.ts_raw.specs.Rewriting.{handles_replaced, blocks_of, IsEncoded, AreEncodable}
 use Rattle.ts_raw.proofs.PointMaps.{rising-put, timed-put}
@@ -140,7 +140,7 @@ last_after_drop k (p ∷ ps) l = last_dropped k p ps l
 pub counts_are : (bytes : List ℕ) (ms : List BlockHandle) → AreBlocks bytes ms → count_in_blocks ms ≡ length (coded_points bytes ms)
 unfolding coded_points
 counts_are bytes [] h = refl
-counts_are bytes (m ∷ ms) h = let a = h.0.count_is in let b = counts_are bytes ms h.1 in let c = length-append (points_at bytes m) (coded_points bytes ms) in omega arith
+counts_are bytes (m ∷ ms) h = let a = h.0.count_is in let b = counts_are bytes ms h.1 in let c = length-append (block_points_at bytes m) (coded_points bytes ms) in omega arith
 
 module _ (bytes : List ℕ) where
   pub numbered_marks : (before : ℕ) (ms : List BlockHandle) → AreBlocks bytes ms → AreBlockHandles bytes before (with_starts before ms)
@@ -153,7 +153,7 @@ module _ (bytes : List ℕ) where
 
   pub numbered_blocks : (before : ℕ) (ms : List BlockHandle) → blocks_at bytes (with_starts before ms) ≡ blocks_at bytes ms
   numbered_blocks before [] = refl
-  numbered_blocks before (m ∷ ms) = ap (λ (x : List (List (ℤ × ℤ))). points_at bytes m ∷ x) (numbered_blocks (before + m.count) ms)
+  numbered_blocks before (m ∷ ms) = ap (λ (x : List (List (ℤ × ℤ))). block_points_at bytes m ∷ x) (numbered_blocks (before + m.count) ms)
 
 unfoldable pub with_before : ℕ → BlockHandle → BlockHandle
 with_before n m = record m { before = n }
@@ -230,11 +230,11 @@ module _ (all cur : List BlockHandle) (i total : ℕ) (d : BlockHandle) (l : i <
 pub coded_join : (bytes : List ℕ) (xs ys : List BlockHandle) → coded_points bytes (xs ++ ys) ≡ coded_points bytes xs ++ coded_points bytes ys
 unfolding coded_points
 coded_join bytes [] ys = refl
-coded_join bytes (m ∷ xs) ys = ap (λ (z : List (ℤ × ℤ)). points_at bytes m ++ z) (coded_join bytes xs ys) ∙ sym (append_assoc (points_at bytes m) (coded_points bytes xs) (coded_points bytes ys))
+coded_join bytes (m ∷ xs) ys = ap (λ (z : List (ℤ × ℤ)). block_points_at bytes m ++ z) (coded_join bytes xs ys) ∙ sym (append_assoc (block_points_at bytes m) (coded_points bytes xs) (coded_points bytes ys))
 
-pub coded_one : (bytes : List ℕ) (m : BlockHandle) → coded_points bytes (m ∷ []) ≡ points_at bytes m
+pub coded_one : (bytes : List ℕ) (m : BlockHandle) → coded_points bytes (m ∷ []) ≡ block_points_at bytes m
 unfolding coded_points
-coded_one bytes m = append-nil (points_at bytes m)
+coded_one bytes m = append-nil (block_points_at bytes m)
 
 -- ---- points that are encoded
 
@@ -248,9 +248,9 @@ rising_first (suc k) (p ∷ ps) s = let b = both_of _ _ s in and_T _ _ (below_fi
     below_first (suc k) t [] h = tt
     below_first (suc k) t (p ∷ ps) h = let b = both_of _ _ h in and_T _ _ b.0 (below_first k t ps b.1)
 
-pub encodable : (bytes : List ℕ) (m : BlockHandle) (skip : ℕ) (t v : ℤ) → IsBlockHandle bytes m → IsTime t → FitsSigned w64 v → AreEncodable (put int_cmp t v (drop skip (points_at bytes m)))
+pub encodable : (bytes : List ℕ) (m : BlockHandle) (skip : ℕ) (t v : ℤ) → IsBlockHandle bytes m → IsTime t → FitsSigned w64 v → AreEncodable (put int_cmp t v (drop skip (block_points_at bytes m)))
 encodable bytes m skip t v h is f =
-    let ps : List (ℤ × ℤ) = points_at bytes m in
+    let ps : List (ℤ × ℤ) = block_points_at bytes m in
     let rest : List (ℤ × ℤ) = drop skip ps in
     let s = length_put t v rest in
     record {
@@ -283,7 +283,7 @@ pub two_blocks : (one two : List ℕ) (m n : BlockHandle) (ps qs : List (ℤ × 
 unfolding coded_points
 two_blocks one two m n ps qs a b front =
     let k = mark_stays one two m front a.handle in
-    ((k.0, (b.handle, tt)), (λ i. (k.1 ∙ a.points_are) i ++ (append-nil (points_at two n) ∙ b.points_are) i))
+    ((k.0, (b.handle, tt)), (λ i. (k.1 ∙ a.points_are) i ++ (append-nil (block_points_at two n) ∙ b.points_are) i))
 
 pub set_replaced : (ms : List BlockHandle) (at : ℕ) (x : BlockHandle) → at < length ms → set ms at x ≡ take at ms ++ (x ∷ drop (at + 1) ms)
 set_replaced [] at x l = absurd (omega arith)
@@ -301,9 +301,9 @@ insert_replaced ms at x y l =
 pub marks_numbered : (bytes : List ℕ) (before : ℕ) (ms : List BlockHandle) → AreBlockHandles bytes before ms → with_starts before ms ≡ ms
 marks_numbered bytes before [] h = refl
 marks_numbered bytes before (m ∷ ms) h =
-    let next : before + m.count ≡ before + length (points_at bytes m) = let a = h.0.count_is in omega arith in
+    let next : before + m.count ≡ before + length (block_points_at bytes m) = let a = h.0.count_is in omega arith in
     (λ i. record m { before = sym h.1 i } ∷ with_starts (next i) ms)
-    ∙ ap (λ (x : List BlockHandle). m ∷ x) (marks_numbered bytes (before + length (points_at bytes m)) ms h.2)
+    ∙ ap (λ (x : List BlockHandle). m ∷ x) (marks_numbered bytes (before + length (block_points_at bytes m)) ms h.2)
 
 -- the count up to a numbered block, and its own
 pub numbered_up_to : (before : ℕ) (ms : List BlockHandle) (k : ℕ) (d : BlockHandle) → with_starts before (take (suc k) ms) ≡ take (suc k) ms → k < length ms → (get_or ms k d).before + (get_or ms k d).count ≡ before + count_in_blocks (take (suc k) ms)

@@ -7,7 +7,7 @@ use Rattle.ts_block.specs.Blocks.{values_of, ArePoints, AreValues}
 use Rattle.ts_raw.specs.declared.block_handle.BlockHandle.{BlockHandle}
 use Rattle.ts_raw.specs.Columns.{AreTimed}
 use Rattle.ts_raw.specs.PlainColumns.{IsRising}
-use Rattle.ts_raw.specs.CodedPoints.{points_at, coded_points, blocks_at, all_joined, IsBlockHandle, AreCountedBlocks, CutFits}
+use Rattle.ts_raw.specs.CodedPoints.{block_points_at, coded_points, blocks_at, all_joined, IsBlockHandle, AreCountedBlocks, CutFits}
 use Rattle.ts_raw.specs.Rewriting.{IsEncoded}
 use Rattle.ts_raw.proofs.PushLemmas.{and_T, mark_moved, marks_push, coded_push, blocks_push}
 use Rattle.ts_raw.proofs.BlockLists.{coded_concat, take_next, marks_stay, same_points, blocks_of_marks}
@@ -27,7 +27,7 @@ pub sealed : (old new : List ℕ) (ms : List BlockHandle) (m : BlockHandle) (tot
 sealed old new ms m total ps c front e are rising =
     let n : BlockHandle = counted_mark m total in
     let stay = marks_stay old new ms front c.coded.marked in
-    let here : IsBlockHandle new n × (points_at new n ≡ points_at new m) = mark_moved new new m n e.handle refl e.handle.some e.handle.within refl refl refl refl in
+    let here : IsBlockHandle new n × (block_points_at new n ≡ block_points_at new m) = mark_moved new new m n e.handle refl e.handle.some e.handle.within refl refl refl refl in
     let same : coded_points new ms ≡ coded_points old ms = same_points old new ms ms stay.1 in
     let before : total ≡ 0 + length (coded_points new ms) = let a = c.total_is in let b = ap length same in omega arith in
     let marked = marks_push new n ms 0 stay.0 here.0 before in
@@ -79,7 +79,7 @@ rising_whole (suc cut) (p ∷ q ∷ ps) qs l s r = let l' : cut < length (q ∷ 
 pub all_rising : (bytes : List ℕ) (ms : List BlockHandle) (cut : ℕ) (qs : List (ℤ × ℤ)) → CutFits cut (blocks_at bytes ms) → IsRising (coded_points bytes ms) → IsRising (drop cut (coded_points bytes ms) ++ qs) → IsRising (coded_points bytes ms ++ qs)
 unfolding coded_points
 all_rising bytes [] cut qs f s r = subst (λ k. IsRising (drop k [] ++ qs)) f r
-all_rising bytes (m ∷ ms) cut qs f s r = rising_whole cut (points_at bytes m ++ coded_points bytes ms) qs (let a = length-append (points_at bytes m) (coded_points bytes ms) in omega arith) s r
+all_rising bytes (m ∷ ms) cut qs f s r = rising_whole cut (block_points_at bytes m ++ coded_points bytes ms) qs (let a = length-append (block_points_at bytes m) (coded_points bytes ms) in omega arith) s r
 
 -- a block more: its points follow the others
 pub joined_push : (old new : List ℕ) (ms ns : List BlockHandle) (ps : List (ℤ × ℤ)) → blocks_at new ns ≡ blocks_at old ms ++ (ps ∷ []) → coded_points new ns ≡ coded_points old ms ++ ps

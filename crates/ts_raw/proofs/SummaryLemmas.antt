@@ -13,7 +13,7 @@ use Rattle.ts_core.proofs.lists.Comparisons.{le_true, lt_true}
 use Rattle.ts_block.specs.Blocks.{ArePoints}
 use Rattle.ts_raw.specs.declared.block_handle.BlockHandle.{BlockHandle}
 use Rattle.ts_raw.specs.Summaries.{IsFront}
-use Rattle.ts_raw.specs.CodedPoints.{points_at, coded_points, AreWithin, AreBlockHandles, points_walked, CanWalk}
+use Rattle.ts_raw.specs.CodedPoints.{block_points_at, coded_points, AreWithin, AreBlockHandles, points_walked, CanWalk}
 
 -- ---- points between two times
 
@@ -54,30 +54,30 @@ module _ (left : ℕ) (decoder : List (ℤ × ℤ)) (bytes : List ℕ) (handles 
   rest_is : decoder ++ coded_points bytes ms ≡ coded_points bytes ms
   rest_is = ap (λ (x : List (ℤ × ℤ)). x ++ coded_points bytes ms) none
 
-  ahead : decoder ++ coded_points bytes handles ≡ points_at bytes m ++ coded_points bytes ms
+  ahead : decoder ++ coded_points bytes handles ≡ block_points_at bytes m ++ coded_points bytes ms
   unfolding coded_points
   ahead = λ i. none i ++ coded_points bytes (is i)
 
-  size : left ≡ length (points_at bytes m) + (left - m.count)
+  size : left ≡ length (block_points_at bytes m) + (left - m.count)
   size = let c = marked.0.count_is in omega arith
 
-  pub block_skipped : points_walked left decoder bytes handles ≡ points_at bytes m ++ points_walked (left - m.count) decoder bytes ms
+  pub block_skipped : points_walked left decoder bytes handles ≡ block_points_at bytes m ++ points_walked (left - m.count) decoder bytes ms
   block_skipped =
-      (λ i. take (size i) (ahead i)) ∙ take-append-add (points_at bytes m) (coded_points bytes ms) (left - m.count)
-      ∙ ap (λ (x : List (ℤ × ℤ)). points_at bytes m ++ take (left - m.count) x) (sym rest_is)
+      (λ i. take (size i) (ahead i)) ∙ take-append-add (block_points_at bytes m) (coded_points bytes ms) (left - m.count)
+      ∙ ap (λ (x : List (ℤ × ℤ)). block_points_at bytes m ++ take (left - m.count) x) (sym rest_is)
 
   pub walk_skips : CanWalk (left - m.count) decoder bytes ms
   walk_skips = record {
-    before = w.before + length (points_at bytes m);
+    before = w.before + length (block_points_at bytes m);
     marked = marked.2;
-    enough = let a = ap length ahead in let b = length-append (points_at bytes m) (coded_points bytes ms) in let c = ap length rest_is in let d = w.enough in let e = size in omega arith;
+    enough = let a = ap length ahead in let b = length-append (block_points_at bytes m) (coded_points bytes ms) in let c = ap length rest_is in let d = w.enough in let e = size in omega arith;
   }
 
   pub block_in_front : (low high : ℤ) → AreWithin low high m.summary.extremes → IsFront low high (points_walked left decoder bytes handles) (points_walked (left - m.count) decoder bytes ms) m.summary
   block_in_front low high h = record {
-    block = points_at bytes m;
-    some = some_points (points_at bytes m) marked.0.block.points_are;
+    block = block_points_at bytes m;
+    some = some_points (block_points_at bytes m) marked.0.block.points_are;
     split = block_skipped;
-    within = all_within_range low high m.summary (points_at bytes m) marked.0.summary_is h;
+    within = all_within_range low high m.summary (block_points_at bytes m) marked.0.summary_is h;
     summary = marked.0.summary_is;
   }

@@ -7,12 +7,12 @@ use Rattle.ts_raw.specs.declared.rewriting.Rewritten.{Rewritten}
 use Rattle.ts_block.specs.Blocks.{values_of, AreValues}
 use Rattle.ts_raw.specs.Columns.{AreTimed}
 use Rattle.ts_raw.specs.PlainColumns.{IsRising}
-use Rattle.ts_raw.specs.CodedPoints.{IsBlockHandle, AreBlocks, points_at, coded_points, AllEndBefore}
+use Rattle.ts_raw.specs.CodedPoints.{IsBlockHandle, AreBlocks, block_points_at, coded_points, AllEndBefore}
 
 -- the handle is that of the block of these points
 pub record IsEncoded (bytes : List ℕ) (m : BlockHandle) (points : List (ℤ × ℤ)) : Type 0 where
   pub handle : IsBlockHandle bytes m
-  pub points_are : points_at bytes m ≡ points
+  pub points_are : block_points_at bytes m ≡ points
 
 -- points of one or two blocks
 pub record AreEncodable (points : List (ℤ × ℤ)) : Type 0 where
@@ -45,6 +45,6 @@ pub record IsRewritten (bytes : List ℕ) (handles : List BlockHandle) (cut : �
   pub old : BlockHandle
   pub split : handles ≡ take r.at handles ++ (old ∷ drop (r.at + 1) handles)
   pub blocks : AreBlocks bytes (blocks_of r)
-  pub points : coded_points bytes (blocks_of r) ≡ put int_cmp p.0 p.1 (drop (cut_in_block r.at cut) (points_at bytes old))
+  pub points : coded_points bytes (blocks_of r) ≡ put int_cmp p.0 p.1 (drop (cut_in_block r.at cut) (block_points_at bytes old))
   pub earlier : AllEndBefore (take r.at handles) p.0
   pub reached : p.0 ≤ℤ old.last

@@ -1,6 +1,6 @@
 //! Appends points to coded blocks.
 ghost use Rattle.std.specs.Prelude.{◌≡◌, ◌+◌, ◌<◌, ◌≤◌, ℕ, [], ◌∷◌, ◌++◌, length, vec_len, vec_capacity, IsTrue, false};
-ghost use Rattle.ts_raw.specs.CodedPoints.{AreCountedBlocks, AreOrdered, AllEndBefore, AllEndBy, OthersEndBy, IsLastBefore, CutFits, points_at, coded_points, blocks_at};
+ghost use Rattle.ts_raw.specs.CodedPoints.{AreCountedBlocks, AreOrdered, AllEndBefore, AllEndBy, OthersEndBy, IsLastBefore, CutFits, block_points_at, coded_points, blocks_at};
 
 use crate::block_handle::BlockHandle;
 use std::alloc::Allocator;
@@ -88,7 +88,7 @@ fn push_last<A: Allocator>(
     ensures counted { AreCountedBlocks bytes.new.items handles.new.items (total + 1) }
     ensures others { (offset : ℕ) → AllEndBy offset handles.old.items → OthersEndBy offset handles.new.items }
     ensures points { coded_points bytes.new.items handles.new.items ≡ coded_points bytes.old.items (handles.old.items ++ handle.now ∷ []) ++ point.now ∷ [] }
-    ensures blocks { blocks_at bytes.new.items handles.new.items ≡ blocks_at bytes.old.items handles.old.items ++ ((points_at bytes.old.items handle.now ++ point.now ∷ []) ∷ []) }
+    ensures blocks { blocks_at bytes.new.items handles.new.items ≡ blocks_at bytes.old.items handles.old.items ++ ((block_points_at bytes.old.items handle.now ++ point.now ∷ []) ∷ []) }
 {
     let _valid = point.0.nanos();
     let values = append(

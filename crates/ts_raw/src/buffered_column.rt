@@ -210,7 +210,7 @@ impl<A: Allocator> BufferedColumn<A> {
 
 impl<A: Allocator + Copy> BufferedColumn<A> {
     /// Creates a column of points, which must be in the order of time, each time once.
-    pub fn of(points: Vec<(Time, i64), A>) -> Result<BufferedColumn<A>, AllocError>
+    pub fn from_points(points: Vec<(Time, i64), A>) -> Result<BufferedColumn<A>, AllocError>
         requires rising { IsRising points.items }
         requires timed { AreTimed points.items }
         ensures points { IfOk result (λ column. column.points ≡ map.from_sorted points.items) }
@@ -219,7 +219,7 @@ impl<A: Allocator + Copy> BufferedColumn<A> {
     {
         let count = blocks_for(points.len());
         let blocks = blocks_of(*points.allocator(), points.as_slice(), count)?;
-        let buffer = PlainColumn::of(rest_of(points, count)?);
+        let buffer = PlainColumn::from_points(rest_of(points, count)?);
         Ok(BufferedColumn { blocks, buffer })
     }
 }

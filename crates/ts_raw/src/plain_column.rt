@@ -138,7 +138,7 @@ impl<A: Allocator> PlainColumn<A> {
     }
 
     /// Creates a column of points, which must be in the order of time, each time once. Moves the vector in.
-    pub fn of(points: Vec<(Time, i64), A>) -> PlainColumn<A>
+    pub fn from_points(points: Vec<(Time, i64), A>) -> PlainColumn<A>
         requires rising { IsRising points.items }
         requires timed { AreTimed points.items }
         ensures points { result.points ≡ map.from_sorted points.items }

@@ -3,7 +3,7 @@ ghost use Rattle.std.specs.Prelude.{◌≡◌, ◌+◌, ◌<◌, ◌≤◌, ℤ,
 ghost use Rattle.std.specs.Ordering.{int_cmp};
 ghost use Rattle.std.specs.FinMap.{put};
 ghost use Rattle.ts_block.specs.Blocks.{ArePoints};
-ghost use Rattle.ts_raw.specs.CodedPoints.{IsBlockHandle, AreBlocks, points_at, coded_points, with_starts, count_in_blocks};
+ghost use Rattle.ts_raw.specs.CodedPoints.{IsBlockHandle, AreBlocks, block_points_at, coded_points, with_starts, count_in_blocks};
 ghost use Rattle.ts_raw.specs.Rewriting.{IsEncoded, AreEncodable, blocks_of, handles_replaced, cut_in_block, cut_after};
 
 use crate::appending::BLOCK_POINTS;
@@ -50,7 +50,7 @@ fn decoded<A: Allocator>(
     skip: usize,
 ) -> Result<Vec<(Time, i64), A>, AllocError>
     requires { IsBlockHandle bytes.now handle.now }
-    ensures points { IfOk result (λ points. points.items ≡ drop skip (points_at bytes.now handle.now)) }
+    ensures points { IfOk result (λ points. points.items ≡ drop skip (block_points_at bytes.now handle.now)) }
     ensures spare { IfOk result (λ points. vec_len points < vec_capacity points) }
 {
     let mut points = Vec::with_capacity(alloc, BLOCK_POINTS + 1)?;
@@ -102,7 +102,7 @@ fn changed<A: Allocator>(
     point: &(Time, i64),
 ) -> Result<Vec<(Time, i64), A>, AllocError>
     requires marked { IsBlockHandle bytes.now handle.now }
-    ensures points { IfOk result (λ points. points.items ≡ put int_cmp point.now.0 point.now.1 (drop skip (points_at bytes.now handle.now))) }
+    ensures points { IfOk result (λ points. points.items ≡ put int_cmp point.now.0 point.now.1 (drop skip (block_points_at bytes.now handle.now))) }
     ensures encodable { IfOk result (λ points. AreEncodable points.items) }
 {
     let _valid = (point.0.nanos(), value_of(point));
@@ -124,7 +124,7 @@ pub(crate) fn rewrite<A: Allocator + Copy>(
     ensures kept { take (vec_len bytes.old) bytes.new.items ≡ bytes.old.items }
     ensures at { IfOk result (λ new. new.at ≡ at) }
     ensures blocks { IfOk result (λ new. AreBlocks bytes.new.items (blocks_of new)) }
-    ensures points { IfOk result (λ new. coded_points bytes.new.items (blocks_of new) ≡ put int_cmp point.now.0 point.now.1 (drop skip (points_at bytes.old.items handle.now))) }
+    ensures points { IfOk result (λ new. coded_points bytes.new.items (blocks_of new) ≡ put int_cmp point.now.0 point.now.1 (drop skip (block_points_at bytes.old.items handle.now))) }
 {
     let points = changed(*bytes.allocator(), bytes.as_slice(), handle, skip, point)?;
     if points.len() <= HALVED_POINTS {
@@ -177,7 +177,7 @@ fn renumber(handles: &mut [BlockHandle], from: usize) -> usize
 }
 
 /// Replaces the block at an index with new blocks. There must be capacity for a handle.
-fn put_blocks<A: Allocator>(handles: &mut Vec<BlockHandle, A>, new: &Rewritten)
+fn insert_blocks<A: Allocator>(handles: &mut Vec<BlockHandle, A>, new: &Rewritten)
     requires within { new.now.at < length handles.old.items }
     requires spare { vec_len handles.old < vec_capacity handles.old }
     ensures { handles.new.items ≡ handles_replaced new.now handles.old.items }
@@ -198,7 +198,7 @@ pub(crate) fn replace<A: Allocator>(handles: &mut Vec<BlockHandle, A>, new: &Rew
     ensures handles { handles.new.items ≡ with_starts 0 (handles_replaced new.now handles.old.items) }
     ensures total { result ≡ count_in_blocks (handles_replaced new.now handles.old.items) }
 {
-    put_blocks(handles, new);
+    insert_blocks(handles, new);
     renumber(handles.as_mut_slice(), new.at)
 }
 

@@ -48,7 +48,7 @@ pub(crate) fn series_head<A: Allocator>(
 }
 
 /// Inserts tags with their values into a JSON object.
-fn put_tags<A: Allocator>(
+fn insert_tags<A: Allocator>(
     members: &mut Map<String, Value>,
     alloc: Global,
     tags: &[String<A>],
@@ -64,7 +64,7 @@ fn put_tags<A: Allocator>(
                 tag.as_str(),
                 Value::try_from_str(alloc, value)?,
             )?;
-            put_tags(members, alloc, tags, values)
+            insert_tags(members, alloc, tags, values)
         }
         _ => Ok(()),
     }
@@ -80,7 +80,7 @@ fn push_tag_map<A: Allocator>(
     ensures { OnOk result (string_bytes text.new ≡ string_bytes text.old ++ compact_text (object (tags_among no_members (texts tags.now) (borrowed values.now)))) }
 {
     let mut members = Map::new(alloc);
-    put_tags(&mut members, alloc, tags, values)?;
+    insert_tags(&mut members, alloc, tags, values)?;
     push_value(alloc, text, &Value::from(members))
 }
 

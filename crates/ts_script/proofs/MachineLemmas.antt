@@ -32,8 +32,8 @@ use Rattle.ts_script.specs.MarksTexts.{marks_text}
 use Rattle.ts_script.specs.ScriptReplies.{line, text_of, step_text, written_text, unknown_text, bad_range_text}
 use Rattle.ts_script.specs.declared.reply.Reply.{Reply}
 use Rattle.ts_script.specs.declared.reply.Reply.TheVariants.{OutOfMemory}
-use Rattle.ts_script.specs.Machine.{State, no_longer_fresh, with_certificate, with_store, opened_with, with_begin, with_one_step, is_last, with_run, rules_in, lows_in, facts_of_line, RunsWhole, current_marks_text, at_moment, in_precision, in_epoch, Counts, Does, Step, opens, refuses_settings, opens_no_memory, opens_late, moves, sets, shows, writes, writes_no_memory, retains, refuses_retain, retains_no_memory, begins, refuses_begin, begins_no_memory, steps, steps_idle, hands_in, hands_in_no_memory, replies, replies_no_memory, explains, explains_no_memory, tells_live, counts, counts_nothing, refuses_count, refuses_unknown, too_long, no_text, skips, does}
-use Rattle.ts_script.specs.MachineState.{MachineState, keeping, IsMachineIn, HasReply, HasExplanation, Did, Refused, Stepped}
+use Rattle.ts_script.specs.Machine.{State, no_longer_fresh, with_certificate, with_store, opened_with, with_begin, with_one_step, is_last, with_run, rules_in, lows_in, facts_of_line, RunsWhole, current_marks_text, at_moment, in_precision, in_epoch, Counts, Transition, Step, opens, refuses_settings, opens_no_memory, opens_late, moves, sets, shows, writes, writes_no_memory, retains, refuses_retain, retains_no_memory, begins, refuses_begin, begins_no_memory, steps, steps_idle, hands_in, hands_in_no_memory, replies, replies_no_memory, explains, explains_no_memory, tells_live, counts, counts_nothing, refuses_count, refuses_unknown, too_long, no_text, skips, does}
+use Rattle.ts_script.specs.MachineState.{MachineState, keeping, IsMachineIn, HasReply, HasExplanation, TransitionTo, Refused, Stepped}
 
 -- ---- writing
 
@@ -61,7 +61,7 @@ pub storing : (s : State) (m : MachineState) (new : StoreState) (k : StoreData) 
 storing s m new k i is = record { moment = i.moment; precision = i.precision; epoch = i.epoch; fresh = i.fresh; certificate = i.certificate; store = is; inventory = refl }
 
 pub wrote : {E : Type 0} (text : Text) (r : Result LineOutcome E) (s : State) (m : MachineState) (k : StoreData) → IsMachineIn s m → ((t : StoreState) → IsStoreIn t m.kept → WritesFrom m.precision m.moment t text r k)
-    → GrowsAfter m.kept.settings.rules m.kept.marks.lows (facts_of_text (parts_in m.precision m.moment text)) r (inventory_of m.kept) (inventory_of k) → Did (Write text) s (written_text r) (keeping k m)
+    → GrowsAfter m.kept.settings.rules m.kept.marks.lows (facts_of_text (parts_in m.precision m.moment text)) r (inventory_of m.kept) (inventory_of k) → TransitionTo (Write text) s (written_text r) (keeping k m)
 wrote {E} text (Ok outcome) s m k i each grows =
     let w = written_by {E = E} s m text (Ok outcome) k i (each s.store i.store) in
     (with_store w.0 (inventory_of k) s, writes text outcome w.0 (inventory_of k) w.1 (added_by {E = E} s m text (Ok outcome) k i grows), storing s m w.0 k i w.2)
@@ -71,54 +71,54 @@ wrote {E} text (Err e) s m k i each grows =
 
 -- ---- the other commands
 
-pub moved : (t : ℤ) (s : State) (m : MachineState) → IsMachineIn s m → Did (At t) s [] (record m { moment = t })
+pub moved : (t : ℤ) (s : State) (m : MachineState) → IsMachineIn s m → TransitionTo (At t) s [] (record m { moment = t })
 moved t s m i = (
   at_moment t s,
   moves t,
   record { moment = refl; precision = i.precision; epoch = i.epoch; fresh = i.fresh; certificate = i.certificate; store = i.store; inventory = i.inventory },
 )
 
-pub was_set : (p : TimeUnit) (s : State) (m : MachineState) → IsMachineIn s m → Did (SetPrecision p) s [] (record m { precision = p })
+pub was_set : (p : TimeUnit) (s : State) (m : MachineState) → IsMachineIn s m → TransitionTo (SetPrecision p) s [] (record m { precision = p })
 was_set p s m i = (
   in_precision p s,
   sets p,
   record { moment = i.moment; precision = refl; epoch = i.epoch; fresh = i.fresh; certificate = i.certificate; store = i.store; inventory = i.inventory },
 )
 
-pub was_shown : (e : Epoch) (s : State) (m : MachineState) → IsMachineIn s m → Did (SetEpoch e) s [] (record m { epoch = e })
+pub was_shown : (e : Epoch) (s : State) (m : MachineState) → IsMachineIn s m → TransitionTo (SetEpoch e) s [] (record m { epoch = e })
 was_shown e s m i = (
   in_epoch e s,
   shows e,
   record { moment = i.moment; precision = i.precision; epoch = refl; fresh = i.fresh; certificate = i.certificate; store = i.store; inventory = i.inventory },
 )
 
-pub was_counted : (measurement field answer : Text) (a b : ℤ) (s : State) (m : MachineState) → IsMachineIn s m → a <ℤ b → OfEachHistory m.kept (λ opening h. Counts opening h measurement field a b answer) → Did (Count measurement field a b) s answer m
+pub was_counted : (measurement field answer : Text) (a b : ℤ) (s : State) (m : MachineState) → IsMachineIn s m → a <ℤ b → OfEachHistory m.kept (λ opening h. Counts opening h measurement field a b answer) → TransitionTo (Count measurement field a b) s answer m
 was_counted measurement field answer a b s m i some each = (s, counts measurement field answer a b some (each s.store.opening s.store.history i.store.stands), i)
 
-pub none_counted : (measurement field : Text) (a b : ℤ) (s : State) (m : MachineState) → IsMachineIn s m → b ≤ℤ a → Did (Count measurement field a b) s (line (codes "0")) m
+pub none_counted : (measurement field : Text) (a b : ℤ) (s : State) (m : MachineState) → IsMachineIn s m → b ≤ℤ a → TransitionTo (Count measurement field a b) s (line (codes "0")) m
 none_counted measurement field a b s m i none = (s, counts_nothing measurement field a b none, i)
 
 -- ---- settings
 
-pub was_opened : (text : Text) (settings : Settings) (s : State) (m : MachineState) (k : StoreData) → IsMachineIn s m → m.fresh ≡ true → settings_read text ≡ Ok settings → IsStoreIn (opened_store settings) k → inventory_of k ≡ new_inventory settings → Did (OpenWith text) s [] (keeping k m)
+pub was_opened : (text : Text) (settings : Settings) (s : State) (m : MachineState) (k : StoreData) → IsMachineIn s m → m.fresh ≡ true → settings_read text ≡ Ok settings → IsStoreIn (opened_store settings) k → inventory_of k ≡ new_inventory settings → TransitionTo (OpenWith text) s [] (keeping k m)
 was_opened text settings s m k i fresh read empty none = (
   opened_with settings s,
   opens text settings (sym i.fresh ∙ fresh) read,
   record { moment = i.moment; precision = i.precision; epoch = i.epoch; fresh = i.fresh; certificate = i.certificate; store = empty; inventory = none },
 )
 
-pub opened_no_memory : (text : Text) (s : State) (m : MachineState) → IsMachineIn s m → m.fresh ≡ true → Did (OpenWith text) s (line memory_text) m
+pub opened_no_memory : (text : Text) (s : State) (m : MachineState) → IsMachineIn s m → m.fresh ≡ true → TransitionTo (OpenWith text) s (line memory_text) m
 opened_no_memory text s m i fresh = (s, opens_no_memory text (sym i.fresh ∙ fresh), i)
 
 pub settings_refused : (text : Text) (answer : Reply) (fault : SettingsFault) (s : State) (m : MachineState) → IsMachineIn s m → m.fresh ≡ true → settings_read text ≡ Err fault
-    → (text_of answer ≡ line (settings_fault_text fault)) ⊎ (answer ≡ OutOfMemory) → Did (OpenWith text) s (text_of answer) m
+    → (text_of answer ≡ line (settings_fault_text fault)) ⊎ (answer ≡ OutOfMemory) → TransitionTo (OpenWith text) s (text_of answer) m
 settings_refused text answer fault s m i fresh read told =
-    elim told as (λ _. Did (OpenWith text) s (text_of answer) m) [
-      | inl is ↦ (s, subst (λ (a : Text). Does s (OpenWith text) a s) (sym is) (refuses_settings text fault (sym i.fresh ∙ fresh) read), i)
-      | inr want ↦ subst (λ (a : Reply). Did (OpenWith text) s (text_of a) m) (sym want) (opened_no_memory text s m i fresh)
+    elim told as (λ _. TransitionTo (OpenWith text) s (text_of answer) m) [
+      | inl is ↦ (s, subst (λ (a : Text). Transition s (OpenWith text) a s) (sym is) (refuses_settings text fault (sym i.fresh ∙ fresh) read), i)
+      | inr want ↦ subst (λ (a : Reply). TransitionTo (OpenWith text) s (text_of a) m) (sym want) (opened_no_memory text s m i fresh)
     ]
 
-pub opened_late : (text : Text) (s : State) (m : MachineState) → IsMachineIn s m → m.fresh ≡ false → Did (OpenWith text) s (line unknown_text) m
+pub opened_late : (text : Text) (s : State) (m : MachineState) → IsMachineIn s m → m.fresh ≡ false → TransitionTo (OpenWith text) s (line unknown_text) m
 opened_late text s m i late = (s, opens_late text (sym i.fresh ∙ late), i)
 
 -- ---- retention
@@ -132,32 +132,32 @@ steps_marks opening (suc n) h = steps_marks opening n h
 abbrev IsClosed : State → Type 0
 IsClosed s = IsRunOpen s.store.history → ⊥
 
-pub retained : (answer : Text) (s : State) (m : MachineState) (k : StoreData) → IsMachineIn s m → IsClosed s → Retains m.moment m.kept k → answer ≡ line (marks_text k.settings k.marks) → Did Retain s answer (keeping k m)
+pub retained : (answer : Text) (s : State) (m : MachineState) (k : StoreData) → IsMachineIn s m → IsClosed s → Retains m.moment m.kept k → answer ≡ line (marks_text k.settings k.marks) → TransitionTo Retain s answer (keeping k m)
 retained answer s m k i idle r told =
     let stands : StandsFor s.store.opening (whole_run s.moment r.steps s.store.history) (state_of k) = subst (λ (t : ℤ). StandsFor s.store.opening (whole_run t r.steps s.store.history) (state_of k)) i.moment (r.history s.store.opening s.store.history i.store.stands) in
     let new : State = with_run r.steps (inventory_of k) s in
     let marks : answer ≡ line (current_marks_text new) = told ∙ (λ j. line (marks_text (stands.settings j) (stands.marks j))) in
     let lows : k.marks.lows ≡ lows_in (with_begin s) = ap (λ (z : Marks). z.lows) (stands.marks ∙ steps_marks s.store.opening r.steps (Begin s.moment ∷ s.store.history)) in
     let whole : RunsWhole s r.steps (inventory_of k) = record {
-      count = r.turns ∙ (λ j. steps_in (lows j) (all_waiting (i.inventory j)));
+      count = r.reads ∙ (λ j. steps_in (lows j) (all_waiting (i.inventory j)));
       left = subst (λ (z : Inventory). LeavesRecent (rules_in s) (lows_in (with_begin s)) z (inventory_of k)) i.inventory
           (subst (λ (ls : List ℤ). LeavesRecent (rules_in s) ls (inventory_of m.kept) (inventory_of k)) lows
           (subst (λ (z : Settings). LeavesRecent z.rules k.marks.lows (inventory_of m.kept) (inventory_of k)) i.store.stands.settings r.inventory));
     } in (
       new,
-      subst (λ (a : Text). Does s Retain a new) (sym marks) (retains r.steps (inventory_of k) idle whole),
+      subst (λ (a : Text). Transition s Retain a new) (sym marks) (retains r.steps (inventory_of k) idle whole),
       storing s m new.store k i (record { stands = stands; series = r.series ∙ i.store.series }),
     )
 
-pub retained_no_memory : (s : State) (m : MachineState) → IsMachineIn s m → Did Retain s (line memory_text) m
+pub retained_no_memory : (s : State) (m : MachineState) → IsMachineIn s m → TransitionTo Retain s (line memory_text) m
 retained_no_memory s m i = (s, retains_no_memory, i)
 
-pub begun : (answer : Text) (s : State) (m : MachineState) (k : StoreData) → IsMachineIn s m → IsClosed s → k ≡ run_begun m.moment m.kept → GoesOn m.kept (Begin m.moment) k → answer ≡ line (marks_text k.settings k.marks) → Did BeginRun s answer (keeping k m)
+pub begun : (answer : Text) (s : State) (m : MachineState) (k : StoreData) → IsMachineIn s m → IsClosed s → k ≡ run_begun m.moment m.kept → GoesOn m.kept (Begin m.moment) k → answer ≡ line (marks_text k.settings k.marks) → TransitionTo BeginRun s answer (keeping k m)
 begun answer s m k i idle is goes told =
     let stands : StandsFor s.store.opening (Begin s.moment ∷ s.store.history) (state_of k) = subst (λ (t : ℤ). StandsFor s.store.opening (Begin t ∷ s.store.history) (state_of k)) i.moment (goes s.store.opening s.store.history i.store.stands) in
     let marks : answer ≡ line (current_marks_text (with_begin s)) = told ∙ (λ j. line (marks_text (stands.settings j) (stands.marks j))) in (
       with_begin s,
-      subst (λ (a : Text). Does s BeginRun a (with_begin s)) (sym marks) (begins idle),
+      subst (λ (a : Text). Transition s BeginRun a (with_begin s)) (sym marks) (begins idle),
       record {
         moment = i.moment;
         precision = i.precision;
@@ -169,7 +169,7 @@ begun answer s m k i idle is goes told =
       },
     )
 
-pub begun_no_memory : (s : State) (m : MachineState) → IsMachineIn s m → Did BeginRun s (line memory_text) m
+pub begun_no_memory : (s : State) (m : MachineState) → IsMachineIn s m → TransitionTo BeginRun s (line memory_text) m
 begun_no_memory s m i = (s, begins_no_memory, i)
 
 pub when_ok : {T E : Type 0} (r : Result T E) (P : Type 0) → OnOk r P → is_err r ≡ false → P
@@ -185,10 +185,10 @@ pub was_closed : {T E : Type 0} (r : Result T E) (s : State) (m : MachineState) 
 was_closed r s m i refused none = λ runs. true≢false (sym (refused.1 (i.store.stands.running.1 runs)) ∙ none)
 
 -- a call was refused, since a run is open
-pub retain_refused : {T E : Type 0} (r : Result T E) (s : State) (m : MachineState) (k : StoreData) → IsMachineIn s m → IsErr r ↔ IsTrue m.kept.running → OnErr r (k ≡ m.kept) → is_err r ≡ true → Did Retain s (line run_in_progress_text) (keeping k m)
+pub retain_refused : {T E : Type 0} (r : Result T E) (s : State) (m : MachineState) (k : StoreData) → IsMachineIn s m → IsErr r ↔ IsTrue m.kept.running → OnErr r (k ≡ m.kept) → is_err r ≡ true → TransitionTo Retain s (line run_in_progress_text) (keeping k m)
 retain_refused r s m k i refused same some = (s, refuses_retain (i.store.stands.running.0 (refused.0 some)), subst (λ (z : StoreData). IsMachineIn s (keeping z m)) (sym (when_err r (k ≡ m.kept) same some)) i)
 
-pub begin_refused : {T E : Type 0} (r : Result T E) (s : State) (m : MachineState) (k : StoreData) → IsMachineIn s m → IsErr r ↔ IsTrue m.kept.running → OnErr r (k ≡ m.kept) → is_err r ≡ true → Did BeginRun s (line run_in_progress_text) (keeping k m)
+pub begin_refused : {T E : Type 0} (r : Result T E) (s : State) (m : MachineState) (k : StoreData) → IsMachineIn s m → IsErr r ↔ IsTrue m.kept.running → OnErr r (k ≡ m.kept) → is_err r ≡ true → TransitionTo BeginRun s (line run_in_progress_text) (keeping k m)
 begin_refused r s m k i refused same some = (s, refuses_begin (i.store.stands.running.0 (refused.0 some)), subst (λ (z : StoreData). IsMachineIn s (keeping z m)) (sym (when_err r (k ≡ m.kept) same some)) i)
 
 -- ---- steps
@@ -197,7 +197,7 @@ went_on : (answer : StepAnswer) (m : MachineState) (k : StoreData) → TakesStep
 went_on Moved m k t = (t.moved refl).0
 went_on Done m k t = (t.done refl).0
 
-stepped_by : (running : Bool) (answer : StepAnswer) (s : State) (m : MachineState) (k : StoreData) → m.kept.running ≡ running → IsMachineIn s m → TakesStep m.kept k answer → Did StepRun s (step_text answer) (keeping k m)
+stepped_by : (running : Bool) (answer : StepAnswer) (s : State) (m : MachineState) (k : StoreData) → m.kept.running ≡ running → IsMachineIn s m → TakesStep m.kept k answer → TransitionTo StepRun s (step_text answer) (keeping k m)
 stepped_by true answer s m k e i t =
     let to : StepsTo (lows_in s) s.inventory answer (inventory_of k) =
     subst (λ (z : Inventory). StepsTo (lows_in s) z answer (inventory_of k)) i.inventory
@@ -210,11 +210,11 @@ stepped_by false answer s m k e i t =
     let none : IsRunOpen s.store.history → ⊥ = λ runs. true≢false (sym (i.store.stands.running.1 runs) ∙ e) in
     let idle = t.idle e in (
       s,
-      subst (λ (a : StepAnswer). Does s StepRun (step_text a) s) (sym idle.0) (steps_idle none),
+      subst (λ (a : StepAnswer). Transition s StepRun (step_text a) s) (sym idle.0) (steps_idle none),
       subst (λ (z : StoreData). IsMachineIn s (keeping z m)) (sym idle.1) i,
     )
 
-pub stepped : (answer : StepAnswer) (s : State) (m : MachineState) (k : StoreData) → IsMachineIn s m → TakesStep m.kept k answer → Did StepRun s (step_text answer) (keeping k m)
+pub stepped : (answer : StepAnswer) (s : State) (m : MachineState) (k : StoreData) → IsMachineIn s m → TakesStep m.kept k answer → TransitionTo StepRun s (step_text answer) (keeping k m)
 stepped answer s m k i t = stepped_by m.kept.running answer s m k refl i t
 
 -- ---- certificates and queries
@@ -226,14 +226,14 @@ holding certificate m = record m { certificate = certificate }
 pub held : (certificate : Option Text) (s : State) (m : MachineState) → IsMachineIn s m → IsMachineIn (with_certificate certificate s) (holding certificate m)
 held certificate s m i = record { moment = i.moment; precision = i.precision; epoch = i.epoch; fresh = i.fresh; certificate = refl; store = i.store; inventory = i.inventory }
 
-pub was_given : (text certificate : Text) (s : State) (m : MachineState) → IsMachineIn s m → certificate ≡ with_line_feeds text → Did (SetCertificate text) s [] (holding (Some certificate) m)
+pub was_given : (text certificate : Text) (s : State) (m : MachineState) → IsMachineIn s m → certificate ≡ with_line_feeds text → TransitionTo (SetCertificate text) s [] (holding (Some certificate) m)
 was_given text certificate s m i e = (
   with_certificate (Some certificate) s,
-  subst (λ (c : Text). Does s (SetCertificate text) [] (with_certificate (Some c) s)) (sym e) (hands_in text),
+  subst (λ (c : Text). Transition s (SetCertificate text) [] (with_certificate (Some c) s)) (sym e) (hands_in text),
   held (Some certificate) s m i,
 )
 
-pub given_no_memory : (text : Text) (s : State) (m : MachineState) → IsMachineIn s m → Did (SetCertificate text) s (line memory_text) m
+pub given_no_memory : (text : Text) (s : State) (m : MachineState) → IsMachineIn s m → TransitionTo (SetCertificate text) s (line memory_text) m
 given_no_memory text s m i = (s, hands_in_no_memory text, i)
 
 -- the body of a reply, or of an explanation, with an LF
@@ -256,31 +256,31 @@ forgotten : (after : Option Text) (s : State) (m : MachineState) → IsMachineIn
 forgotten after s m i none = subst (λ (k : Option Text). IsMachineIn (with_certificate None s) (holding k m)) (sym none) (held None s m i)
 
 pub was_replied : (text answer : Text) (certificate after : Option Text) (s : State) (m : MachineState) → IsMachineIn s m → certificate ≡ m.certificate → after ≡ None
-    → ((t : State) → IsMachineIn t (holding after m) → HasReply t text certificate answer) → Did (Query text) s answer (holding after m)
+    → ((t : State) → IsMachineIn t (holding after m) → HasReply t text certificate answer) → TransitionTo (Query text) s answer (holding after m)
 was_replied text answer certificate after s m i own none each =
     let here : IsMachineIn (with_certificate None s) (holding after m) = forgotten after s m i none in
     let r = each (with_certificate None s) here in
     let reply : IsReply s.store.opening s.store.history s.moment text s.certificate s.epoch r.1.0 r.0 = subst (λ (c : Option Text). IsReply s.store.opening s.store.history s.moment text c s.epoch r.1.0 r.0) (own ∙ i.certificate) r.1.1 in
-    (with_certificate None s, subst (λ (a : Text). Does s (Query text) a (with_certificate None s)) (sym r.2) (replies text r.0 r.1.0 reply), here)
+    (with_certificate None s, subst (λ (a : Text). Transition s (Query text) a (with_certificate None s)) (sym r.2) (replies text r.0 r.1.0 reply), here)
 
-pub replied_no_memory : (text : Text) (after : Option Text) (s : State) (m : MachineState) → IsMachineIn s m → after ≡ None → Did (Query text) s (line memory_text) (holding after m)
+pub replied_no_memory : (text : Text) (after : Option Text) (s : State) (m : MachineState) → IsMachineIn s m → after ≡ None → TransitionTo (Query text) s (line memory_text) (holding after m)
 replied_no_memory text after s m i none = (with_certificate None s, replies_no_memory text, forgotten after s m i none)
 
-pub was_explained : (text answer : Text) (s : State) (m : MachineState) → IsMachineIn s m → HasExplanation s text answer → Did (Explain text) s answer m
-was_explained text answer s m i r = (s, subst (λ (a : Text). Does s (Explain text) a s) (sym r.2) (explains text r.0 r.1.0 r.1.1), i)
+pub was_explained : (text answer : Text) (s : State) (m : MachineState) → IsMachineIn s m → HasExplanation s text answer → TransitionTo (Explain text) s answer m
+was_explained text answer s m i r = (s, subst (λ (a : Text). Transition s (Explain text) a s) (sym r.2) (explains text r.0 r.1.0 r.1.1), i)
 
-pub explained_no_memory : (text : Text) (s : State) (m : MachineState) → IsMachineIn s m → Did (Explain text) s (line memory_text) m
+pub explained_no_memory : (text : Text) (s : State) (m : MachineState) → IsMachineIn s m → TransitionTo (Explain text) s (line memory_text) m
 explained_no_memory text s m i = (s, explains_no_memory text, i)
 
-pub told_live : (n : ℕ) (s : State) (m : MachineState) → IsMachineIn s m → OfEachHistory m.kept (λ opening h. n ≡ length (all_raw m.kept.waiting opening h)) → Did Live s (line (decimal n)) m
+pub told_live : (n : ℕ) (s : State) (m : MachineState) → IsMachineIn s m → OfEachHistory m.kept (λ opening h. n ≡ length (all_raw m.kept.waiting opening h)) → TransitionTo Live s (line (decimal n)) m
 told_live n s m i each =
     let same : n ≡ length (all_raw s.inventory.waiting s.store.opening s.store.history) = each s.store.opening s.store.history i.store.stands ∙ ap (λ (z : Inventory). length (all_raw z.waiting s.store.opening s.store.history)) i.inventory in
-    (s, subst (λ (k : ℕ). Does s Live (line (decimal k)) s) (sym same) tells_live, i)
+    (s, subst (λ (k : ℕ). Transition s Live (line (decimal k)) s) (sym same) tells_live, i)
 
-pub count_refused : (s : State) (m : MachineState) → IsMachineIn s m → Did CountFault s (line bad_range_text) m
+pub count_refused : (s : State) (m : MachineState) → IsMachineIn s m → TransitionTo CountFault s (line bad_range_text) m
 count_refused s m i = (s, refuses_count, i)
 
-pub not_known : (s : State) (m : MachineState) → IsMachineIn s m → Did Unknown s (line unknown_text) m
+pub not_known : (s : State) (m : MachineState) → IsMachineIn s m → TransitionTo Unknown s (line unknown_text) m
 not_known s m i = (s, refuses_unknown, i)
 
 -- ---- lines
@@ -289,7 +289,7 @@ not_known s m i = (s, refuses_unknown, i)
 begun_in : (s : State) (m : MachineState) → IsMachineIn s m → IsMachineIn (no_longer_fresh s) (record m { fresh = false })
 begun_in s m i = record { moment = i.moment; precision = i.precision; epoch = i.epoch; fresh = refl; certificate = i.certificate; store = i.store; inventory = i.inventory }
 
-pub did_it : (bytes answer : Text) (s : State) (m : MachineState) → length bytes ≤ script_line_limit → IsUtf8 bytes → is_skipped bytes ≡ false → Did (command_of bytes) s answer m → Stepped bytes s answer (record m { fresh = false })
+pub did_it : (bytes answer : Text) (s : State) (m : MachineState) → length bytes ≤ script_line_limit → IsUtf8 bytes → is_skipped bytes ≡ false → TransitionTo (command_of bytes) s answer m → Stepped bytes s answer (record m { fresh = false })
 did_it bytes answer s m short text some d = (no_longer_fresh d.0, does bytes answer d.0 short text some d.1, begun_in d.0 m d.2)
 
 pub was_skipped : (bytes : Text) (s : State) (m : MachineState) → length bytes ≤ script_line_limit → IsUtf8 bytes → is_skipped bytes ≡ true → IsMachineIn s m → Stepped bytes s [] m

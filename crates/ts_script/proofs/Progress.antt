@@ -239,30 +239,30 @@ none_answered contents = ([], scripted [] [] start refl, Appends-nil contents)
 
 pub reader_told : {T S : Type 0} (f : ReadFault) (r : Result T RunFault) (q : Result S ReadFault) → r ≡ Err (fault_of_read f) → q ≡ Err f → one_if_reader r ≡ one_if_device q
 reader_told read.Device r q e d = rw (e, d) refl
-reader_told read.Turns r q e d = rw (e, d) refl
+reader_told read.TooManyReads r q e d = rw (e, d) refl
 
-device_is_other : {T : Type 0} (r : Result T RunFault) → r ≡ Err (fault_of_read read.Device) → r ≡ Err (fault_of_read read.Turns) → ⊥
+device_is_other : {T : Type 0} (r : Result T RunFault) → r ≡ Err (fault_of_read read.Device) → r ≡ Err (fault_of_read read.TooManyReads) → ⊥
 device_is_other r d t = cc
 
 -- too many reads are reported only if the line reader reports them
-pub turns_told : {T S : Type 0} (f : ReadFault) (r : Result T RunFault) (q : Result S ReadFault) → r ≡ Err (fault_of_read f) → q ≡ Err f → r ≡ Err (fault_of_read read.Turns) → q ≡ Err read.Turns
+pub turns_told : {T S : Type 0} (f : ReadFault) (r : Result T RunFault) (q : Result S ReadFault) → r ≡ Err (fault_of_read f) → q ≡ Err f → r ≡ Err (fault_of_read read.TooManyReads) → q ≡ Err read.TooManyReads
 turns_told read.Device r q e d t = absurd (device_is_other r e t)
-turns_told read.Turns r q e d t = d
+turns_told read.TooManyReads r q e d t = d
 
 -- a reader's fault isn't the writer's
 pub reader_is_not_writer : {T : Type 0} (f : ReadFault) (r : Result T RunFault) → r ≡ Err (fault_of_read f) → r ≡ Err Writer → ⊥
 reader_is_not_writer read.Device r e w = cc
-reader_is_not_writer read.Turns r e w = cc
+reader_is_not_writer read.TooManyReads r e w = cc
 
 pub writer_silent : {T : Type 0} (r : Result T RunFault) (f : ReadFault) → r ≡ Err (fault_of_read f) → one_if_writer r ≡ 0
 writer_silent r read.Device e = rw e refl
-writer_silent r read.Turns e = rw e refl
+writer_silent r read.TooManyReads e = rw e refl
 
 -- a writer's fault is no other
 pub writer_is_not_memory : {T : Type 0} (r : Result T RunFault) → r ≡ Err Writer → r ≡ Err OutOfMemory → ⊥
 writer_is_not_memory r w m = cc
 
-pub writer_is_not_turns : {T : Type 0} (r : Result T RunFault) → r ≡ Err Writer → r ≡ Err (fault_of_read read.Turns) → ⊥
+pub writer_is_not_turns : {T : Type 0} (r : Result T RunFault) → r ≡ Err Writer → r ≡ Err (fault_of_read read.TooManyReads) → ⊥
 writer_is_not_turns r w t = cc
 
 -- a run that is done has no fault
@@ -272,4 +272,4 @@ done_has_no_fault r x f d e = cc
 -- a reader's fault isn't out of memory
 pub memory_silent : {T : Type 0} (r : Result T RunFault) (f : ReadFault) → r ≡ Err (fault_of_read f) → r ≡ Err OutOfMemory → ⊥
 memory_silent r read.Device e h = cc
-memory_silent r read.Turns e h = cc
+memory_silent r read.TooManyReads e h = cc

@@ -11,7 +11,7 @@ use Rattle.ts_image.specs.FormatLaws.{AreBytes}
 use Rattle.ts_image.specs.ImageFaults.{IsFaultOf, IsOfBytes}
 use Rattle.ts_image.specs.Images.{ImageData}
 use Rattle.ts_image.specs.SavedImages.{IsWellFormed}
-use Rattle.ts_image.specs.Saving.{image_of}
+use Rattle.ts_image.specs.Saving.{store_image}
 use Rattle.ts_image.proofs.FittingImages.{written_acceptable}
 use Rattle.ts_image.proofs.ImageBytes.{image_bytes}
 use Rattle.ts_image.proofs.Unambiguous.{are_unambiguous}
@@ -30,13 +30,13 @@ none_of_bytes bytes loading.OtherVersion none = absurd (none tt)
 none_of_bytes bytes (loading.Misshapen n) none = absurd (none tt)
 none_of_bytes bytes loading.Contradiction none = absurd (none tt)
 none_of_bytes bytes loading.Device none = refl
-none_of_bytes bytes loading.Turns none = refl
+none_of_bytes bytes loading.TooManyReads none = refl
 none_of_bytes bytes loading.OutOfMemory none = refl
 
 pub loads_but_for_memory : (k : StoreData) (bytes : List ℕ) (source : Input) (fault : LoadFault) → source.remaining ≡ Some bytes → IsImageIn k bytes → IsWellFormed k → IfSome source.remaining (λ bs. AreBytes bs → IsFaultOf bs fault)
     → OfEachHistory k (λ opening h. load_failed fault ≡ OutOfMemory)
 loads_but_for_memory k bytes source fault known is w told = λ opening h st.
-    let d : ImageData = image_of k is.order in
+    let d : ImageData = store_image k is.order in
     let are : AreBytes bytes = subst AreBytes (sym is.text) (image_bytes V2 d is.fits) in
     let had : IsFaultOf bytes fault = subst (λ (o : Option (List ℕ)). IfSome o (λ bs. AreBytes bs → IsFaultOf bs fault)) known told are in
     let possible = (written_acceptable opening h k is.order st w is.ordered).possible in

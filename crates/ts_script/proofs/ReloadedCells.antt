@@ -27,7 +27,7 @@ use Rattle.ts_image.specs.Images.{ImageCell}
 use Rattle.ts_image.specs.ImageTests.{settings_of_image}
 use Rattle.ts_image.specs.Pictures.{columns_of_image}
 use Rattle.ts_image.specs.SavedParts.{image_settings_of}
-use Rattle.ts_image.specs.Saving.{frozen_cells_at, image_cell_of, image_cells_from, image_of}
+use Rattle.ts_image.specs.Saving.{frozen_cells_at, image_cell_of, image_cells_from, store_image}
 use Rattle.ts_image.specs.StoresMade.{cells_in, IsStoreOf}
 use Rattle.ts_image.proofs.FrozenPictures.{frozen_some}
 use Rattle.ts_image.proofs.MadeCells.{from_image}
@@ -53,7 +53,7 @@ rolled_at P (x ∷ rs) (l ∷ lows) [] i r low m a b c h = absurd (let none : No
 rolled_at P (x ∷ rs) (l ∷ lows) (n ∷ ms) zero r low m a b c h = subst P (λ j. rule_cells (same_Some x r a j) (same_Some l low b j) (same_Some n m c j)) h.0
 rolled_at P (x ∷ rs) (l ∷ lows) (n ∷ ms) (suc i) r low m a b c h = rolled_at P rs lows ms i r low m a b c h.1
 
-module _ (opening : Settings) (h : History) (k n : StoreData) (order : List SavedSeries) (old : StandsFor opening h (state_of k)) (new : StandsFor opening h (state_of n)) (made : IsStoreOf (image_of k order) n) where
+module _ (opening : Settings) (h : History) (k n : StoreData) (order : List SavedSeries) (old : StandsFor opening h (state_of k)) (new : StandsFor opening h (state_of n)) (made : IsStoreOf (store_image k order) n) where
   same_settings : n.settings ≡ k.settings
   same_settings = new.settings ∙ sym old.settings
 
@@ -70,13 +70,13 @@ module _ (opening : Settings) (h : History) (k n : StoreData) (order : List Save
     is : HasCells (kept_from opening h n.waiting) (latest_of h) (rule_cells r low m')
     is = rolled_at (HasCells (kept_from opening h n.waiting) (latest_of h)) n.settings.rules n.marks.lows n.cells i r low m' (subst (λ (s : Settings). IsAt s.rules i r) (sym same_settings) a) (subst (λ (z : Marks). IsAt z.lows i low) (sym same_marks) b) d new.rolled
 
-    imaged : IsAt (map cells_in (image_of k order).cells) i (cells_in (written low m))
+    imaged : IsAt (map cells_in (store_image k order).cells) i (cells_in (written low m))
     imaged =
-        subst (λ (x : ℤ). IsAt (map cells_in (image_of k order).cells) i (cells_in (written x m))) (get_or_from_slice_get k.marks.lows i low (pos 0) b)
-        (subst (λ (x : CellMap). IsAt (map cells_in (image_of k order).cells) i (cells_in (written (slice_index_or k.marks.lows i (pos 0)) x))) (get_or_from_slice_get k.cells i m finmap.empty c)
-        (subst (λ (j : ℕ). IsAt (map cells_in (image_of k order).cells) i (cells_in (map image_cell_of (frozen_cells_at k j)))) (let e : 0 + i ≡ i = omega arith in e) (cells_from k 0 k.settings.rules i r a)))
+        subst (λ (x : ℤ). IsAt (map cells_in (store_image k order).cells) i (cells_in (written x m))) (get_or_from_slice_get k.marks.lows i low (pos 0) b)
+        (subst (λ (x : CellMap). IsAt (map cells_in (store_image k order).cells) i (cells_in (written (slice_index_or k.marks.lows i (pos 0)) x))) (get_or_from_slice_get k.cells i m finmap.empty c)
+        (subst (λ (j : ℕ). IsAt (map cells_in (store_image k order).cells) i (cells_in (map image_cell_of (frozen_cells_at k j)))) (let e : 0 + i ≡ i = omega arith in e) (cells_from k 0 k.settings.rules i r a)))
 
-    puts : PutsCells (facts_of (columns_of_image (image_of k order).series)) r low (cells_in (written low m)) m'
+    puts : PutsCells (facts_of (columns_of_image (store_image k order).series)) r low (cells_in (written low m)) m'
     puts = made.cells.1 i r low (cells_in (written low m)) m' (subst (λ (s : Settings). IsAt s.rules i r) (sym said) a) b imaged d
 
     -- a cell of the image has a frozen fact
@@ -91,7 +91,7 @@ module _ (opening : Settings) (h : History) (k n : StoreData) (order : List Save
         subst (λ (y : Cell). (low ≤ℤ y.index) × IsOfFacts (latest_of h) r y) x.2 (kept, (f.0, f.1.there, inside))
 
     -- a raw fact is one of the latest
-    of_raw : (q : Cell) → (low ≤ℤ q.index) × IsOfFacts (facts_of (columns_of_image (image_of k order).series)) r q → (low ≤ℤ q.index) × IsOfFacts (latest_of h) r q
+    of_raw : (q : Cell) → (low ≤ℤ q.index) × IsOfFacts (facts_of (columns_of_image (store_image k order).series)) r q → (low ≤ℤ q.index) × IsOfFacts (latest_of h) r q
     of_raw q o =
         let f = o.1 in
         let raw = (new.raw f.0).0 (subst (λ (cs : List ColumnPoints). Among f.0 (facts_of cs)) (sym made.columns) f.1) in
@@ -111,7 +111,7 @@ module _ (opening : Settings) (h : History) (k n : StoreData) (order : List Save
 
   pub all_filled : length k.cells ≡ length k.settings.rules → OfRules (λ r low before after. AreFilled (latest_of h) r low after) k.settings.rules k.marks.lows (map (λ (m : CellMap). finmap.keys m) k.cells) (map (λ (m : CellMap). finmap.keys m) n.cells)
   all_filled each = (
-    length-map n.cells (λ (m : CellMap). finmap.keys m) ∙ made.cells.0 ∙ length-map (image_of k order).cells cells_in ∙ lists_from k 0 k.settings.rules ∙ sym each ∙ sym (length-map k.cells (λ (m : CellMap). finmap.keys m)),
+    length-map n.cells (λ (m : CellMap). finmap.keys m) ∙ made.cells.0 ∙ length-map (store_image k order).cells cells_in ∙ lists_from k 0 k.settings.rules ∙ sym each ∙ sym (length-map k.cells (λ (m : CellMap). finmap.keys m)),
     λ i r low before after a b c d.
         let m = at_back (λ (m : CellMap). finmap.keys m) k.cells i before c in
         let m' = at_back (λ (m : CellMap). finmap.keys m) n.cells i after d in

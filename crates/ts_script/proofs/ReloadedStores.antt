@@ -16,7 +16,7 @@ use Rattle.ts_store.specs.store.Inventories.{Inventory, inventory_of}
 use Rattle.ts_store.specs.image.SavedContent.{SavedSeries, saved_key}
 use Rattle.ts_image.specs.declared.version.Version.TheVariants.{V2}
 use Rattle.ts_image.specs.Images.{ImageData, image, image_text}
-use Rattle.ts_image.specs.Saving.{image_of, image_series_of}
+use Rattle.ts_image.specs.Saving.{store_image, image_series_of}
 use Rattle.ts_image.specs.StoresMade.{key_in, IsStoreOf}
 use Rattle.ts_image.specs.FormatLaws.{AreBytes}
 use Rattle.ts_image.specs.ImageFaults.{IsImageOf}
@@ -30,7 +30,7 @@ use Rattle.ts_script.specs.Machine.{with_store, rules_in, lows_in, IsReload, rel
 use Rattle.ts_script.specs.ReloadResults.{IsImageIn, IsReloadOf}
 use Rattle.ts_script.specs.Reloads.{Reloaded, saved_columns}
 use Rattle.ts_script.specs.ScriptReplies.{line, reloaded_text}
-use Rattle.ts_script.specs.MachineState.{MachineState, keeping, IsMachineIn, Did}
+use Rattle.ts_script.specs.MachineState.{MachineState, keeping, IsMachineIn, TransitionTo}
 use Rattle.ts_script.specs.Machine.{State}
 use Rattle.ts_script.proofs.ReloadLemmas.{all_named, all_waiting}
 use Rattle.ts_script.proofs.ReloadedCells.{all_filled}
@@ -41,7 +41,7 @@ keys_back k (s ∷ ss) = ap (λ xs. s.series ∷ xs) (keys_back k ss)
 
 module _ (opening : Settings) (h : History) (k n : StoreData) (old : StandsFor opening h (state_of k)) (r : IsReloadOf k n) where
   pub stands : StandsFor opening h (state_of n)
-  stands = pictured_stands k n (image_of k r.order) (written_picture opening h k r.order old r.sized r.ordered) r.made.made opening h old
+  stands = pictured_stands k n (store_image k r.order) (written_picture opening h k r.order old r.sized r.ordered) r.made.made opening h old
 
   columns : map column_of n.columns ≡ saved_columns r.order
   columns = ap (λ (cs : List ColumnPoints). map column_of cs) r.made.columns ∙ all_named k r.order
@@ -58,7 +58,7 @@ module _ (opening : Settings) (h : History) (k n : StoreData) (old : StandsFor o
 
 -- ---- the machine
 
-pub was_reloaded : (s : State) (m : MachineState) (k : StoreData) → IsMachineIn s m → IsReloadOf m.kept k → Did Reload s reloaded_text (keeping k m)
+pub was_reloaded : (s : State) (m : MachineState) (k : StoreData) → IsMachineIn s m → IsReloadOf m.kept k → TransitionTo Reload s reloaded_text (keeping k m)
 was_reloaded s m k i r =
     let now = reloaded_as s.store.opening s.store.history m.kept k i.store.stands r in
     let is : IsReload s k.series (inventory_of k) =
@@ -79,13 +79,13 @@ was_reloaded s m k i r =
       },
     )
 
-pub reloaded_no_memory : (s : State) (m : MachineState) → IsMachineIn s m → Did Reload s (line memory_text) m
+pub reloaded_no_memory : (s : State) (m : MachineState) → IsMachineIn s m → TransitionTo Reload s (line memory_text) m
 reloaded_no_memory s m i = (s, reloads_no_memory, i)
 
 -- a store that was loaded from the image of another has its contents
 pub loaded_back : (k n : StoreData) (bytes : List ℕ) (source : Input) → source.remaining ≡ Some bytes → IsImageIn k bytes → IsSized k → IsLoadedStore source n → IsReloadOf k n
 loaded_back k n bytes source known is sized l =
-    let d : ImageData = image_of k is.order in
+    let d : ImageData = store_image k is.order in
     let are : AreBytes bytes = subst AreBytes (sym is.text) (image_bytes V2 d is.fits) in
     let had : IsImageOf l.version l.image bytes = subst (λ (o : Option (List ℕ)). IfSome o (λ bs. AreBytes bs → IsImageOf l.version l.image bs)) known l.bytes are in
     let same = (are_unambiguous l.version l.image bytes had l.possible).1 V2 d (record { fits = is.fits; text = is.text }) in

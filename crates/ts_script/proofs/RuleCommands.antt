@@ -14,10 +14,10 @@ use Rattle.ts_store.specs.rules.RuleTexts.{rule_for, settings_in, low_in, with_r
 use Rattle.ts_store.specs.declared.rules.rule_text.AddedRule.{AddedRule}
 use Rattle.ts_store.proofs.rules.RuleStates.{rule_came, rule_went, rule_gained}
 use Rattle.ts_script.specs.Commands.{AddRule, DropRule}
-use Rattle.ts_script.specs.Machine.{State, with_store, GainsRuleCells, state_without_rule, Does, adds, refuses_rule, adds_no_memory, drops, refuses_drop}
+use Rattle.ts_script.specs.Machine.{State, with_store, GainsRuleCells, state_without_rule, Transition, adds, refuses_rule, adds_no_memory, drops, refuses_drop}
 use Rattle.ts_script.specs.MarksTexts.{rule_text}
 use Rattle.ts_script.specs.ScriptReplies.{line, text_of, dropped_text}
-use Rattle.ts_script.specs.MachineState.{MachineState, keeping, IsMachineIn, Did}
+use Rattle.ts_script.specs.MachineState.{MachineState, keeping, IsMachineIn, TransitionTo}
 use Rattle.ts_script.specs.declared.reply.Reply.{Reply}
 use Rattle.ts_script.specs.declared.reply.Reply.TheVariants.{OutOfMemory}
 use Rattle.ts_script.proofs.MachineLemmas.{storing, when_ok, when_err}
@@ -27,7 +27,7 @@ stays_in : (s : State) (m : MachineState) (k : StoreData) → IsMachineIn s m �
 stays_in s m k i same = subst (λ (z : StoreData). IsMachineIn s (keeping z m)) (sym same) i
 
 module _ (text : Text) (s : State) (m : MachineState) (k : StoreData) (i : IsMachineIn s m) where
-  pub rule_told : (added : AddedRule) (answer : Text) → TextComes m.kept k text added → answer ≡ line (rule_text added.name.bytes added.low) → Did (AddRule text) s answer (keeping k m)
+  pub rule_told : (added : AddedRule) (answer : Text) → TextComes m.kept k text added → answer ≡ line (rule_text added.name.bytes added.low) → TransitionTo (AddRule text) s answer (keeping k m)
   rule_told added answer t told =
       let came = rule_came s.store m.kept k t.rule added.low i.store t.comes in
       let read : rule_for (settings_in s.store) text ≡ Ok t.rule = subst (λ (z : Settings). rule_for z text ≡ Ok t.rule) i.store.stands.settings t.read in
@@ -36,16 +36,16 @@ module _ (text : Text) (s : State) (m : MachineState) (k : StoreData) (i : IsMac
       (subst (λ (low : ℤ). GainsRule (all_raw m.kept.waiting s.store.opening s.store.history) t.rule low (inventory_of m.kept) (inventory_of k)) came.0 (rule_gained s.store m.kept k t.rule added.low i.store t.comes)) in
       let printed : answer ≡ line (rule_text t.rule.name (low_in s.store t.rule)) = told ∙ (λ j. line (rule_text (t.name j) (came.0 j))) in
       let new : State = with_store (with_rule_added t.rule s.store) (inventory_of k) s in
-      (new, subst (λ (a : Text). Does s (AddRule text) a new) (sym printed) (adds text t.rule (inventory_of k) read gains), storing s m (with_rule_added t.rule s.store) k i came.1)
+      (new, subst (λ (a : Text). Transition s (AddRule text) a new) (sym printed) (adds text t.rule (inventory_of k) read gains), storing s m (with_rule_added t.rule s.store) k i came.1)
 
-  pub rule_no_memory : k ≡ m.kept → Did (AddRule text) s (line memory_text) (keeping k m)
+  pub rule_no_memory : k ≡ m.kept → TransitionTo (AddRule text) s (line memory_text) (keeping k m)
   rule_no_memory same = (s, adds_no_memory text, stays_in s m k i same)
 
-  pub rule_refused : (fault : SettingsFault) (answer : Reply) → rule_for m.kept.settings text ≡ Err fault → k ≡ m.kept → (text_of answer ≡ line (settings_fault_text fault)) ⊎ (answer ≡ OutOfMemory) → Did (AddRule text) s (text_of answer) (keeping k m)
+  pub rule_refused : (fault : SettingsFault) (answer : Reply) → rule_for m.kept.settings text ≡ Err fault → k ≡ m.kept → (text_of answer ≡ line (settings_fault_text fault)) ⊎ (answer ≡ OutOfMemory) → TransitionTo (AddRule text) s (text_of answer) (keeping k m)
   rule_refused fault answer read same told =
-      elim told as (λ _. Did (AddRule text) s (text_of answer) (keeping k m)) [
-        | inl is ↦ (s, subst (λ (a : Text). Does s (AddRule text) a s) (sym is) (refuses_rule text fault (subst (λ (z : Settings). rule_for z text ≡ Err fault) i.store.stands.settings read)), stays_in s m k i same)
-        | inr want ↦ subst (λ (a : Reply). Did (AddRule text) s (text_of a) (keeping k m)) (sym want) (rule_no_memory same)
+      elim told as (λ _. TransitionTo (AddRule text) s (text_of answer) (keeping k m)) [
+        | inl is ↦ (s, subst (λ (a : Text). Transition s (AddRule text) a s) (sym is) (refuses_rule text fault (subst (λ (z : Settings). rule_for z text ≡ Err fault) i.store.stands.settings read)), stays_in s m k i same)
+        | inr want ↦ subst (λ (a : Reply). TransitionTo (AddRule text) s (text_of a) (keeping k m)) (sym want) (rule_no_memory same)
       ]
 
 -- ---- a rule is dropped
@@ -55,7 +55,7 @@ found_name : {T E : Type 0} (b : Bool) (r : Result T E) → IsErr r ↔ (b ≡ f
 found_name true r unknown none = refl
 found_name false r unknown none = absurd (true≢false (sym (unknown.1 refl) ∙ none))
 
-pub rule_forgotten : {E : Type 0} (r : Result (Unit {0}) E) (name : Text) (s : State) (m : MachineState) (k : StoreData) → IsMachineIn s m → DropsRule m.kept k name r → is_err r ≡ false → Did (DropRule name) s dropped_text (keeping k m)
+pub rule_forgotten : {E : Type 0} (r : Result (Unit {0}) E) (name : Text) (s : State) (m : MachineState) (k : StoreData) → IsMachineIn s m → DropsRule m.kept k name r → is_err r ≡ false → TransitionTo (DropRule name) s dropped_text (keeping k m)
 rule_forgotten r name s m k i drops_rule none =
     let named : is_named m.kept.settings.rules name ≡ true = found_name (is_named m.kept.settings.rules name) r drops_rule.unknown none in
     let goes : RuleGoes m.kept k name = when_ok r (RuleGoes m.kept k name) drops_rule.ok none in
@@ -68,7 +68,7 @@ rule_forgotten r name s m k i drops_rule none =
       record { moment = i.moment; precision = i.precision; epoch = i.epoch; fresh = i.fresh; certificate = i.certificate; store = rule_went s.store m.kept k name i.store goes; inventory = inventory },
     )
 
-pub drop_refused : {E : Type 0} (r : Result (Unit {0}) E) (name : Text) (s : State) (m : MachineState) (k : StoreData) → IsMachineIn s m → DropsRule m.kept k name r → is_err r ≡ true → Did (DropRule name) s (line unknown_rule_text) (keeping k m)
+pub drop_refused : {E : Type 0} (r : Result (Unit {0}) E) (name : Text) (s : State) (m : MachineState) (k : StoreData) → IsMachineIn s m → DropsRule m.kept k name r → is_err r ≡ true → TransitionTo (DropRule name) s (line unknown_rule_text) (keeping k m)
 drop_refused r name s m k i drops_rule refused = (
   s,
   refuses_drop name (subst (λ (z : Settings). is_named z.rules name ≡ false) i.store.stands.settings (drops_rule.unknown.0 refused)),

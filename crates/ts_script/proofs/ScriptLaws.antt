@@ -41,8 +41,8 @@ lines_known source source' bytes came ended e r =
     read_first ended bytes came c.0 c.2 (λ h. at_end source'.remaining c.0 c.1 (r.end h))
 
 -- without a fault, the answers to all lines of a known input were written
-pub known_answered : {T : Type 0} (turns : ℕ) (source : Input) (sink : Output) (x : T) (source' : Input) (sink' : Output) (bytes : Text) → source.remaining ≡ Some bytes → IsReplay turns source sink (Ok x) source' sink' → AnswersAll (lines_of bytes) sink.contents sink'.contents
-known_answered turns source sink x source' sink' bytes e r =
+pub known_answered : {T : Type 0} (reads : ℕ) (source : Input) (sink : Output) (x : T) (source' : Input) (sink' : Output) (bytes : Text) → source.remaining ≡ Some bytes → IsReplay reads source sink (Ok x) source' sink' → AnswersAll (lines_of bytes) sink.contents sink'.contents
+known_answered reads source sink x source' sink' bytes e r =
     let c = came_first source.remaining source'.remaining bytes r.came e r.read.bytes in
     let all : bytes ≡ r.came = c.2 ∙ ap (λ (l : Text). r.came ++ l) (at_end source'.remaining c.0 c.1 (r.read.end r.whole)) ∙ append-nil r.came in
     let lines : lines_read r.ended r.came ≡ lines_of bytes = ap (λ (b : Bool). lines_read b r.came) r.whole ∙ ap lines_of (sym all) in
@@ -56,16 +56,16 @@ some_of_more lines others whole old new e a =
 some_of_all : (lines : List Text) (old new : Option Text) → AnswersAll lines old new → AnswersSome lines old new
 some_of_all lines old new a = (a.0, record { done = lines; rest = []; lines_are = sym (append-nil lines); script = a.1 }, (a.0, [], sym (append-nil a.0), a.2))
 
-some_known : {T : Type 0} (turns : ℕ) (source : Input) (sink : Output) (result : Result T RunFault) (source' : Input) (sink' : Output) (bytes : Text) → source.remaining ≡ Some bytes → (r : IsReplay turns source sink result source' sink')
+some_known : {T : Type 0} (reads : ℕ) (source : Input) (sink : Output) (result : Result T RunFault) (source' : Input) (sink' : Output) (bytes : Text) → source.remaining ≡ Some bytes → (r : IsReplay reads source sink result source' sink')
     → AnswersSome (lines_read r.ended r.came) sink.contents sink'.contents → AnswersSome (lines_of bytes) sink.contents sink'.contents
-some_known turns source sink result source' sink' bytes e r a =
+some_known reads source sink result source' sink' bytes e r a =
     let known = lines_known source source' bytes r.came r.ended e r.read in
     some_of_more (lines_read r.ended r.came) known.0 (lines_of bytes) sink.contents sink'.contents known.1 a
 
 -- with any result, a prefix of the answers to the first lines of a known input was written
-pub known_begun : {T : Type 0} (turns : ℕ) (source : Input) (sink : Output) (result : Result T RunFault) (source' : Input) (sink' : Output) (bytes : Text) → source.remaining ≡ Some bytes → IsReplay turns source sink result source' sink' → AnswersSome (lines_of bytes) sink.contents sink'.contents
-known_begun turns source sink (Ok x) source' sink' bytes e r = some_known turns source sink _ source' sink' bytes e r (some_of_all _ sink.contents sink'.contents (r.answered (λ w. cc)))
-known_begun turns source sink (Err fault.OutOfMemory) source' sink' bytes e r = some_known turns source sink _ source' sink' bytes e r (some_of_all _ sink.contents sink'.contents (r.answered (λ w. cc)))
-known_begun turns source sink (Err fault.Reader) source' sink' bytes e r = some_known turns source sink _ source' sink' bytes e r (some_of_all _ sink.contents sink'.contents (r.answered (λ w. cc)))
-known_begun turns source sink (Err fault.Turns) source' sink' bytes e r = some_known turns source sink _ source' sink' bytes e r (some_of_all _ sink.contents sink'.contents (r.answered (λ w. cc)))
-known_begun turns source sink (Err fault.Writer) source' sink' bytes e r = some_known turns source sink _ source' sink' bytes e r (r.begun refl)
+pub known_begun : {T : Type 0} (reads : ℕ) (source : Input) (sink : Output) (result : Result T RunFault) (source' : Input) (sink' : Output) (bytes : Text) → source.remaining ≡ Some bytes → IsReplay reads source sink result source' sink' → AnswersSome (lines_of bytes) sink.contents sink'.contents
+known_begun reads source sink (Ok x) source' sink' bytes e r = some_known reads source sink _ source' sink' bytes e r (some_of_all _ sink.contents sink'.contents (r.answered (λ w. cc)))
+known_begun reads source sink (Err fault.OutOfMemory) source' sink' bytes e r = some_known reads source sink _ source' sink' bytes e r (some_of_all _ sink.contents sink'.contents (r.answered (λ w. cc)))
+known_begun reads source sink (Err fault.Reader) source' sink' bytes e r = some_known reads source sink _ source' sink' bytes e r (some_of_all _ sink.contents sink'.contents (r.answered (λ w. cc)))
+known_begun reads source sink (Err fault.TooManyReads) source' sink' bytes e r = some_known reads source sink _ source' sink' bytes e r (some_of_all _ sink.contents sink'.contents (r.answered (λ w. cc)))
+known_begun reads source sink (Err fault.Writer) source' sink' bytes e r = some_known reads source sink _ source' sink' bytes e r (r.begun refl)

@@ -4,7 +4,7 @@ use Rattle.std.specs.Io.KnownBytes.{Keeps, Consumes, IsAtEnd}
 use Rattle.ts_core.specs.io.Devices.{Input}
 use Rattle.ts_core.specs.io.ReadingAhead.{Ahead, pending, bit, one_if_device, weight}
 use Rattle.ts_core.specs.declared.io.read_ahead.ReadFault.{ReadFault}
-use Rattle.ts_core.specs.declared.io.read_ahead.ReadFault.TheVariants.{Turns}
+use Rattle.ts_core.specs.declared.io.read_ahead.ReadFault.TheVariants.{TooManyReads}
 use Rattle.ts_script.specs.ScriptLines.{lines_of, ended_lines, script_line_limit}
 use Rattle.ts_script.specs.declared.line_reader.Next.{Next}
 use Rattle.ts_script.specs.declared.line_reader.Next.TheVariants.{Line, TooLong, End}
@@ -73,10 +73,10 @@ pub record IsLineEnd (bytes : List ℕ) (end : ℕ) : Type 0 where
 pub record TakesBuffered (old : ReaderState) (lf : Bool) (new : ReaderState) : Type 0 where
   pub found : lf ≡ has_lf old.ahead.buffered
   pub buffered : new.ahead.buffered ≡ after_line old.ahead.buffered
-  pub turns : new.ahead.turns ≡ old.ahead.turns
+  pub reads : new.ahead.reads ≡ old.ahead.reads
   pub ended : new.ahead.ended ≡ old.ahead.ended
   pub limit : new.ahead.limit ≡ old.ahead.limit
-  pub within : new.ahead.turns ≤ new.ahead.limit
+  pub within : new.ahead.reads ≤ new.ahead.limit
   pub less : weight new.ahead + bit lf ≤ weight old.ahead
 
 -- and these are the next bytes of the line
@@ -88,10 +88,10 @@ pub record CallsReader {T : Type 0} (old : Ahead) (source : Input) (result : Res
   pub end : EndIsOver new source'
   pub stays : OnErr result (new.ended ≡ false)
   pub allowed : new.limit ≡ old.limit
-  pub within : new.turns ≤ new.limit
-  pub limit : result ≡ Err Turns → new.turns ≡ new.limit
+  pub within : new.reads ≤ new.limit
+  pub limit : result ≡ Err TooManyReads → new.reads ≡ new.limit
   pub failures : source'.failures ≡ source.failures + one_if_device result
-  pub turns : source'.turns + old.turns ≡ source.turns + new.turns
+  pub reads : source'.reads + old.reads ≡ source.reads + new.reads
   pub ends : source'.ends + bit old.ended ≡ source.ends + bit new.ended
 
 -- one read; it returns false at the end of input
@@ -101,7 +101,7 @@ pub record IsReadOn (old : ReaderState) (source : Input) (result : Result Bool R
   pub more : IfOk result (λ more. more ≡ not new.ahead.ended)
   pub line : new.line ≡ old.line
   pub long : new.long ≡ old.long
-  pub turn : OnOk result (new.ahead.turns ≡ old.ahead.turns + 1)
+  pub read_once : OnOk result (new.ahead.reads ≡ old.ahead.reads + 1)
   pub less : OnOk result (weight new.ahead < weight old.ahead)
 
 -- the next line: its bytes are consumed with its LF, or to the end of input

@@ -160,55 +160,55 @@ pub data Counts (opening : Settings) (h : History) (measurement field : Text) (a
   counts_no_memory : IsInterval (b -ℤ a) → Counts opening h measurement field a b (line memory_text)
 
 -- From `old`, a command may print this text and lead to that state.
-pub data Does (old : State) : Command → Text → State → Type 0 where
+pub data Transition (old : State) : Command → Text → State → Type 0 where
   -- settings come before everything else; with an error, the opening ones stay
-  opens : (text : Text) (settings : Settings) → old.fresh ≡ true → settings_read text ≡ Ok settings → Does old (OpenWith text) [] (opened_with settings old)
-  refuses_settings : (text : Text) (fault : SettingsFault) → old.fresh ≡ true → settings_read text ≡ Err fault → Does old (OpenWith text) (line (settings_fault_text fault)) old
-  opens_no_memory : (text : Text) → old.fresh ≡ true → Does old (OpenWith text) (line memory_text) old
-  opens_late : (text : Text) → old.fresh ≡ false → Does old (OpenWith text) (line unknown_text) old
-  moves : (t : ℤ) → Does old (At t) [] (at_moment t old)
-  sets : (p : TimeUnit) → Does old (SetPrecision p) [] (in_precision p old)
+  opens : (text : Text) (settings : Settings) → old.fresh ≡ true → settings_read text ≡ Ok settings → Transition old (OpenWith text) [] (opened_with settings old)
+  refuses_settings : (text : Text) (fault : SettingsFault) → old.fresh ≡ true → settings_read text ≡ Err fault → Transition old (OpenWith text) (line (settings_fault_text fault)) old
+  opens_no_memory : (text : Text) → old.fresh ≡ true → Transition old (OpenWith text) (line memory_text) old
+  opens_late : (text : Text) → old.fresh ≡ false → Transition old (OpenWith text) (line unknown_text) old
+  moves : (t : ℤ) → Transition old (At t) [] (at_moment t old)
+  sets : (p : TimeUnit) → Transition old (SetPrecision p) [] (in_precision p old)
   -- a line is written with the script's precision; without a timestamp, it has the script's time
   writes : (text : Text) (outcome : LineOutcome) (new : StoreState) (inventory : Inventory) → WritesText old.precision old.moment old.store text outcome new → GrowsBy (rules_in old) (lows_in old) (facts_of_line old text) outcome old.inventory inventory
-      → Does old (Write text) (outcome_text outcome) (with_store new inventory old)
+      → Transition old (Write text) (outcome_text outcome) (with_store new inventory old)
   writes_no_memory : (text : Text) (new : StoreState) (inventory : Inventory) → RunsOutOfMemory old.precision old.moment old.store text new → GrowsInPart (rules_in old) (lows_in old) (facts_of_line old text) old.inventory inventory
-      → Does old (Write text) (line memory_text) (with_store new inventory old)
-  shows : (e : Epoch) → Does old (SetEpoch e) [] (in_epoch e old)
+      → Transition old (Write text) (line memory_text) (with_store new inventory old)
+  shows : (e : Epoch) → Transition old (SetEpoch e) [] (in_epoch e old)
   -- unless a run is open, retention runs at the script's time, and the new marks are printed
-  retains : (steps : ℕ) (inventory : Inventory) → (IsRunOpen old.store.history → ⊥) → RunsWhole old steps inventory → Does old Retain (line (current_marks_text (with_run steps inventory old))) (with_run steps inventory old)
-  refuses_retain : IsRunOpen old.store.history → Does old Retain (line run_in_progress_text) old
-  retains_no_memory : Does old Retain (line memory_text) old
+  retains : (steps : ℕ) (inventory : Inventory) → (IsRunOpen old.store.history → ⊥) → RunsWhole old steps inventory → Transition old Retain (line (current_marks_text (with_run steps inventory old))) (with_run steps inventory old)
+  refuses_retain : IsRunOpen old.store.history → Transition old Retain (line run_in_progress_text) old
+  retains_no_memory : Transition old Retain (line memory_text) old
   -- unless a run is open, one begins at the script's time, and the new marks are printed
-  begins : (IsRunOpen old.store.history → ⊥) → Does old BeginRun (line (current_marks_text (with_begin old))) (with_begin old)
-  refuses_begin : IsRunOpen old.store.history → Does old BeginRun (line run_in_progress_text) old
-  begins_no_memory : Does old BeginRun (line memory_text) old
+  begins : (IsRunOpen old.store.history → ⊥) → Transition old BeginRun (line (current_marks_text (with_begin old))) (with_begin old)
+  refuses_begin : IsRunOpen old.store.history → Transition old BeginRun (line run_in_progress_text) old
+  begins_no_memory : Transition old BeginRun (line memory_text) old
   -- a step of the open run; without one, nothing changes
-  steps : (answer : StepAnswer) (inventory : Inventory) → IsRunOpen old.store.history → StepsTo (lows_in old) old.inventory answer inventory → Does old StepRun (step_text answer) (with_one_step answer inventory old)
-  steps_idle : (IsRunOpen old.store.history → ⊥) → Does old StepRun (step_text Done) old
+  steps : (answer : StepAnswer) (inventory : Inventory) → IsRunOpen old.store.history → StepsTo (lows_in old) old.inventory answer inventory → Transition old StepRun (step_text answer) (with_one_step answer inventory old)
+  steps_idle : (IsRunOpen old.store.history → ⊥) → Transition old StepRun (step_text Done) old
   -- the store is saved to memory and loaded back: its history stays, and so does an open run
-  reloads : (series : List Series) (inventory : Inventory) → IsReload old series inventory → Does old Reload reloaded_text (with_store (with_series series old.store) inventory old)
-  reloads_no_memory : Does old Reload (line memory_text) old
+  reloads : (series : List Series) (inventory : Inventory) → IsReload old series inventory → Transition old Reload reloaded_text (with_store (with_series series old.store) inventory old)
+  reloads_no_memory : Transition old Reload (line memory_text) old
   -- a rule is added, and its name and low index are printed; with a fault, or out of memory, nothing changes
-  adds : (text : Text) (r : Rule) (inventory : Inventory) → rule_for (settings_in old.store) text ≡ Ok r → GainsRuleCells old r inventory → Does old (AddRule text) (line (rule_text r.name (low_in old.store r))) (with_store (with_rule_added r old.store) inventory old)
-  refuses_rule : (text : Text) (fault : SettingsFault) → rule_for (settings_in old.store) text ≡ Err fault → Does old (AddRule text) (line (settings_fault_text fault)) old
-  adds_no_memory : (text : Text) → Does old (AddRule text) (line memory_text) old
+  adds : (text : Text) (r : Rule) (inventory : Inventory) → rule_for (settings_in old.store) text ≡ Ok r → GainsRuleCells old r inventory → Transition old (AddRule text) (line (rule_text r.name (low_in old.store r))) (with_store (with_rule_added r old.store) inventory old)
+  refuses_rule : (text : Text) (fault : SettingsFault) → rule_for (settings_in old.store) text ≡ Err fault → Transition old (AddRule text) (line (settings_fault_text fault)) old
+  adds_no_memory : (text : Text) → Transition old (AddRule text) (line memory_text) old
   -- the rule with the name is dropped, if there is one
-  drops : (name : Text) → is_named (rules_in old) name ≡ true → Does old (DropRule name) dropped_text (state_without_rule name old)
-  refuses_drop : (name : Text) → is_named (rules_in old) name ≡ false → Does old (DropRule name) (line unknown_rule_text) old
+  drops : (name : Text) → is_named (rules_in old) name ≡ true → Transition old (DropRule name) dropped_text (state_without_rule name old)
+  refuses_drop : (name : Text) → is_named (rules_in old) name ≡ false → Transition old (DropRule name) (line unknown_rule_text) old
   -- the certificate is set for the next query, replacing an earlier one
-  hands_in : (text : Text) → Does old (SetCertificate text) [] (with_certificate (Some (with_line_feeds text)) old)
-  hands_in_no_memory : (text : Text) → Does old (SetCertificate text) (line memory_text) old
+  hands_in : (text : Text) → Transition old (SetCertificate text) [] (with_certificate (Some (with_line_feeds text)) old)
+  hands_in_no_memory : (text : Text) → Transition old (SetCertificate text) (line memory_text) old
   -- the body of the reply, good or not; the certificate is consumed
-  replies : (text body : Text) (good : Bool) → IsReply old.store.opening old.store.history old.moment text old.certificate old.epoch good body → Does old (Query text) (line body) (with_certificate None old)
-  replies_no_memory : (text : Text) → Does old (Query text) (line memory_text) (with_certificate None old)
-  explains : (text body : Text) (good : Bool) → IsExplanation old.store.opening old.store.history old.moment text good body → Does old (Explain text) (line body) old
-  explains_no_memory : (text : Text) → Does old (Explain text) (line memory_text) old
+  replies : (text body : Text) (good : Bool) → IsReply old.store.opening old.store.history old.moment text old.certificate old.epoch good body → Transition old (Query text) (line body) (with_certificate None old)
+  replies_no_memory : (text : Text) → Transition old (Query text) (line memory_text) (with_certificate None old)
+  explains : (text body : Text) (good : Bool) → IsExplanation old.store.opening old.store.history old.moment text good body → Transition old (Explain text) (line body) old
+  explains_no_memory : (text : Text) → Transition old (Explain text) (line memory_text) old
   -- the number of raw facts: the latest of each id from the raw mark on, and of a waiting column from the mark before
-  tells_live : Does old Live (line (decimal (length (all_raw old.inventory.waiting old.store.opening old.store.history)))) old
-  counts : (measurement field answer : Text) (a b : ℤ) → a <ℤ b → Counts old.store.opening old.store.history measurement field a b answer → Does old (Count measurement field a b) answer old
-  counts_nothing : (measurement field : Text) (a b : ℤ) → b ≤ℤ a → Does old (Count measurement field a b) (line (codes "0")) old
-  refuses_count : Does old CountFault (line bad_range_text) old
-  refuses_unknown : Does old Unknown (line unknown_text) old
+  tells_live : Transition old Live (line (decimal (length (all_raw old.inventory.waiting old.store.opening old.store.history)))) old
+  counts : (measurement field answer : Text) (a b : ℤ) → a <ℤ b → Counts old.store.opening old.store.history measurement field a b answer → Transition old (Count measurement field a b) answer old
+  counts_nothing : (measurement field : Text) (a b : ℤ) → b ≤ℤ a → Transition old (Count measurement field a b) (line (codes "0")) old
+  refuses_count : Transition old CountFault (line bad_range_text) old
+  refuses_unknown : Transition old Unknown (line unknown_text) old
 
 -- From `old`, a line of a script may print this text and lead to that state.
 pub data Step (old : State) : Text → Text → State → Type 0 where
@@ -216,7 +216,7 @@ pub data Step (old : State) : Text → Text → State → Type 0 where
   no_text : (bytes : Text) → (IsUtf8 bytes → ⊥) → Step old bytes (line unknown_text) (no_longer_fresh old)
   -- a blank line or a comment
   skips : (bytes : Text) → length bytes ≤ script_line_limit → IsUtf8 bytes → is_skipped bytes ≡ true → Step old bytes [] old
-  does : (bytes answer : Text) (new : State) → length bytes ≤ script_line_limit → IsUtf8 bytes → is_skipped bytes ≡ false → Does old (command_of bytes) answer new → Step old bytes answer (no_longer_fresh new)
+  does : (bytes answer : Text) (new : State) → length bytes ≤ script_line_limit → IsUtf8 bytes → is_skipped bytes ≡ false → Transition old (command_of bytes) answer new → Step old bytes answer (no_longer_fresh new)
 
 -- Lines may print these answers, one after another.
 abbrev pub Prints : State → List Text → List Text → State → Type 0

@@ -13,7 +13,7 @@ use Rattle.ts_reply.specs.Explaining.{IsExplanation}
 use Rattle.ts_reply.specs.declared.epoch.Epoch.{Epoch}
 use Rattle.ts_reply.specs.declared.epoch.Epoch.TheVariants as epochs
 use Rattle.ts_script.specs.Commands.{Command}
-use Rattle.ts_script.specs.Machine.{State, no_longer_fresh, Does, Step}
+use Rattle.ts_script.specs.Machine.{State, no_longer_fresh, Transition, Step}
 use Rattle.ts_script.specs.ScriptReplies.{line, unknown_text}
 
 pub record MachineState : Type 0 where
@@ -46,8 +46,8 @@ abbrev pub HasExplanation : State → Text → Text → Type 0
 HasExplanation s text answer = (body : Text) × ((good : Bool) × IsExplanation s.store.opening s.store.history s.moment text good body) × (answer ≡ line body)
 
 -- from this state, the machine represents a state that the command may lead to
-abbrev pub Did : Command → State → Text → MachineState → Type 0
-Did command s answer m = (s' : State) × Does s command answer s' × IsMachineIn s' m
+abbrev pub TransitionTo : Command → State → Text → MachineState → Type 0
+TransitionTo command s answer m = (s' : State) × Transition s command answer s' × IsMachineIn s' m
 
 -- a line that isn't text or is too long was answered as an unknown command
 abbrev pub Refused : State → Text → MachineState → Type 0

@@ -9,7 +9,7 @@ use Rattle.ts_image.specs.declared.save_fault.SaveFault.{SaveFault}
 use Rattle.ts_image.specs.declared.save_fault.SaveFault.TheVariants as saving
 use Rattle.ts_image.specs.declared.version.Version.TheVariants.{V2}
 use Rattle.ts_image.specs.Images.{image, image_text}
-use Rattle.ts_image.specs.Saving.{IsOrder, FitsImage, image_of}
+use Rattle.ts_image.specs.Saving.{IsOrder, FitsImage, store_image}
 use Rattle.ts_image.specs.StoresMade.{IsStoreOf}
 use Rattle.ts_script.specs.declared.reloading.ReloadFault.{ReloadFault}
 use Rattle.ts_script.specs.declared.reloading.ReloadFault.TheVariants.{OutOfMemory, NotAccepted}
@@ -18,8 +18,8 @@ use Rattle.ts_script.specs.declared.reloading.ReloadFault.TheVariants.{OutOfMemo
 pub record IsImageIn (k : StoreData) (bytes : List ℕ) : Type 0 where
   pub order : List SavedSeries
   pub ordered : IsOrder k order
-  pub fits : (image V2).fits (image_of k order)
-  pub text : bytes ≡ image_text V2 (image_of k order)
+  pub fits : (image V2).fits (store_image k order)
+  pub text : bytes ≡ image_text V2 (store_image k order)
 
 -- the data of the store doesn't fit the form of images
 abbrev pub DoesNotFit : StoreData → Type 0
@@ -30,7 +30,7 @@ pub record IsReloadOf (old new : StoreData) : Type 0 where
   pub order : List SavedSeries
   pub ordered : IsOrder old order
   pub sized : IsSized old
-  pub made : IsStoreOf (image_of old order) new
+  pub made : IsStoreOf (store_image old order) new
 
 -- ---- errors
 
@@ -47,5 +47,5 @@ load_failed loading.OtherVersion = NotAccepted
 load_failed (loading.Misshapen n) = NotAccepted
 load_failed loading.Contradiction = NotAccepted
 load_failed loading.Device = OutOfMemory
-load_failed loading.Turns = OutOfMemory
+load_failed loading.TooManyReads = OutOfMemory
 load_failed loading.OutOfMemory = OutOfMemory

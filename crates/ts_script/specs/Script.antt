@@ -9,7 +9,7 @@ use Rattle.ts_script.specs.ScriptLines.{lines_read}
 use Rattle.ts_script.specs.Machine.{State, start, Prints}
 use Rattle.ts_script.specs.RunFaults.{one_if_reader, one_if_writer}
 use Rattle.ts_script.specs.declared.run_fault.RunFault.{RunFault}
-use Rattle.ts_script.specs.declared.run_fault.RunFault.TheVariants.{OutOfMemory, Writer, Turns}
+use Rattle.ts_script.specs.declared.run_fault.RunFault.TheVariants.{OutOfMemory, Writer, TooManyReads}
 
 -- the output consists of the answers to these lines
 pub record IsScript (lines : List Text) (output : Text) : Type 0 where
@@ -39,8 +39,8 @@ pub record HasRead (source : Input) (came : Text) (ended : Bool) (source' : Inpu
   pub end : ended ≡ true → IsAtEnd source'.remaining
   pub ends : source'.ends ≡ source.ends + bit ended
 
--- the effect on its devices of a replay that reads at most `turns` times, with this result
-pub record IsReplay {T : Type 0} (turns : ℕ) (source : Input) (sink : Output) (result : Result T RunFault) (source' : Input) (sink' : Output) : Type 0 where
+-- the effect on its devices of a replay that reads at most `reads` times, with this result
+pub record IsReplay {T : Type 0} (reads : ℕ) (source : Input) (sink : Output) (result : Result T RunFault) (source' : Input) (sink' : Output) : Type 0 where
   -- the bytes that were read, and a flag that is true if the end of input was read; without a fault it was
   pub came : Text
   pub ended : Bool
@@ -56,5 +56,5 @@ pub record IsReplay {T : Type 0} (turns : ℕ) (source : Input) (sink : Output) 
   pub writer : sink'.failures ≡ sink.failures + one_if_writer result
   -- the end was read, or the limit of reads was reached
   pub end : OnOk result (source'.ends ≡ source.ends + 1)
-  pub within : source'.turns ≤ source.turns + turns
-  pub limit : result ≡ Err Turns → (source'.turns ≡ source.turns + turns) × (source'.ends ≡ source.ends)
+  pub within : source'.reads ≤ source.reads + reads
+  pub limit : result ≡ Err TooManyReads → (source'.reads ≡ source.reads + reads) × (source'.ends ≡ source.ends)

@@ -11,8 +11,8 @@ abbrev pub script_line_limit : ℕ
 script_line_limit = 131072
 
 -- limit of the number of reads
-abbrev pub turn_limit : ℕ
-turn_limit = 4294967296
+abbrev pub read_limit : ℕ
+read_limit = 4294967296
 
 abbrev pub lines_of : List ℕ → List (List ℕ)
 lines_of [] = []

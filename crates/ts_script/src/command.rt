@@ -165,7 +165,7 @@ fn count(text: &str) -> Command<'_>
 impl<'a> Command<'a> {
     /// Parses a line that isn't skipped. Tries `write` first, as most lines are writes.
     #[tactic(auto, using(crate::proofs::CommandLemmas::write_alone), unfolding(crate::specs::Commands::command_of))]
-    pub fn of(line: &'a str) -> Command<'a>
+    pub fn parse(line: &'a str) -> Command<'a>
         ensures { command_view result ≡ command_of line.entry.now }
     {
         if let Some(rest) = rest_behind(line, "write ") {

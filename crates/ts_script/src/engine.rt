@@ -3,7 +3,7 @@ ghost use Rattle.std.specs.Prelude.{◌≡◌, ◌≤◌, [], false, length, str
 ghost use Rattle.ts_core.specs.facts.Facts.{Text};
 ghost use Rattle.ts_core.specs.io.OutputBuffering.{IsBuffered};
 ghost use Rattle.ts_core.specs.io.ReadingAhead.{nothing_ahead};
-ghost use Rattle.ts_script.specs.ScriptLines.{script_line_limit, turn_limit};
+ghost use Rattle.ts_script.specs.ScriptLines.{script_line_limit, read_limit};
 ghost use Rattle.ts_script.specs.LineReading.{IsTextOf, has_lf};
 ghost use Rattle.ts_script.specs.ScriptReplies.{text_of};
 ghost use Rattle.ts_script.specs.Machine.{State, start};
@@ -23,7 +23,7 @@ use ts_core::{OutputBuffer, Refused, Sink, Source};
 const BUFFER_SIZE: usize = 8_192;
 
 /// Limit of the number of reads.
-const TURN_LIMIT: u64 = 4_294_967_296;
+const READ_LIMIT: u64 = 4_294_967_296;
 
 /// Answers the line that was read last.
 fn answer(machine: &mut Machine, next: Next, line: &[u8]) -> Reply
@@ -80,17 +80,17 @@ fn answer_all<R: Read, W: Write>(
     }
 }
 
-/// Answers each line of a script on the sink, beginning with an empty store and the time 0. Reads at most `turns`
+/// Answers each line of a script on the sink, beginning with an empty store and the time 0. Reads at most `reads`
 /// times. Allocates all buffers before the first line.
 pub fn run_within<R: Read, W: Write>(
     alloc: Global,
     source: &mut Source<R>,
     sink: &mut Sink<W>,
-    turns: u64,
+    reads: u64,
 ) -> Result<(), RunFault>
-    ensures { IsReplay turns source.old sink.old result source.new sink.new }
+    ensures { IsReplay reads source.old sink.old result source.new sink.new }
 {
-    let mut lines = LineReader::new(alloc, turns)?;
+    let mut lines = LineReader::new(alloc, reads)?;
     let mut text = String::with_capacity(alloc, TEXT_CAPACITY)?;
     let mut answers = OutputBuffer::new(alloc, BUFFER_SIZE)?;
     let mut machine = Machine::new(alloc)?;
@@ -110,7 +110,7 @@ pub fn run<R: Read, W: Write>(
     source: &mut Source<R>,
     sink: &mut Sink<W>,
 ) -> Result<(), RunFault>
-    ensures { IsReplay turn_limit source.old sink.old result source.new sink.new }
+    ensures { IsReplay read_limit source.old sink.old result source.new sink.new }
 {
-    run_within(alloc, source, sink, TURN_LIMIT)
+    run_within(alloc, source, sink, READ_LIMIT)
 }

@@ -44,16 +44,16 @@ impl Model for LineReader {
 
     ghost view = { λ r. record { ahead = r.ahead; line = line_so_far r.ahead.used r.borrowed r.line.items; long = r.long } };
 
-    ghost invariant = { λ r. (r.ahead.turns ≤ r.ahead.limit) × (script_line_limit ≤ vec_capacity r.line) × (vec_len r.line ≤ script_line_limit) × IsLineEnd r.ahead.buffered r.end × IfSome r.borrowed (λ borrowed. (borrowed.0 ≤ borrowed.1) × (borrowed.1 ≤ length r.ahead.used)) × (length (line_so_far r.ahead.used r.borrowed r.line.items) ≤ script_line_limit) };
+    ghost invariant = { λ r. (r.ahead.reads ≤ r.ahead.limit) × (script_line_limit ≤ vec_capacity r.line) × (vec_len r.line ≤ script_line_limit) × IsLineEnd r.ahead.buffered r.end × IfSome r.borrowed (λ borrowed. (borrowed.0 ≤ borrowed.1) × (borrowed.1 ≤ length r.ahead.used)) × (length (line_so_far r.ahead.used r.borrowed r.line.items) ≤ script_line_limit) };
 }
 
 impl LineReader {
-    /// Allocates all buffers of a reader that reads at most `turns` times.
-    pub fn new(alloc: Global, turns: u64) -> Result<LineReader, AllocError>
-        ensures { IfOk result (λ r. r.ahead ≡ nothing_ahead turns) }
+    /// Allocates all buffers of a reader that reads at most `reads` times.
+    pub fn new(alloc: Global, reads: u64) -> Result<LineReader, AllocError>
+        ensures { IfOk result (λ r. r.ahead ≡ nothing_ahead reads) }
     {
         Ok(LineReader {
-            ahead: ReadAhead::new(alloc, turns)?,
+            ahead: ReadAhead::new(alloc, reads)?,
             end: 0,
             borrowed: None,
             line: Vec::with_capacity(alloc, LINE_LIMIT)?,
@@ -109,7 +109,7 @@ impl LineReader {
     }
 
     /// Appends buffered bytes to the line, up to an LF; returns true if there was one.
-    fn take_chunk(&mut self) -> bool
+    fn consume_chunk(&mut self) -> bool
         ensures taken { TakesBuffered self.old result self.new }
         ensures line { IsLonger self.old self.new }
     {
@@ -149,7 +149,7 @@ impl LineReader {
         ensures source_calls { CallsReader self.old.ahead source.old result self.new.ahead source.new }
     {
         loop {
-            if self.take_chunk() {
+            if self.consume_chunk() {
                 return Ok(self.found());
             }
             if !self.read_on(source)? {

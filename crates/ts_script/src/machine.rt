@@ -7,7 +7,7 @@ ghost use Rattle.ts_script.specs.Machine.{State, start};
 ghost use Rattle.ts_script.specs.MarksTexts.{marks_text};
 ghost use Rattle.ts_script.specs.Commands.{OpenWith as OpenWithCommand, Write as WriteCommand, Retain as RetainCommand, BeginRun as BeginCommand, StepRun as StepCommand, Reload as ReloadCommand, AddRule as AddRuleCommand, DropRule as DropRuleCommand, SetCertificate as CertificateCommand, Query as QueryCommand, Explain as ExplainCommand, Count as CountCommand};
 ghost use Rattle.ts_script.specs.ScriptReplies.{line, text_of, written_text};
-ghost use Rattle.ts_script.specs.MachineState.{IsMachineIn, HasReply, HasExplanation, Did, Refused, Stepped};
+ghost use Rattle.ts_script.specs.MachineState.{IsMachineIn, HasReply, HasExplanation, TransitionTo, Refused, Stepped};
 
 use crate::certificate_text::with_line_feeds;
 use crate::command::{Command, is_skipped};
@@ -76,7 +76,7 @@ impl Machine {
                 if is_skipped(line) {
                     return Reply::Nothing;
                 }
-                let reply = self.apply(Command::of(text));
+                let reply = self.apply(Command::parse(text));
                 self.fresh = false;
                 reply
             }
@@ -94,7 +94,7 @@ impl Machine {
 
     /// Executes a command.
     fn apply(&mut self, command: Command<'_>) -> Reply
-        ensures { (s : State) → IsMachineIn s self.old → Did (command_view command.entry) s (text_of result) self.new }
+        ensures { (s : State) → IsMachineIn s self.old → TransitionTo (command_view command.entry) s (text_of result) self.new }
     {
         match command {
             Command::OpenWith(text) => self.open_with(text),
@@ -135,7 +135,7 @@ impl Machine {
     /// Replaces the store by an empty one with the settings of a text, or replies with their first error. Not a command
     /// once a line that isn't skipped has come.
     fn open_with(&mut self, text: &str) -> Reply
-        ensures { (s : State) → IsMachineIn s self.old → Did (OpenWithCommand text.now) s (text_of result) self.new }
+        ensures { (s : State) → IsMachineIn s self.old → TransitionTo (OpenWithCommand text.now) s (text_of result) self.new }
     {
         if !self.fresh {
             return Reply::Unknown;
@@ -152,7 +152,7 @@ impl Machine {
 
     /// Runs retention at the script's time, and replies with the marks. Allocates the text of these before the run.
     fn retain(&mut self) -> Reply
-        ensures { (s : State) → IsMachineIn s self.old → Did RetainCommand s (text_of result) self.new }
+        ensures { (s : State) → IsMachineIn s self.old → TransitionTo RetainCommand s (text_of result) self.new }
     {
         match String::with_capacity(self.alloc, MARKS_CAPACITY) {
             Ok(text) => self.retain_and_tell(text),
@@ -164,7 +164,7 @@ impl Machine {
     fn retain_and_tell(&mut self, text: String) -> Reply
         requires empty { string_len text ≡ 0 }
         requires spare { MARKS_CAPACITY ≤ string_capacity text }
-        ensures { (s : State) → IsMachineIn s self.old → Did RetainCommand s (text_of result) self.new }
+        ensures { (s : State) → IsMachineIn s self.old → TransitionTo RetainCommand s (text_of result) self.new }
     {
         if self.store.retain(self.moment).is_err() {
             return Reply::RunInProgress;
@@ -174,7 +174,7 @@ impl Machine {
 
     /// Begins a run of retention at the script's time, and replies with the marks. Allocates the text of these first.
     fn begin(&mut self) -> Reply
-        ensures { (s : State) → IsMachineIn s self.old → Did BeginCommand s (text_of result) self.new }
+        ensures { (s : State) → IsMachineIn s self.old → TransitionTo BeginCommand s (text_of result) self.new }
     {
         match String::with_capacity(self.alloc, MARKS_CAPACITY) {
             Ok(text) => self.begin_and_tell(text),
@@ -187,7 +187,7 @@ impl Machine {
     fn begin_and_tell(&mut self, text: String) -> Reply
         requires empty { string_len text ≡ 0 }
         requires spare { MARKS_CAPACITY ≤ string_capacity text }
-        ensures { (s : State) → IsMachineIn s self.old → Did BeginCommand s (text_of result) self.new }
+        ensures { (s : State) → IsMachineIn s self.old → TransitionTo BeginCommand s (text_of result) self.new }
     {
         if self.store.begin(self.moment).is_err() {
             return Reply::RunInProgress;
@@ -197,14 +197,14 @@ impl Machine {
 
     /// Takes a step of the open run, and replies with its answer.
     fn step(&mut self) -> Reply
-        ensures { (s : State) → IsMachineIn s self.old → Did StepCommand s (text_of result) self.new }
+        ensures { (s : State) → IsMachineIn s self.old → TransitionTo StepCommand s (text_of result) self.new }
     {
         Reply::Stepped(self.store.step())
     }
 
     /// Saves the store to memory, and replaces it by the store that is loaded back.
     fn reload(&mut self) -> Reply
-        ensures { (s : State) → IsMachineIn s self.old → Did ReloadCommand s (text_of result) self.new }
+        ensures { (s : State) → IsMachineIn s self.old → TransitionTo ReloadCommand s (text_of result) self.new }
     {
         match reloaded(self.alloc, &self.store) {
             Ok(store) => {
@@ -219,7 +219,7 @@ impl Machine {
     /// Adds the rule of a text, and replies with its name and low index. Allocates the text of these before the rule is
     /// added.
     fn add_rule(&mut self, text: &str) -> Reply
-        ensures { (s : State) → IsMachineIn s self.old → Did (AddRuleCommand text.now) s (text_of result) self.new }
+        ensures { (s : State) → IsMachineIn s self.old → TransitionTo (AddRuleCommand text.now) s (text_of result) self.new }
     {
         match String::with_capacity(self.alloc, RULE_CAPACITY) {
             Ok(reply) => self.add_and_tell(text, reply),
@@ -231,7 +231,7 @@ impl Machine {
     fn add_and_tell(&mut self, text: &str, reply: String) -> Reply
         requires empty { string_len reply ≡ 0 }
         requires spare { RULE_CAPACITY ≤ string_capacity reply }
-        ensures { (s : State) → IsMachineIn s self.old → Did (AddRuleCommand text.now) s (text_of result) self.new }
+        ensures { (s : State) → IsMachineIn s self.old → TransitionTo (AddRuleCommand text.now) s (text_of result) self.new }
     {
         match self.store.add_rule_text(self.alloc, self.alloc, text) {
             Ok(added) => Reply::Body(rule_line(reply, added.name.as_str(), added.low)),
@@ -242,7 +242,7 @@ impl Machine {
 
     /// Drops the rule with a name.
     fn drop_rule(&mut self, name: &str) -> Reply
-        ensures { (s : State) → IsMachineIn s self.old → Did (DropRuleCommand name.now) s (text_of result) self.new }
+        ensures { (s : State) → IsMachineIn s self.old → TransitionTo (DropRuleCommand name.now) s (text_of result) self.new }
     {
         if self.store.drop_rule(name).is_err() {
             return Reply::UnknownRule;
@@ -261,7 +261,7 @@ impl Machine {
 
     /// Sets the certificate of the next query.
     fn hand_in(&mut self, text: &str) -> Reply
-        ensures { (s : State) → IsMachineIn s self.old → Did (CertificateCommand text.now) s (text_of result) self.new }
+        ensures { (s : State) → IsMachineIn s self.old → TransitionTo (CertificateCommand text.now) s (text_of result) self.new }
     {
         match with_line_feeds(self.alloc, text) {
             Ok(certificate) => {
@@ -274,7 +274,7 @@ impl Machine {
 
     /// Answers queries. If a certificate is set, answers by it and clears it.
     fn query(&mut self, text: &str) -> Reply
-        ensures { (s : State) → IsMachineIn s self.old → Did (QueryCommand text.now) s (text_of result) self.new }
+        ensures { (s : State) → IsMachineIn s self.old → TransitionTo (QueryCommand text.now) s (text_of result) self.new }
     {
         let certificate = self.certificate.take();
         match self.reply(text, borrowed(&certificate)) {
@@ -301,7 +301,7 @@ impl Machine {
 
     /// Answers queries with their plans.
     fn explain(&self, text: &str) -> Reply
-        ensures { (s : State) → IsMachineIn s self.now → Did (ExplainCommand text.now) s (text_of result) self.now }
+        ensures { (s : State) → IsMachineIn s self.now → TransitionTo (ExplainCommand text.now) s (text_of result) self.now }
     {
         match self.explanation(text) {
             Ok(body) => Reply::Body(body),
@@ -320,7 +320,7 @@ impl Machine {
 
     /// Counts the values of a field from one time, inclusive, to another, exclusive.
     fn count(&self, measurement: &str, field: &str, from: Time, to: Time) -> Reply
-        ensures { (s : State) → IsMachineIn s self.now → Did (CountCommand measurement.now field.now from to) s (text_of result) self.now }
+        ensures { (s : State) → IsMachineIn s self.now → TransitionTo (CountCommand measurement.now field.now from to) s (text_of result) self.now }
     {
         if from < to {
             count(self.alloc, &self.store, measurement, field, from, to)
@@ -331,7 +331,7 @@ impl Machine {
 
     /// Writes a line, whose parts are in the arena; resets the arena for the next line.
     fn write(&mut self, text: &str) -> Reply
-        ensures { (s : State) → IsMachineIn s self.old → Did (WriteCommand text.now) s (text_of result) self.new }
+        ensures { (s : State) → IsMachineIn s self.old → TransitionTo (WriteCommand text.now) s (text_of result) self.new }
     {
         let written = self
             .store

@@ -33,7 +33,7 @@ impl ReloadFault {
         ensures { result ≡ load_failed fault }
     {
         match fault {
-            LoadFault::Device | LoadFault::Turns | LoadFault::OutOfMemory => {
+            LoadFault::Device | LoadFault::TooManyReads | LoadFault::OutOfMemory => {
                 ReloadFault::OutOfMemory
             }
             LoadFault::NotAnImage

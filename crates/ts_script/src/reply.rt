@@ -62,19 +62,19 @@ impl Reply {
         ensures sent { IsBuffered sink.old answers.old result (text_of self) sink.new answers.new }
     {
         match self {
-            Reply::Nothing => answers.put(b"", sink),
+            Reply::Nothing => answers.write_all(b"", sink),
             Reply::Written(outcome) => send_outcome(outcome, text, answers, sink),
-            Reply::Stepped(answer) => answers.put(step_line(answer), sink),
-            Reply::Reloaded | Reply::Dropped => answers.put(b"ok\n", sink),
-            Reply::NotAccepted => answers.put(b"fault 64\n", sink),
-            Reply::UnknownRule => answers.put(b"fault 8\n", sink),
+            Reply::Stepped(answer) => answers.write_all(step_line(answer), sink),
+            Reply::Reloaded | Reply::Dropped => answers.write_all(b"ok\n", sink),
+            Reply::NotAccepted => answers.write_all(b"fault 64\n", sink),
+            Reply::UnknownRule => answers.write_all(b"fault 8\n", sink),
             Reply::Count(count) => send_count(answers, sink, count),
-            Reply::Body(body) => answers.put(body.as_bytes(), sink),
-            Reply::NoPlan(fault) => answers.put(plan_fault_line(fault), sink),
-            Reply::Unknown => answers.put(b"fault 95\n", sink),
-            Reply::BadRange => answers.put(b"fault 74 at 0\n", sink),
-            Reply::RunInProgress => answers.put(b"fault 53\n", sink),
-            Reply::OutOfMemory => answers.put(b"fault memory\n", sink),
+            Reply::Body(body) => answers.write_all(body.as_bytes(), sink),
+            Reply::NoPlan(fault) => answers.write_all(plan_fault_line(fault), sink),
+            Reply::Unknown => answers.write_all(b"fault 95\n", sink),
+            Reply::BadRange => answers.write_all(b"fault 74 at 0\n", sink),
+            Reply::RunInProgress => answers.write_all(b"fault 53\n", sink),
+            Reply::OutOfMemory => answers.write_all(b"fault memory\n", sink),
         }
     }
 }
@@ -93,8 +93,8 @@ fn send_outcome<W: Write>(
 {
     text.clear();
     match outcome {
-        LineOutcome::Accepted => answers.put(b"ok\n", sink),
-        LineOutcome::NoLine => answers.put(b"none\n", sink),
+        LineOutcome::Accepted => answers.write_all(b"ok\n", sink),
+        LineOutcome::NoLine => answers.write_all(b"none\n", sink),
         LineOutcome::Refused(refusal) => send_made(refusal.text_to(text), text, answers, sink),
     }
 }
@@ -112,7 +112,7 @@ fn send_made<W: Write>(
     ensures sent { IsBuffered sink.old answers.old result (line (string_bytes text.old)) sink.new answers.new }
 {
     match (made, text.push_str("\n")) {
-        (Ok(()), Ok(())) => answers.put(text.as_bytes(), sink),
+        (Ok(()), Ok(())) => answers.write_all(text.as_bytes(), sink),
         _ => unreachable!(),
     }
 }
@@ -148,5 +148,5 @@ fn send_count<W: Write>(
 {
     let mut text = [b'\n'; 21];
     let start = write_digits(count, &mut text, 20);
-    answers.put(&text[start..], sink)
+    answers.write_all(&text[start..], sink)
 }

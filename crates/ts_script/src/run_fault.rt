@@ -14,14 +14,14 @@ pub enum RunFault {
     #[error("out of memory")]
     OutOfMemory,
     /// Reading standard input failed.
-    #[error("{}", FaultCode::ReaderFailed.words())]
+    #[error("{}", FaultCode::ReaderFailed.message())]
     Reader,
     /// Writing standard output failed.
-    #[error("{}", FaultCode::WriterFailed.words())]
+    #[error("{}", FaultCode::WriterFailed.message())]
     Writer,
     /// Input without an end within 2^32 reads.
-    #[error("{}", FaultCode::EndlessScript.words())]
-    Turns,
+    #[error("{}", FaultCode::EndlessScript.message())]
+    TooManyReads,
 }
 
 impl RunFault {
@@ -33,7 +33,7 @@ impl RunFault {
             RunFault::OutOfMemory => None,
             RunFault::Reader => Some(FaultCode::ReaderFailed),
             RunFault::Writer => Some(FaultCode::WriterFailed),
-            RunFault::Turns => Some(FaultCode::EndlessScript),
+            RunFault::TooManyReads => Some(FaultCode::EndlessScript),
         }
     }
 
@@ -69,7 +69,7 @@ impl From<ReadFault> for RunFault {
     fn from(fault: ReadFault) -> RunFault {
         match fault {
             ReadFault::Device => RunFault::Reader,
-            ReadFault::Turns => RunFault::Turns,
+            ReadFault::TooManyReads => RunFault::TooManyReads,
         }
     }
 }

@@ -6,7 +6,7 @@ pub mod RunsStay
 pub mod RollupMoves
 pub mod RollupExpiry
 pub mod PointsFrozen
-pub mod TurnsLeft
+pub mod BatchesLeft
 -- CellCounts
 pub mod CountsMoved
 -- RollupSteps: the steps of a run

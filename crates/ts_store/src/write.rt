@@ -1,9 +1,9 @@
 //! Writes: the text of a line, its columns, and the cells of its facts.
 
 pub(crate) mod columns;
+pub(crate) mod committing;
 pub(crate) mod creating;
 mod fault;
-pub(crate) mod putting;
 mod write_text;
 
 pub use fault::{RunInProgress, WriteFault};

@@ -337,8 +337,8 @@ fn are_equal(one: Points<'_>, other: Points<'_>) -> bool {
 fn is_made_equal(alloc: Global, count: usize) -> Result<bool, Fail> {
     let mut column = PlainColumn::new(alloc);
     put_all(&mut column, Times(1, 1, count))?;
-    let plain = PlainColumn::of(vector_of(alloc, &column)?);
-    let buffered = BufferedColumn::of(vector_of(alloc, &column)?)?;
+    let plain = PlainColumn::from_points(vector_of(alloc, &column)?);
+    let buffered = BufferedColumn::from_points(vector_of(alloc, &column)?)?;
     let more = buffered.held().checked_sub(buffered.live());
     Ok(
         buffered.live() == count

@@ -35,7 +35,7 @@ fn is_fault_or_store(alloc: Global, bytes: &[u8]) -> Result<bool, Fail> {
             let _image = saved(alloc, &store)?;
             Ok(answers)
         }
-        Err(LoadFault::Device | LoadFault::Turns | LoadFault::OutOfMemory) => Ok(false),
+        Err(LoadFault::Device | LoadFault::TooManyReads | LoadFault::OutOfMemory) => Ok(false),
         Err(_) => Ok(true),
     }
 }

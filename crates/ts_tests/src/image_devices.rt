@@ -60,22 +60,22 @@ fn a_failed_read_stops_a_load(rt: HostRuntime) -> Result<(), Fail> {
     Ok(())
 }
 
-/// Returns the fault of loading bytes one by one with at most `turns` reads, if there is one.
-fn fault_within(alloc: Global, bytes: &[u8], turns: u32) -> Option<LoadFault> {
+/// Returns the fault of loading bytes one by one with at most `reads` reads, if there is one.
+fn fault_within(alloc: Global, bytes: &[u8], reads: u32) -> Option<LoadFault> {
     let mut source = Source::new(PieceReader::new(bytes, 1, NEVER));
-    load_within(alloc, &mut source, u64::from(turns)).err()
+    load_within(alloc, &mut source, u64::from(reads)).err()
 }
 
 #[test]
 fn a_load_ends_within_its_reads(rt: HostRuntime) -> Result<(), Fail> {
     let image = worked_image(rt.alloc())?;
-    for turns in 0..538 {
-        let fault = fault_within(rt.alloc(), &image, turns);
-        assert!(rt; matches!(fault, Some(LoadFault::Turns)), "{turns}");
+    for reads in 0..538 {
+        let fault = fault_within(rt.alloc(), &image, reads);
+        assert!(rt; matches!(fault, Some(LoadFault::TooManyReads)), "{turns}");
     }
     assert!(rt; fault_within(rt.alloc(), &image, 538).is_none());
     let none = fault_within(rt.alloc(), b"TSIN", 3);
-    assert!(rt; matches!(none, Some(LoadFault::Turns)));
+    assert!(rt; matches!(none, Some(LoadFault::TooManyReads)));
     let none = fault_within(rt.alloc(), b"TSIN", 4);
     assert!(rt; matches!(none, Some(LoadFault::NotAnImage)));
     Ok(())

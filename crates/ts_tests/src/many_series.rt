@@ -80,7 +80,7 @@ impl<'a, A: Allocator + Copy> View<A> for Visited<'a, A> {
     }
 
     fn columns_of(&self, measurement: &str, field: &str) -> Columns<'_, A> {
-        Columns::of(self.index.columns_of(measurement, field), self.index)
+        Columns::new(self.index.columns_of(measurement, field), self.index)
     }
 
     fn raw_range(&self, _column: ColumnId, from: i64, to: i64) -> Points<'_> {

@@ -61,17 +61,17 @@ struct Played<'a> {
     writer: PieceWriter,
 }
 
-/// Runs a script with at most `turns` reads, or with the usual limit.
+/// Runs a script with at most `reads` reads, or with the usual limit.
 fn play<'a>(
     alloc: Global,
     reader: PieceReader<'a>,
     writer: PieceWriter,
-    turns: Option<u64>,
+    reads: Option<u64>,
 ) -> Played<'a> {
     let mut source = Source::new(reader);
     let mut sink = Sink::new(writer);
-    let result = match turns {
-        Some(turns) => run_within(alloc, &mut source, &mut sink, turns),
+    let result = match reads {
+        Some(reads) => run_within(alloc, &mut source, &mut sink, reads),
         None => run(alloc, &mut source, &mut sink),
     };
     Played {
@@ -155,15 +155,15 @@ fn a_failed_write_stops_a_script(rt: HostRuntime) -> Result<(), Fail> {
     Ok(())
 }
 
-/// Returns true if a script that is read byte by byte hasn't ended within `turns` reads, and its lines up to there are
+/// Returns true if a script that is read byte by byte hasn't ended within `reads` reads, and its lines up to there are
 /// answered.
-fn runs_out_of_reads(alloc: Global, script: &[u8], turns: usize) -> Result<bool, AllocError> {
+fn runs_out_of_reads(alloc: Global, script: &[u8], reads: usize) -> Result<bool, AllocError> {
     let reader = PieceReader::new(script, 1, NEVER);
-    let played = play(alloc, reader, ample(alloc), Some(turns as u64));
+    let played = play(alloc, reader, ample(alloc), Some(reads as u64));
     Ok(
-        matches!(played.result, Err(RunFault::Turns))
-            && played.reader.calls == turns
-            && played.writer.written == answers_to(alloc, turns)?,
+        matches!(played.result, Err(RunFault::TooManyReads))
+            && played.reader.calls == reads
+            && played.writer.written == answers_to(alloc, reads)?,
     )
 }
 
@@ -171,12 +171,12 @@ fn runs_out_of_reads(alloc: Global, script: &[u8], turns: usize) -> Result<bool,
 fn a_script_ends_within_its_reads(rt: HostRuntime) -> Result<(), Fail> {
     let alloc = rt.alloc();
     let script = script(alloc)?;
-    for turns in 0..=script.len() {
-        assert!(rt; runs_out_of_reads(alloc, &script, turns)?, "{turns}");
+    for reads in 0..=script.len() {
+        assert!(rt; runs_out_of_reads(alloc, &script, reads)?, "{turns}");
     }
     let reader = PieceReader::new(&script, 1, NEVER);
-    let turns = (script.len() as u64).saturating_add(1);
-    let played = play(alloc, reader, ample(alloc), Some(turns));
+    let reads = (script.len() as u64).saturating_add(1);
+    let played = play(alloc, reader, ample(alloc), Some(reads));
     assert!(rt; played.result.is_ok());
     assert!(rt; played.writer.written == answers_to(alloc, script.len())?);
     Ok(())
@@ -187,7 +187,7 @@ fn blank_lines_have_no_end(rt: HostRuntime) -> Result<(), Fail> {
     let lines = vec![in rt.alloc(); b'\n'; 1_000]?;
     let reader = PieceReader::new(&lines, 1, NEVER);
     let played = play(rt.alloc(), reader, ample(rt.alloc()), Some(100));
-    assert!(rt; matches!(played.result, Err(RunFault::Turns)));
+    assert!(rt; matches!(played.result, Err(RunFault::TooManyReads)));
     assert!(rt; played.reader.calls == 100 && played.reader.left.len() == 900);
     assert!(rt; played.writer.calls == 0);
     Ok(())

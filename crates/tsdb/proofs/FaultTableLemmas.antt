@@ -5,17 +5,17 @@ use Rattle.std.specs.List.{concat, range_with_len}
 use Rattle.std.proofs.lemmas.List.Folds.{concat-append}
 use Rattle.std.proofs.lemmas.List.FromFn.{map-range_with_len_more}
 use Rattle.ts_core.specs.facts.Facts.{Text}
-use Rattle.ts_core.specs.text.FaultCodes.{code_number, code_words, all_codes}
+use Rattle.ts_core.specs.text.FaultCodes.{code_number, code_message, all_codes}
 use Rattle.ts_core.specs.declared.text.fault_code.FaultCode.{FaultCode}
 use Rattle.tsdb.specs.FaultNumbers.{row_where, requested_row}
 use Rattle.tsdb.specs.FaultTables.{fault_row}
 
 -- a requested row is appended
-pub row_put : {T E : Type 0} (r : Result T E) (requested : FaultCode → Bool) (code : FaultCode) (old new digits words : Text) → requested code ≡ true → digits ≡ decimal (code_number code) → words ≡ code_words code
+pub row_put : {T E : Type 0} (r : Result T E) (requested : FaultCode → Bool) (code : FaultCode) (old new digits words : Text) → requested code ≡ true → digits ≡ decimal (code_number code) → words ≡ code_message code
     → OnOk r (new ≡ old ++ (digits ++ (32 ∷ (words ++ (10 ∷ []))))) → OnOk r (new ≡ old ++ row_where requested code)
 row_put {T} {E} (Err x) requested code old new digits words a d w e = tt
 row_put {T} {E} (Ok x) requested code old new digits words a d w e =
-    e ∙ (λ j. old ++ (d j ++ (32 ∷ (w j ++ (10 ∷ []))))) ∙ ap (λ (t : Text). old ++ t) (sym (append_assoc (decimal (code_number code)) (32 ∷ code_words code) (10 ∷ [])))
+    e ∙ (λ j. old ++ (d j ++ (32 ∷ (w j ++ (10 ∷ []))))) ∙ ap (λ (t : Text). old ++ t) (sym (append_assoc (decimal (code_number code)) (32 ∷ code_message code) (10 ∷ [])))
     ∙ ap (λ b. old ++ cond b (fault_row code) []) (sym a)
 
 -- and any other is left out

@@ -8,7 +8,7 @@ use Rattle.ts_core.specs.io.Devices.{Input, Output, AppendsFront}
 use Rattle.tsdb.specs.CommandLines.{ParsesAs, outcome_of_kind, IsPrintedAs}
 use Rattle.tsdb.specs.FaultTables.{fault_table}
 use Rattle.ts_script.specs.Script.{IsReplay}
-use Rattle.ts_script.specs.ScriptLines.{turn_limit}
+use Rattle.ts_script.specs.ScriptLines.{read_limit}
 use Rattle.ts_reply.specs.OutcomeViews.{given_text}
 use Rattle.tsdb.specs.declared.call.Answer.{Answer}
 use Rattle.tsdb.specs.declared.call.Answer.TheVariants as answer
@@ -25,7 +25,7 @@ outcome_of (Ok x) = Answered
 outcome_of (Err fault) = Stopped fault
 
 abbrev pub IsReplayed : Input → Output → Outcome → Input → Output → Type 0
-IsReplayed source sink outcome source' sink' = (result : Result ⊤ RunFault) × (outcome ≡ outcome_of result) × IsReplay turn_limit source sink result source' sink'
+IsReplayed source sink outcome source' sink' = (result : Result ⊤ RunFault) × (outcome ≡ outcome_of result) × IsReplay read_limit source sink result source' sink'
 
 -- The rows are printed, or a prefix of them if the device fails. There may be none, or the call runs out of memory.
 abbrev pub PrintsFaults : Text → Output → Outcome → Output → Type 0

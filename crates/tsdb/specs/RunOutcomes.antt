@@ -4,7 +4,7 @@ use Rattle.ts_core.specs.facts.Facts.{Text}
 use Rattle.ts_script.specs.RunFaults.{run_fault_text}
 use Rattle.tsdb.specs.declared.command_line.CliOutcome.TheVariants as cli_outcome
 use Rattle.ts_script.specs.declared.run_fault.RunFault.{RunFault}
-use Rattle.ts_script.specs.declared.run_fault.RunFault.TheVariants.{OutOfMemory, Reader, Writer, Turns}
+use Rattle.ts_script.specs.declared.run_fault.RunFault.TheVariants.{OutOfMemory, Reader, Writer, TooManyReads}
 use Rattle.tsdb.specs.declared.outcome.Outcome.{Outcome}
 use Rattle.tsdb.specs.declared.outcome.Outcome.TheVariants.{Answered, Stopped, NoScript, NoFault, NoText}
 
@@ -15,7 +15,7 @@ status_of (NoScript cli_outcome.Done) = 0
 status_of (NoScript cli_outcome.Device) = 1
 status_of (Stopped Reader) = 1
 status_of (Stopped Writer) = 1
-status_of (Stopped Turns) = 1
+status_of (Stopped TooManyReads) = 1
 status_of (NoScript cli_outcome.Wrong) = 2
 status_of NoFault = 2
 status_of NoText = 2
@@ -26,7 +26,7 @@ status_of (Stopped OutOfMemory) = 3
 abbrev pub meaning_of : RunFault → Text
 meaning_of Reader = codes "standard input could not be read"
 meaning_of Writer = codes "standard output could not be written"
-meaning_of Turns = codes "standard input did not end within 4294967296 reads"
+meaning_of TooManyReads = codes "standard input did not end within 4294967296 reads"
 meaning_of OutOfMemory = codes "there is no memory for reading the script"
 
 -- the message of a fault, with its meaning

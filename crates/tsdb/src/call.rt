@@ -21,7 +21,7 @@ use ts_core::{Sink, Source};
 use ts_script::run;
 
 /// Returns the words of the command line; the first is the program's name.
-pub fn read_words(rt: &(impl Env + AllocGlobal)) -> Result<Vec<String>, Outcome>
+pub fn read_arguments(rt: &(impl Env + AllocGlobal)) -> Result<Vec<String>, Outcome>
     ensures { IfErr result (λ outcome. (outcome ≡ NoText) ⊎ (outcome ≡ NoScript OutOfMemory)) }
 {
     let args = match env::args(rt) {
@@ -48,7 +48,7 @@ pub enum Answer<'a> {
 
 /// Carries out the action that the words of a command line request; the first is the program's name. Reads a script
 /// from the source and prints answers to the sink. `rt` prints clap's texts.
-pub fn answer_words<'a, S: AsStr, R: Read, W: Write>(
+pub fn answer_arguments<'a, S: AsStr, R: Read, W: Write>(
     rt: &(impl AllocGlobal + Print + Eprint),
     words: &'a [S],
     source: &mut Source<R>,
@@ -75,7 +75,7 @@ fn print_faults<W: Write>(alloc: Global, number: Option<&str>, sink: &mut Sink<W
     if table.is_empty() {
         return Outcome::NoFault;
     }
-    match sink.put(table.as_bytes()) {
+    match sink.write_all(table.as_bytes()) {
         Ok(()) => Outcome::NoScript(CliOutcome::Done),
         Err(_) => Outcome::NoScript(CliOutcome::Device),
     }

@@ -27,7 +27,7 @@ fn row_to(text: &mut String, requested: Option<&str>, code: FaultCode) -> Result
     if !is_wanted(requested, digits) {
         return Ok(());
     }
-    push_all(text, &[digits, " ", code.words(), "\n"])
+    push_all(text, &[digits, " ", code.message(), "\n"])
 }
 
 /// Appends the row of the fault with this number, if it exists and is requested.

@@ -1,7 +1,7 @@
 //! The program `tsdb`. It runs scripts from standard input (`tsdb replay`), serves HTTP requests (`tsdb serve`) and
 //! prints the meaning of faults (`tsdb faults`). Depends on ts_script, ts_http and ts_store.
 //!
-//! Proved: a call has the effect that specs/Calls defines for its words and standard input (`call::answer_words`), and
+//! Proved: a call has the effect that specs/Calls defines for its words and standard input (`call::answer_arguments`), and
 //! requests change a store as ts_http defines them (`requests::serve_on`). Sockets, the clock and files have no
 //! contract.
 //!
@@ -20,7 +20,7 @@ mod requests;
 mod service;
 mod timed;
 
-use call::{Answer, answer_words, read_words};
+use call::{Answer, answer_arguments, read_arguments};
 use outcome::end;
 use service::serve;
 use std::io;
@@ -28,13 +28,13 @@ use std::process::ExitCode;
 use ts_core::{Sink, Source};
 
 fn main(rt: HostRuntime) -> ExitCode {
-    let words = match read_words(&rt) {
+    let words = match read_arguments(&rt) {
         Ok(words) => words,
         Err(outcome) => return end(&rt, outcome),
     };
     let mut source = Source::new(rt.reader());
     let mut sink = Sink::new(io::writer(&rt));
-    match answer_words(&rt, words.as_slice(), &mut source, &mut sink) {
+    match answer_arguments(&rt, words.as_slice(), &mut source, &mut sink) {
         Answer::Outcome(outcome) => end(&rt, outcome),
         Answer::Service(service) => serve(&rt, &service),
     }

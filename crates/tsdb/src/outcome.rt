@@ -36,7 +36,7 @@ impl Outcome {
     {
         match self {
             Outcome::Answered | Outcome::NoScript(CliOutcome::Done) => 0,
-            Outcome::Stopped(RunFault::Reader | RunFault::Writer | RunFault::Turns)
+            Outcome::Stopped(RunFault::Reader | RunFault::Writer | RunFault::TooManyReads)
             | Outcome::NoScript(CliOutcome::Device) => 1,
             Outcome::NoScript(CliOutcome::Wrong) | Outcome::NoFault | Outcome::NoText => 2,
             Outcome::Stopped(RunFault::OutOfMemory) | Outcome::NoScript(CliOutcome::OutOfMemory) =>
@@ -83,7 +83,7 @@ fn stopped_line(fault: RunFault) -> &'static str
     match fault {
         RunFault::Reader => "fault 96: standard input could not be read",
         RunFault::Writer => "fault 97: standard output could not be written",
-        RunFault::Turns => "fault 98: standard input did not end within 4294967296 reads",
+        RunFault::TooManyReads => "fault 98: standard input did not end within 4294967296 reads",
         RunFault::OutOfMemory => "fault memory: there is no memory for reading the script",
     }
 }

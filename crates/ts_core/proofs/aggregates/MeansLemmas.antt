@@ -83,12 +83,12 @@ divides_step b a k some g d smaller =
     (zero_or r)
 
 -- a divisor of a product that is coprime to the first factor divides the second; n bounds the recursion
-divides : (n b : ℕ) → b ≤ n → (a k : ℕ) → IsGcd a b 1 → b ∣ a * k → b ∣ k
-divides zero b h a k g d = divides_zero b a k (omega arith) g d
-divides (suc n) zero h a k g d = divides_zero zero a k refl g d
-divides (suc n) (suc b) h a k g d =
+is_aligned : (n b : ℕ) → b ≤ n → (a k : ℕ) → IsGcd a b 1 → b ∣ a * k → b ∣ k
+is_aligned zero b h a k g d = divides_zero b a k (omega arith) g d
+is_aligned (suc n) zero h a k g d = divides_zero zero a k refl g d
+is_aligned (suc n) (suc b) h a k g d =
     divides_step (suc b) a k (omega arith) g d
-    (λ m c e. divides n (a % suc b) (let some : 0 < suc b = omega arith in let l : a % suc b < suc b = mod-lt a some in omega arith) (suc b) m c e)
+    (λ m c e. is_aligned n (a % suc b) (let some : 0 < suc b = omega arith in let l : a % suc b < suc b = mod-lt a some in omega arith) (suc b) m c e)
 
 pub only_mean : (count : ℕ) (sum n m : ℤ) (d e : ℕ) → 0 < count → IsMean count sum n d → IsMean count sum m e → (n ≡ m) × (d ≡ e)
 only_mean count sum n m d e some f g =
@@ -101,7 +101,7 @@ only_mean count sum n m d e some f g =
     let right : (y * d) * count ≡ (s * e) * d = omega arith ∙ ap (λ z. z * d) b in
     let both : (x * e) * count ≡ (y * d) * count = left ∙ omega arith ∙ sym right in
     let cross : x * e ≡ y * d = sym (mul-div_cancel (x * e) some) ∙ ap (λ z. z / count) both ∙ mul-div_cancel (y * d) some in
-    let p : d ∣ e = divides d d (omega arith) x e f.lowest (subst (λ z. d ∣ z) (sym cross) (dvd-mul_left d y)) in
-    let q : e ∣ d = divides e e (omega arith) y d g.lowest (subst (λ z. e ∣ z) cross (dvd-mul_left e x)) in
+    let p : d ∣ e = is_aligned d d (omega arith) x e f.lowest (subst (λ z. d ∣ z) (sym cross) (dvd-mul_left d y)) in
+    let q : e ∣ d = is_aligned e e (omega arith) y d g.lowest (subst (λ z. e ∣ z) cross (dvd-mul_left e x)) in
     let same : d ≡ e = dvd_antisymm p q in
     (times_cancel n m count some (f.exact ∙ ap (λ z. sum *ℤ pos z) same ∙ sym g.exact), same)

@@ -6,7 +6,7 @@ use Rattle.ts_core.specs.lists.Members.{Among}
 use Rattle.ts_core.specs.facts.Facts.{Column, Fact, Series}
 use Rattle.ts_core.specs.settings.Settings.{Rule}
 use Rattle.ts_core.specs.store.Cells.{Cell}
-use Rattle.ts_core.specs.moves.Runs.{turns_of, turns_left, steps_left, Falls, steps_in, last_left}
+use Rattle.ts_core.specs.moves.Runs.{batches_of, batches_left, steps_left, Falls, count_steps, last_left}
 use Rattle.ts_core.specs.store.StoreStates.{ColumnPoints, column_of, facts_of}
 use Rattle.ts_core.specs.store.StoreData.{CellMap, StoreData, rules_of, state_of}
 use Rattle.ts_core.specs.moves.StoreMoves.{kept_points, points_below, all_moved, column_moved, raised, run_begun, run_ended, GainsEmptyCells, GainEmptyCells, grown, put_cells, PutsFacts, put_facts}
@@ -25,20 +25,20 @@ BelowSame low m n = length (filter (λ (k : Cell). int_lt k.index low) (finmap.k
 below_by_keys : (low : ℤ) (m n : CellMap) → finmap.keys n ≡ finmap.keys m → BelowSame low m n
 below_by_keys low m n e = ap (λ ks. length (filter (λ (k : Cell). int_lt k.index low) ks)) e
 
-turns_moved : (rs : List Rule) (lows : List ℤ) (c : Column) (ps : List (ℤ × ℤ)) (left : List Fact) (ms : List CellMap) → turns_left (rules_of rs lows (all_moved rs c ps left ms)) ≡ turns_left (rules_of rs lows ms)
+turns_moved : (rs : List Rule) (lows : List ℤ) (c : Column) (ps : List (ℤ × ℤ)) (left : List Fact) (ms : List CellMap) → batches_left (rules_of rs lows (all_moved rs c ps left ms)) ≡ batches_left (rules_of rs lows ms)
 turns_moved [] lows c ps left ms = refl
 turns_moved (r ∷ rs) [] c ps left ms = refl
 turns_moved (r ∷ rs) (low ∷ lows) c ps left [] = refl
-turns_moved (r ∷ rs) (low ∷ lows) c ps left (m ∷ ms) = ap₂ (λ a b. turns_of a + b) (below_by_keys low m _ (keys_column r c ps left m)) (turns_moved rs lows c ps left ms)
+turns_moved (r ∷ rs) (low ∷ lows) c ps left (m ∷ ms) = ap₂ (λ a b. batches_of a + b) (below_by_keys low m _ (keys_column r c ps left m)) (turns_moved rs lows c ps left ms)
 
-turns_put : (rs : List Rule) (lows : List ℤ) (f : Fact) (facts : List Fact) (ms : List CellMap) → turns_left (rules_of rs lows (put_cells rs f facts ms)) ≡ turns_left (rules_of rs lows ms)
+turns_put : (rs : List Rule) (lows : List ℤ) (f : Fact) (facts : List Fact) (ms : List CellMap) → batches_left (rules_of rs lows (put_cells rs f facts ms)) ≡ batches_left (rules_of rs lows ms)
 turns_put [] lows f facts ms = refl
 turns_put (r ∷ rs) [] f facts ms = refl
 turns_put (r ∷ rs) (low ∷ lows) f facts [] = refl
-turns_put (r ∷ rs) (low ∷ lows) f facts (m ∷ ms) = ap₂ (λ a b. turns_of a + b) (below_by_keys low m _ (put_cell-keys r f facts m)) (turns_put rs lows f facts ms)
+turns_put (r ∷ rs) (low ∷ lows) f facts (m ∷ ms) = ap₂ (λ a b. batches_of a + b) (below_by_keys low m _ (put_cell-keys r f facts m)) (turns_put rs lows f facts ms)
 
-turns_line : (rs : List Rule) (lows : List ℤ) (fs : List Fact) (before after : List ColumnPoints) (ms ns : List CellMap) → PutsFacts rs before ms after ns fs → turns_left (rules_of rs lows ns) ≡ turns_left (rules_of rs lows ms)
-turns_line rs lows [] before after ms ns p = ap (λ xs. turns_left (rules_of rs lows xs)) p.1
+turns_line : (rs : List Rule) (lows : List ℤ) (fs : List Fact) (before after : List ColumnPoints) (ms ns : List CellMap) → PutsFacts rs before ms after ns fs → batches_left (rules_of rs lows ns) ≡ batches_left (rules_of rs lows ms)
+turns_line rs lows [] before after ms ns p = ap (λ xs. batches_left (rules_of rs lows xs)) p.1
 turns_line rs lows (f ∷ fs) before after ms ns p = turns_line rs lows fs p.0 after (put_cells rs f (facts_of p.0) ms) ns p.2 ∙ turns_put rs lows f (facts_of p.0) ms
 
 -- ---- room
@@ -57,22 +57,22 @@ module _ (r : Rule) (low : ℤ) (facts : List Fact) (m n : CellMap) (spare : Gai
       length-same (filter is_below (finmap.keys n)) (filter is_below (finmap.keys m)) (AllDistinct-filter is_below (finmap.keys n) (keys_once n)) (AllDistinct-filter is_below (finmap.keys m) (keys_once m))
       (below_of n m (λ k l. sym (spare.above k l))) (below_of m n spare.above)
 
-turns_roomed : (rs : List Rule) (lows : List ℤ) (facts : List Fact) (ms ns : List CellMap) → GainEmptyCells rs lows facts ms ns → turns_left (rules_of rs lows ns) ≡ turns_left (rules_of rs lows ms)
+turns_roomed : (rs : List Rule) (lows : List ℤ) (facts : List Fact) (ms ns : List CellMap) → GainEmptyCells rs lows facts ms ns → batches_left (rules_of rs lows ns) ≡ batches_left (rules_of rs lows ms)
 turns_roomed [] lows facts ms ns e = refl
 turns_roomed (r ∷ rs) [] facts ms ns e = refl
 turns_roomed (r ∷ rs) (low ∷ lows) facts [] [] e = refl
 turns_roomed (r ∷ rs) (low ∷ lows) facts [] (n ∷ ns) e = absurd e
 turns_roomed (r ∷ rs) (low ∷ lows) facts (m ∷ ms) [] e = absurd e
-turns_roomed (r ∷ rs) (low ∷ lows) facts (m ∷ ms) (n ∷ ns) e = ap₂ (λ a b. turns_of a + b) (below_roomed r low facts m n e.0) (turns_roomed rs lows facts ms ns e.1)
+turns_roomed (r ∷ rs) (low ∷ lows) facts (m ∷ ms) (n ∷ ns) e = ap₂ (λ a b. batches_of a + b) (below_roomed r low facts m n e.0) (turns_roomed rs lows facts ms ns e.1)
 
 -- ---- the moves
 
 -- the number of steps left of an open run
-left_open : (k : StoreData) → k.running ≡ true → steps_left (state_of k) ≡ length k.waiting + turns_left (rules_of k.settings.rules k.marks.lows k.cells) + 1
-left_open k e = ap (λ b. cond b (length k.waiting + turns_left (rules_of k.settings.rules k.marks.lows k.cells) + 1) 0) e
+left_open : (k : StoreData) → k.running ≡ true → steps_left (state_of k) ≡ length k.waiting + batches_left (rules_of k.settings.rules k.marks.lows k.cells) + 1
+left_open k e = ap (λ b. cond b (length k.waiting + batches_left (rules_of k.settings.rules k.marks.lows k.cells) + 1) 0) e
 
-pub left-begins : (k : StoreData) (now : ℤ) → steps_left (state_of (run_begun now k)) ≡ length k.columns + turns_left (rules_of k.settings.rules (raised now k.settings.rules k.marks.lows) k.cells) + 1
-left-begins k now = ap (λ n. n + turns_left (rules_of k.settings.rules (raised now k.settings.rules k.marks.lows) k.cells) + 1) (length-map k.columns column_of)
+pub left-begins : (k : StoreData) (now : ℤ) → steps_left (state_of (run_begun now k)) ≡ length k.columns + batches_left (rules_of k.settings.rules (raised now k.settings.rules k.marks.lows) k.cells) + 1
+left-begins k now = ap (λ n. n + batches_left (rules_of k.settings.rules (raised now k.settings.rules k.marks.lows) k.cells) + 1) (length-map k.columns column_of)
 
 pub left-moves : (k : StoreData) (c : Column) (ps : List (ℤ × ℤ)) (rest : List Column) → k.running ≡ true → k.waiting ≡ c ∷ rest → steps_left (state_of k) ≡ steps_left (state_of (column_moved c ps rest k)) + 1
 left-moves k c ps rest e w =
@@ -82,13 +82,13 @@ left-moves k c ps rest e w =
     let t = turns_moved k.settings.rules k.marks.lows c (points_below k.marks.raw ps) (facts_of (map (kept_points c k.marks.raw) k.columns)) k.cells in
     omega arith
 
-pub left-ends : (k : StoreData) → k.running ≡ true → k.waiting ≡ [] → turns_left (rules_of k.settings.rules k.marks.lows k.cells) ≡ 0 → (steps_left (state_of k) ≡ 1) × (steps_left (state_of (run_ended k)) ≡ 0)
+pub left-ends : (k : StoreData) → k.running ≡ true → k.waiting ≡ [] → batches_left (rules_of k.settings.rules k.marks.lows k.cells) ≡ 0 → (steps_left (state_of k) ≡ 1) × (steps_left (state_of (run_ended k)) ≡ 0)
 left-ends k e w t =
     let a = left_open k e in
     let n : length k.waiting ≡ 0 = ap (λ (ws : List Column). length ws) w in
     (omega arith, refl)
 
-pub left-last : (k : StoreData) → k.running ≡ true → steps_left (state_of k) ≡ 1 → (k.waiting ≡ []) × (turns_left (rules_of k.settings.rules k.marks.lows k.cells) ≡ 0)
+pub left-last : (k : StoreData) → k.running ≡ true → steps_left (state_of k) ≡ 1 → (k.waiting ≡ []) × (batches_left (rules_of k.settings.rules k.marks.lows k.cells) ≡ 0)
 left-last k e l =
     let a = left_open k e in
     (nil_from_length k.waiting (omega arith), omega arith)
@@ -103,7 +103,7 @@ left-puts k columns facts ns n p = ap (λ t. cond k.running (length k.waiting + 
 
 -- ---- the bound
 
-pub falls-bound : (left : ℕ) (calls : List (Bool × ℕ)) → Falls left calls → steps_in calls + last_left left calls ≤ left
+pub falls-bound : (left : ℕ) (calls : List (Bool × ℕ)) → Falls left calls → count_steps calls + last_left left calls ≤ left
 falls-bound left [] f = omega arith
 falls-bound left ((true, l) ∷ calls) f = let h = falls-bound l calls f.1 in let e = f.0 in omega arith
 falls-bound left ((false, l) ∷ calls) f = let h = falls-bound l calls f.1 in let e = f.0 in omega arith

@@ -16,7 +16,7 @@ use Rattle.ts_core.specs.store.Marks.{first_from}
 use Rattle.ts_core.specs.aggregates.Aggregates.{empty_aggregate, aggregate_of}
 use Rattle.ts_core.specs.store.Cells.{Cell, same_cell, cell_of, is_rolled, is_in_cell, total_of}
 use Rattle.ts_core.specs.lists.Changes.{or_else}
-use Rattle.ts_core.specs.moves.Runs.{turns_of, turns_left, steps_left}
+use Rattle.ts_core.specs.moves.Runs.{batches_of, batches_left, steps_left}
 use Rattle.ts_core.specs.store.StoreStates.{ColumnPoints, RuleCells, StandsFor, lowest_of, facts_of}
 use Rattle.ts_core.specs.store.StoreData.{CellMap, StoreData, no_parts, rule_cells, rules_of, state_of, IsLive, AreLive}
 use Rattle.ts_core.specs.moves.RuleMoves.{IsFresh, IsEven, kept_beside, rule_added, rule_dropped}
@@ -117,11 +117,11 @@ module _ (p : Rule → Bool) where
         | false ↦ lives_kept columns rs ms a.1
       ]
 
-  turns_kept : (rs : List RuleCells) → turns_left (filter passes rs) ≤ turns_left rs
+  turns_kept : (rs : List RuleCells) → batches_left (filter passes rs) ≤ batches_left rs
   turns_kept [] = omega arith
   turns_kept (r ∷ rs) =
       let rest = turns_kept rs in
-      elim (p r.rule) as (λ c. turns_left (cond c (r ∷ filter passes rs) (filter passes rs)) ≤ turns_left (r ∷ rs)) [ true ↦ omega arith | false ↦ omega arith ]
+      elim (p r.rule) as (λ c. batches_left (cond c (r ∷ filter passes rs) (filter passes rs)) ≤ batches_left (r ∷ rs)) [ true ↦ omega arith | false ↦ omega arith ]
 
 pub rule_goes : (opening : Settings) (h : History) (k : StoreData) (name : Text) → StandsFor opening h (state_of k) → IsEven k → IsTrue (is_named k.settings.rules name) → StandsFor opening (DropRule name ∷ h) (state_of (rule_dropped name k))
 rule_goes opening h k name st even named =
@@ -152,7 +152,7 @@ none_expired r low facts m f =
     let p : Cell → Bool = λ (k : Cell). int_lt k.index low in
     ap (λ ks. length ks) (no_members (filter p (finmap.keys m)) (λ k a. key_not m k (Among-filter_was p k (finmap.keys m) a) (f.above k (lt_from k.index low (Among-filter_passes p k (finmap.keys m) a)))))
 
-turns_push : (rs : List RuleCells) (r : RuleCells) → turns_left (r ∷ []) ≡ 0 → turns_left (rs ++ r ∷ []) ≡ turns_left rs
+turns_push : (rs : List RuleCells) (r : RuleCells) → batches_left (r ∷ []) ≡ 0 → batches_left (rs ++ r ∷ []) ≡ batches_left rs
 turns_push [] r e = e
 turns_push (q ∷ rs) r e = let rest = turns_push rs r e in omega arith
 
@@ -160,15 +160,15 @@ pub left_added : (k : StoreData) (r : Rule) (low : ℤ) (m : CellMap) → IsEven
 left_added k r low m even fresh =
     let none = none_expired r low (facts_of k.columns) m fresh in
     ap (λ t. cond k.running (length k.waiting + t + 1) 0)
-    (ap turns_left (rules_push k.settings.rules k.marks.lows k.cells r low m even.lows even.cells)
-    ∙ turns_push (rules_of k.settings.rules k.marks.lows k.cells) (rule_cells r low m) (ap (λ n. turns_of n + 0) none))
+    (ap batches_left (rules_push k.settings.rules k.marks.lows k.cells r low m even.lows even.cells)
+    ∙ turns_push (rules_of k.settings.rules k.marks.lows k.cells) (rule_cells r low m) (ap (λ n. batches_of n + 0) none))
 
 pub left_dropped : (k : StoreData) (name : Text) → IsEven k → steps_left (state_of (rule_dropped name k)) ≤ steps_left (state_of k)
 left_dropped k name even =
     let fewer = turns_kept (is_unnamed name) (rules_of k.settings.rules k.marks.lows k.cells) in
-    let same = ap turns_left (rules_kept (is_unnamed name) k.settings.rules k.marks.lows k.cells even.lows even.cells) in
-    elim k.running as (λ b. cond b (length k.waiting + turns_left (rules_of (filter (is_unnamed name) k.settings.rules) (kept_beside (is_unnamed name) k.settings.rules k.marks.lows) (kept_beside (is_unnamed name) k.settings.rules k.cells)) + 1) 0
-    ≤ cond b (length k.waiting + turns_left (rules_of k.settings.rules k.marks.lows k.cells) + 1) 0) [
+    let same = ap batches_left (rules_kept (is_unnamed name) k.settings.rules k.marks.lows k.cells even.lows even.cells) in
+    elim k.running as (λ b. cond b (length k.waiting + batches_left (rules_of (filter (is_unnamed name) k.settings.rules) (kept_beside (is_unnamed name) k.settings.rules k.marks.lows) (kept_beside (is_unnamed name) k.settings.rules k.cells)) + 1) 0
+    ≤ cond b (length k.waiting + batches_left (rules_of k.settings.rules k.marks.lows k.cells) + 1) 0) [
       | true ↦ omega arith
       | false ↦ omega arith
     ]

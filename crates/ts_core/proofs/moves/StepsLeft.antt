@@ -4,30 +4,30 @@ use Rattle.std.proofs.lemmas.List.{length-map}
 use Rattle.ts_core.specs.facts.Facts.{Series, Column}
 use Rattle.ts_core.specs.store.Cells.{Cell}
 use Rattle.ts_core.specs.store.StoreStates.{ColumnPoints, RuleCells, StoreState, column_of}
-use Rattle.ts_core.specs.moves.Runs.{turns_of, expired_count, turns_left, steps_left}
+use Rattle.ts_core.specs.moves.Runs.{batches_of, expired_count, batches_left, steps_left}
 use Rattle.ts_core.proofs.store.Moves.{AllTwo, begun, IsMoved, columns_left, moved, expired, closed, written}
 
 -- 256 fewer, or none, are one turn fewer
-turns_of-less : (n : ℕ) → 0 < n → turns_of n ≡ turns_of (n - 256) + 1
-turns_of-less n h = omega arith
+batches_of-less : (n : ℕ) → 0 < n → batches_of n ≡ batches_of (n - 256) + 1
+batches_of-less n h = omega arith
 
-pub turns_left-same : (rs after : List RuleCells) → AllTwo (λ (r y : RuleCells). expired_count y ≡ expired_count r) rs after → turns_left after ≡ turns_left rs
-turns_left-same [] [] t = refl
-turns_left-same [] (y ∷ ys) t = absurd t
-turns_left-same (r ∷ rs) [] t = absurd t
-turns_left-same (r ∷ rs) (y ∷ ys) t = ap₂ (λ m n. turns_of m + n) t.0 (turns_left-same rs ys t.1)
+pub batches_left-same : (rs after : List RuleCells) → AllTwo (λ (r y : RuleCells). expired_count y ≡ expired_count r) rs after → batches_left after ≡ batches_left rs
+batches_left-same [] [] t = refl
+batches_left-same [] (y ∷ ys) t = absurd t
+batches_left-same (r ∷ rs) [] t = absurd t
+batches_left-same (r ∷ rs) (y ∷ ys) t = ap₂ (λ m n. batches_of m + n) t.0 (batches_left-same rs ys t.1)
 
-turns_left-less : (us : List RuleCells) (r y : RuleCells) (vs : List RuleCells) → 0 < expired_count r → expired_count y ≡ expired_count r - 256 → turns_left (us ++ r ∷ vs) ≡ turns_left (us ++ y ∷ vs) + 1
-turns_left-less [] r y vs h e = let t = turns_of-less (expired_count r) h in let f : turns_of (expired_count y) ≡ turns_of (expired_count r - 256) = ap turns_of e in omega arith
-turns_left-less (u ∷ us) r y vs h e = let ih = turns_left-less us r y vs h e in omega arith
+batches_left-less : (us : List RuleCells) (r y : RuleCells) (vs : List RuleCells) → 0 < expired_count r → expired_count y ≡ expired_count r - 256 → batches_left (us ++ r ∷ vs) ≡ batches_left (us ++ y ∷ vs) + 1
+batches_left-less [] r y vs h e = let t = batches_of-less (expired_count r) h in let f : batches_of (expired_count y) ≡ batches_of (expired_count r - 256) = ap batches_of e in omega arith
+batches_left-less (u ∷ us) r y vs h e = let ih = batches_left-less us r y vs h e in omega arith
 
 -- the number of steps left of an open run
-left_open : (s : StoreState) → s.running ≡ true → steps_left s ≡ length s.waiting + turns_left s.rules + 1
-left_open s e = ap (λ b. cond b (length s.waiting + turns_left s.rules + 1) 0) e
+left_open : (s : StoreState) → s.running ≡ true → steps_left s ≡ length s.waiting + batches_left s.rules + 1
+left_open s e = ap (λ b. cond b (length s.waiting + batches_left s.rules + 1) 0) e
 
 -- a begin leaves each column to be moved
-pub steps_left-begin : (s : StoreState) (now : ℤ) (after : List RuleCells) → steps_left (begun now after s) ≡ length s.columns + turns_left after + 1
-steps_left-begin s now after = ap (λ n. n + turns_left after + 1) (length-map s.columns column_of)
+pub steps_left-begin : (s : StoreState) (now : ℤ) (after : List RuleCells) → steps_left (begun now after s) ≡ length s.columns + batches_left after + 1
+steps_left-begin s now after = ap (λ n. n + batches_left after + 1) (length-map s.columns column_of)
 
 same_counts : (c : Column) (mark : ℤ) (before after : List ColumnPoints) (rs ys : List RuleCells) → AllTwo (IsMoved c mark before after) rs ys → AllTwo (λ (r y : RuleCells). expired_count y ≡ expired_count r) rs ys
 same_counts c mark before after [] [] t = tt
@@ -43,7 +43,7 @@ steps_left-move s c rest after e w t =
     let a = left_open s e in
     let b = left_open (moved c rest after s) e in
     let n : length s.waiting ≡ length rest + 1 = ap (λ (ws : List Column). length ws) w ∙ (let m : length (c ∷ rest) ≡ length rest + 1 = omega arith in m) in
-    let m : turns_left after ≡ turns_left s.rules = turns_left-same s.rules after (same_counts c s.marks.raw s.columns (columns_left c s) s.rules after t) in
+    let m : batches_left after ≡ batches_left s.rules = batches_left-same s.rules after (same_counts c s.marks.raw s.columns (columns_left c s) s.rules after t) in
     omega arith
 
 -- of one rule 256 cells removed, or all where there are fewer
@@ -52,26 +52,26 @@ pub steps_left-expire : (s : StoreState) (us : List RuleCells) (r y : RuleCells)
 steps_left-expire s us r y vs e w h k =
     let a = left_open s e in
     let b = left_open (expired (us ++ y ∷ vs) s) e in
-    let m : turns_left s.rules ≡ turns_left (us ++ r ∷ vs) = ap turns_left w in
-    let n = turns_left-less us r y vs h k in
+    let m : batches_left s.rules ≡ batches_left (us ++ r ∷ vs) = ap batches_left w in
+    let n = batches_left-less us r y vs h k in
     omega arith
 
 -- nothing is left but the end
-pub steps_left-close : (s : StoreState) → s.running ≡ true → s.waiting ≡ [] → turns_left s.rules ≡ 0 → (steps_left s ≡ 1) × (steps_left (closed s) ≡ 0)
+pub steps_left-close : (s : StoreState) → s.running ≡ true → s.waiting ≡ [] → batches_left s.rules ≡ 0 → (steps_left s ≡ 1) × (steps_left (closed s) ≡ 0)
 steps_left-close s e w t =
     let a = left_open s e in
     let n : length s.waiting ≡ 0 = ap (λ (ws : List Column). length ws) w in
     (omega arith, refl)
 
 -- one step is left only where nothing waits and no cell is below its low index
-pub steps_left-last : (s : StoreState) → s.running ≡ true → steps_left s ≡ 1 → (length s.waiting ≡ 0) × (turns_left s.rules ≡ 0)
+pub steps_left-last : (s : StoreState) → s.running ≡ true → steps_left s ≡ 1 → (length s.waiting ≡ 0) × (batches_left s.rules ≡ 0)
 steps_left-last s e k = let a = left_open s e in (omega arith, omega arith)
 
-pub turns_left-none : (us : List RuleCells) (r : RuleCells) (vs : List RuleCells) → turns_left (us ++ r ∷ vs) ≡ 0 → expired_count r ≡ 0
-turns_left-none [] r vs e = omega arith
-turns_left-none (u ∷ us) r vs e = turns_left-none us r vs (omega arith)
+pub batches_left-none : (us : List RuleCells) (r : RuleCells) (vs : List RuleCells) → batches_left (us ++ r ∷ vs) ≡ 0 → expired_count r ≡ 0
+batches_left-none [] r vs e = omega arith
+batches_left-none (u ∷ us) r vs e = batches_left-none us r vs (omega arith)
 
 -- a write adds no cell below a low index
 pub steps_left-write : (s : StoreState) (series : List Series) (columns : List ColumnPoints) (rules : List RuleCells) → AllTwo (λ (r y : RuleCells). expired_count y ≡ expired_count r) s.rules rules
     → steps_left (written series columns rules s) ≡ steps_left s
-steps_left-write s series columns rules t = ap (λ n. cond s.running (length s.waiting + n + 1) 0) (turns_left-same s.rules rules t)
+steps_left-write s series columns rules t = ap (λ n. cond s.running (length s.waiting + n + 1) 0) (batches_left-same s.rules rules t)

@@ -8,7 +8,7 @@ use Rattle.ts_core.specs.facts.Facts.{Text, same_text}
 use Rattle.ts_core.specs.settings.Settings.{Rule}
 use Rattle.ts_core.specs.queries.Queries.{Query}
 use Rattle.ts_core.specs.store.Marks.{index_of}
-use Rattle.ts_core.specs.plans.Pieces.{Source, Raw, Rollup, Piece, MarkedRule, QueryContext, rule_named, start_of, IsBoundary, Divides, IsInOneBucket, RuleServes, SourceServes, IsValidPiece, Covers}
+use Rattle.ts_core.specs.plans.Pieces.{Source, Raw, Rollup, Piece, MarkedRule, QueryContext, rule_named, start_of, IsBoundary, IsAligned, IsInOneBucket, RuleServes, SourceServes, IsValidPiece, Covers}
 use Rattle.ts_core.specs.plans.Plans.{ReachesEnd, rollup_piece, LeadsOn}
 use Rattle.ts_core.proofs.settings.Intervals.{IsWide}
 use Rattle.ts_core.proofs.aggregates.BucketsOrder.{one_more, times_le, bucket_le, bucket_of-start}
@@ -70,7 +70,7 @@ part_in_one q a c d b s x y z e =
     let l3 = bucket_le (d -ℤ pos 1) (b -ℤ pos 1) i o s (omega (arith, ints)) in
     omega (arith, ints)
 
-fits_part : (q : Query) (r : Rule) (a c d b : ℤ) → pos 1 ≤ℤ q.interval → a ≤ℤ c → c <ℤ d → d ≤ℤ b → Divides r q ⊎ IsInOneBucket q a b → Divides r q ⊎ IsInOneBucket q c d
+fits_part : (q : Query) (r : Rule) (a c d b : ℤ) → pos 1 ≤ℤ q.interval → a ≤ℤ c → c <ℤ d → d ≤ℤ b → IsAligned r q ⊎ IsInOneBucket q a b → IsAligned r q ⊎ IsInOneBucket q c d
 fits_part q r a c d b s x y z (inl e) = inl e
 fits_part q r a c d b s x y z (inr e) = inr (part_in_one q a c d b s x y z e)
 

@@ -9,9 +9,9 @@ use Rattle.ts_core.specs.settings.Settings.{Rule, Settings}
 use Rattle.ts_core.specs.aggregates.Buckets.{bucket_of}
 use Rattle.ts_core.specs.store.Marks.{Marks, index_of}
 use Rattle.ts_core.specs.queries.Queries.{Query}
-use Rattle.ts_core.specs.plans.Pieces.{Source, Raw, Rollup, Piece, MarkedRule, QueryContext, query_context, rule_named, start_of, Divides, IsInOneBucket, tags_of, RuleServes, SourceServes, IsValidPiece, Covers, IsValidFrom, IsValid}
+use Rattle.ts_core.specs.plans.Pieces.{Source, Raw, Rollup, Piece, MarkedRule, QueryContext, query_context, rule_named, start_of, IsAligned, IsInOneBucket, tags_of, RuleServes, SourceServes, IsValidPiece, Covers, IsValidFrom, IsValid}
 use Rattle.ts_core.specs.settings.SettingsFaults.{unless}
-use Rattle.ts_core.specs.plans.Faults.{Fault, Gap, NoSuchRule, divides, is_in_one_bucket, rule_fault, source_fault, piece_fault, gap_at, or_fault, pieces_fault, or_gap, fault_from, first_fault}
+use Rattle.ts_core.specs.plans.Faults.{Fault, Gap, NoSuchRule, is_aligned, is_in_one_bucket, rule_fault, source_fault, piece_fault, gap_at, or_fault, pieces_fault, or_gap, fault_from, first_fault}
 use Rattle.ts_core.proofs.lists.Comparisons.{le_from, le_true, lt_from, lt_true, same_text-from_eq, all_among, among_all}
 use Rattle.ts_core.proofs.facts.Ids.{same_text-eq}
 
@@ -23,16 +23,16 @@ well_none : (b : Bool) (f : Fault) (next : Option Fault) → b ≡ true → next
 well_none true f next h k = k
 well_none false f next h k = absurd (true≢false (sym h))
 
-fits_from : (r : Rule) (q : Query) (a b : ℤ) → (divides r q || is_in_one_bucket q a b) ≡ true → Divides r q ⊎ IsInOneBucket q a b
+fits_from : (r : Rule) (q : Query) (a b : ℤ) → (is_aligned r q || is_in_one_bucket q a b) ≡ true → IsAligned r q ⊎ IsInOneBucket q a b
 fits_from r q a b h =
-    elim (or_cases (divides r q) (is_in_one_bucket q a b) h) as (λ _. Divides r q ⊎ IsInOneBucket q a b) [
+    elim (or_cases (is_aligned r q) (is_in_one_bucket q a b) h) as (λ _. IsAligned r q ⊎ IsInOneBucket q a b) [
       | inl d ↦ let p = and_parts (int_eq (int_rem_euclid q.interval r.interval) (pos 0)) _ d in inl (record { interval = (Decides-int_eq (int_rem_euclid q.interval r.interval) (pos 0)).0 p.0; offset = (Decides-int_eq (int_rem_euclid (q.offset -ℤ r.offset) r.interval) (pos 0)).0 p.1 })
       | inr d ↦ inr ((Decides-int_eq (bucket_of a q.interval q.offset) (bucket_of (b -ℤ pos 1) q.interval q.offset)).0 d)
     ]
 
-fits_true : (r : Rule) (q : Query) (a b : ℤ) → Divides r q ⊎ IsInOneBucket q a b → (divides r q || is_in_one_bucket q a b) ≡ true
+fits_true : (r : Rule) (q : Query) (a b : ℤ) → IsAligned r q ⊎ IsInOneBucket q a b → (is_aligned r q || is_in_one_bucket q a b) ≡ true
 fits_true r q a b (inl d) = or_left _ _ (and_from _ _ ((Decides-int_eq (int_rem_euclid q.interval r.interval) (pos 0)).1 d.interval) ((Decides-int_eq (int_rem_euclid (q.offset -ℤ r.offset) r.interval) (pos 0)).1 d.offset))
-fits_true r q a b (inr d) = or_right (divides r q) _ ((Decides-int_eq (bucket_of a q.interval q.offset) (bucket_of (b -ℤ pos 1) q.interval q.offset)).1 d)
+fits_true r q a b (inr d) = or_right (is_aligned r q) _ ((Decides-int_eq (bucket_of a q.interval q.offset) (bucket_of (b -ℤ pos 1) q.interval q.offset)).1 d)
 
 -- ---- one piece
 

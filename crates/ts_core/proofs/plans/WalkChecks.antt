@@ -7,7 +7,7 @@ use Rattle.std.proofs.lemmas.Bool.{and_parts}
 use Rattle.ts_core.specs.facts.Facts.{Text, same_text}
 use Rattle.ts_core.specs.plans.Pieces.{Source, Raw, Rollup, Piece, MarkedRule, QueryContext, IsValidPiece}
 use Rattle.ts_core.specs.plans.Faults.{piece_fault}
-use Rattle.ts_core.specs.plans.Plans.{ReachesEnd, rollup_piece, LeadsOn, NoneBefore, IsFirstToLead, Steps, IsWalk, is_faultless}
+use Rattle.ts_core.specs.plans.Plans.{ReachesEnd, rollup_piece, LeadsOn, NoneBefore, IsFirstToReach, Steps, IsWalk, is_faultless}
 use Rattle.ts_core.proofs.settings.Intervals.{IsWide}
 use Rattle.ts_core.proofs.lists.Comparisons.{lt_from, le_from}
 use Rattle.ts_core.proofs.facts.Ids.{same_text-eq}
@@ -48,12 +48,12 @@ not_open t r n p at h d l =
     let f : true ≡ false = sym h ∙ ap (λ o. not (is_faultless o)) e in
     true≢false f
 
-first_found : (t : QueryContext) (p e : ℤ) (name : Text) (rs : List MarkedRule) (n : ℕ) → StandFrom t n rs → NoneBefore t p n → ReachesEnd t e → takes_first t rs name p e ≡ true → IsFirstToLead t name p e
+first_found : (t : QueryContext) (p e : ℤ) (name : Text) (rs : List MarkedRule) (n : ℕ) → StandFrom t n rs → NoneBefore t p n → ReachesEnd t e → takes_first t rs name p e ≡ true → IsFirstToReach t name p e
 first_found t p e name [] n at b g h = absurd (true≢false (sym h))
 first_found t p e name (r ∷ rs) n at b g h =
     let here : slice_get t.rules n ≡ Some r = ap (slice_get t.rules) (omega arith) ∙ at 0 in
     let rest : StandFrom t (n + 1) rs = λ m. ap (slice_get t.rules) (omega arith) ∙ at (suc m) in
-    elim (same_text r.rule.name name) as (λ z. same_text r.rule.name name ≡ z → cond z (is_open t r p && int_eq e (p +ℤ r.rule.interval)) (not (is_open t r p) && takes_first t rs name p e) ≡ true → IsFirstToLead t name p e) [
+    elim (same_text r.rule.name name) as (λ z. same_text r.rule.name name ≡ z → cond z (is_open t r p && int_eq e (p +ℤ r.rule.interval)) (not (is_open t r p) && takes_first t rs name p e) ≡ true → IsFirstToReach t name p e) [
       | true ↦ λ s k.
           let c = and_parts (is_open t r p) _ k in
           let q : e ≡ p +ℤ r.rule.interval = (Decides-int_eq e (p +ℤ r.rule.interval)).0 c.1 in

@@ -7,7 +7,7 @@ use Rattle.std.proofs.lemmas.Bool.{and_parts}
 use Rattle.ts_core.specs.facts.Facts.{Text}
 use Rattle.ts_core.specs.plans.Pieces.{Source, Raw, Rollup, Piece, MarkedRule, QueryContext, SourceServes, IsValidPiece, Covers, IsValidFrom}
 use Rattle.ts_core.specs.plans.Faults.{Fault, piece_fault}
-use Rattle.ts_core.specs.plans.Plans.{IsFirstToLead, Steps, IsWalk, is_same_rule, is_faultless, extended, merged_onto, joined, IsPlanOf}
+use Rattle.ts_core.specs.plans.Plans.{IsFirstToReach, Steps, IsWalk, is_same_rule, is_faultless, extended, merged_onto, joined, IsPlanOf}
 use Rattle.ts_core.proofs.settings.Intervals.{IsWide}
 use Rattle.ts_core.proofs.plans.Validity.{source_from}
 use Rattle.ts_core.proofs.plans.GoodPlaces.{rule_wide, good_within}
@@ -78,7 +78,7 @@ record Alike (s u : Source) (d e : ℤ) (bs cs : List Piece) : Type 0 where
   end : d ≡ e
   rest : bs ≡ cs
 
-first_alike : (t : QueryContext) (p d e : ℤ) (name other : Text) (bs cs : List Piece) → (d ≡ e → bs ≡ cs) → IsFirstToLead t name p d → IsFirstToLead t other p e → Alike (Rollup name) (Rollup other) d e bs cs
+first_alike : (t : QueryContext) (p d e : ℤ) (name other : Text) (bs cs : List Piece) → (d ≡ e → bs ≡ cs) → IsFirstToReach t name p d → IsFirstToReach t other p e → Alike (Rollup name) (Rollup other) d e bs cs
 first_alike t p d e name other bs cs f a b =
     by_order a.n b.n
     (λ l. absurd (b.first a.n d l a.leads))

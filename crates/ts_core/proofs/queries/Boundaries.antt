@@ -8,7 +8,7 @@ use Rattle.ts_core.specs.settings.Settings.{Rule}
 use Rattle.ts_core.specs.aggregates.Buckets.{IsBucketOf, bucket_of}
 use Rattle.ts_core.specs.store.Marks.{index_of}
 use Rattle.ts_core.specs.queries.Queries.{Query}
-use Rattle.ts_core.specs.plans.Pieces.{start_of, IsBoundary, Divides, IsInOneBucket}
+use Rattle.ts_core.specs.plans.Pieces.{start_of, IsBoundary, IsAligned, IsInOneBucket}
 use Rattle.ts_core.proofs.aggregates.BucketsOrder.{bucket_same, bucket_is, one_more, times_le, bucket_le}
 use Rattle.ts_core.proofs.lists.Comparisons.{le_from, le_true, lt_from, lt_true, same_bool}
 use Rattle.ts_core.proofs.plans.GoodPlaces.{index_of-start}
@@ -92,7 +92,7 @@ query_starts r q d e s (negsuc (suc n)) =
     let f : ((negsuc n *ℤ q.interval) +ℤ q.offset) -ℤ (d *ℤ r.interval) ≡ (negsuc (suc n) *ℤ q.interval) +ℤ q.offset = omega (arith, ints) in
     subst (StartsOf r) f (starts_less r ((negsuc n *ℤ q.interval) +ℤ q.offset) d (query_starts r q d e s (negsuc n)))
 
-divided_starts : (r : Rule) (q : Query) → pos 1 ≤ℤ r.interval → Divides r q → (k : ℤ) → StartsOf r ((k *ℤ q.interval) +ℤ q.offset)
+divided_starts : (r : Rule) (q : Query) → pos 1 ≤ℤ r.interval → IsAligned r q → (k : ℤ) → StartsOf r ((k *ℤ q.interval) +ℤ q.offset)
 unfolding StartsOf
 divided_starts r q w v k =
     let d = multiple_of q.interval r.interval w v.interval in
@@ -139,7 +139,7 @@ within_parts a b t h =
 
 -- ---- and so do the query's buckets
 
-one_of_divided : (r : Rule) (q : Query) (t : ℤ) → pos 1 ≤ℤ r.interval → pos 1 ≤ℤ q.interval → Divides r q → bucket_of t q.interval q.offset ≡ bucket_of (cell_start r t) q.interval q.offset
+one_of_divided : (r : Rule) (q : Query) (t : ℤ) → pos 1 ≤ℤ r.interval → pos 1 ≤ℤ q.interval → IsAligned r q → bucket_of t q.interval q.offset ≡ bucket_of (cell_start r t) q.interval q.offset
 unfolding StartsOf
 one_of_divided r q t w v d =
     let k : ℤ = bucket_of t q.interval q.offset in
@@ -161,7 +161,7 @@ one_of_range q a b u t v e h k l =
     let z = bucket_le t (b -ℤ pos 1) q.interval q.offset v last in
     omega (arith, ints)
 
-pub one_bucket : (r : Rule) (q : Query) (a b t : ℤ) → pos 1 ≤ℤ r.interval → pos 1 ≤ℤ q.interval → IsBoundary r a → Divides r q ⊎ IsInOneBucket q a b → a ≤ℤ t → t <ℤ b
+pub one_bucket : (r : Rule) (q : Query) (a b t : ℤ) → pos 1 ≤ℤ r.interval → pos 1 ≤ℤ q.interval → IsBoundary r a → IsAligned r q ⊎ IsInOneBucket q a b → a ≤ℤ t → t <ℤ b
     → bucket_of t q.interval q.offset ≡ bucket_of (cell_start r t) q.interval q.offset
 one_bucket r q a b t w v e fits h l =
     ⊎_elim {C = bucket_of t q.interval q.offset ≡ bucket_of (cell_start r t) q.interval q.offset}

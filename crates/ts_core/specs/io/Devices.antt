@@ -7,13 +7,13 @@ use Rattle.std.specs.Io.KnownBytes.{Appends, ReadConsumes, WriteAppends}
 -- of no bytes into a non-empty buffer.
 pub record Input : Type 0 where
   pub remaining : Option (List ℕ)
-  pub turns : ℕ
+  pub reads : ℕ
   pub failures : ℕ
   pub ends : ℕ
 
 -- a reader of these bytes before its first read
 abbrev pub unread : Option (List ℕ) → Input
-unread bytes = record { remaining = bytes; turns = 0; failures = 0; ends = 0 }
+unread bytes = record { remaining = bytes; reads = 0; failures = 0; ends = 0 }
 
 -- a writer: the bytes written, if known; its writes that failed or accepted none of some bytes
 pub record Output : Type 0 where
@@ -40,7 +40,7 @@ AppendsFront old new bytes = (sent : List ℕ) × (rest : List ℕ) × (bytes �
 pub record IsRead {E : Type 0} (old : Input) (result : Result ℕ E) (buffer : List ℕ) (new : Input) : Type 0 where
   pub bound : ReadsAtMost result buffer
   pub bytes : ReadConsumes old.remaining new.remaining result buffer
-  pub turns : new.turns ≡ old.turns + 1
+  pub reads : new.reads ≡ old.reads + 1
   pub failures : new.failures ≡ old.failures + one_if_err result
   pub ends : new.ends ≡ old.ends + one_if_stuck result buffer
 

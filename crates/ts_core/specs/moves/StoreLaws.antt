@@ -11,7 +11,7 @@ use Rattle.ts_core.specs.settings.SettingsFaults.{settings_fault}
 use Rattle.ts_core.specs.store.History.{Line, Begin, Step, IsLawful}
 use Rattle.ts_core.specs.store.StoreStates.{ColumnPoints, StandsFor, column_of, facts_at, facts_of}
 use Rattle.ts_core.specs.store.StoreData.{CellMap, StoreData, rules_of, state_of, new_data, AreLive, OfEachHistory, GoesOn, StaysFor, ShowsEach}
-use Rattle.ts_core.specs.moves.Runs.{turns_left, steps_left, Falls, steps_in, last_left}
+use Rattle.ts_core.specs.moves.Runs.{batches_left, steps_left, Falls, count_steps, last_left}
 use Rattle.ts_core.specs.moves.StoreMoves.{kept_points, points_below, PutsFact, column_moved, raised, run_begun, Expired, AreOf, with_cells, run_ended, GainEmptyCells, grown, PutsFacts, put_facts}
 
 -- a new store with valid settings represents the empty history
@@ -89,13 +89,13 @@ pub record LiveWays : Type 0 where
 -- A begin leaves each column to be moved, with its points as they were. A step lowers the number by one. One step is
 -- left if no column waits and no cell is below its low index. Growth and insertions don't change the number.
 pub record LeftFalls : Type 0 where
-  pub begins : (k : StoreData) (now : ℤ) → steps_left (state_of (run_begun now k)) ≡ length k.columns + turns_left (rules_of k.settings.rules (raised now k.settings.rules k.marks.lows) k.cells) + 1
+  pub begins : (k : StoreData) (now : ℤ) → steps_left (state_of (run_begun now k)) ≡ length k.columns + batches_left (rules_of k.settings.rules (raised now k.settings.rules k.marks.lows) k.cells) + 1
   pub waiting : (k : StoreData) (now : ℤ) → ((run_begun now k).waiting ≡ map column_of k.columns) × ((run_begun now k).columns ≡ k.columns)
   pub moves : (k : StoreData) (c : Column) (ps : List (ℤ × ℤ)) (rest : List Column) → k.running ≡ true → k.waiting ≡ c ∷ rest → steps_left (state_of k) ≡ steps_left (state_of (column_moved c ps rest k)) + 1
-  pub ends : (k : StoreData) → k.running ≡ true → k.waiting ≡ [] → turns_left (rules_of k.settings.rules k.marks.lows k.cells) ≡ 0 → (steps_left (state_of k) ≡ 1) × (steps_left (state_of (run_ended k)) ≡ 0)
-  pub last : (k : StoreData) → k.running ≡ true → steps_left (state_of k) ≡ 1 → (k.waiting ≡ []) × (turns_left (rules_of k.settings.rules k.marks.lows k.cells) ≡ 0)
+  pub ends : (k : StoreData) → k.running ≡ true → k.waiting ≡ [] → batches_left (rules_of k.settings.rules k.marks.lows k.cells) ≡ 0 → (steps_left (state_of k) ≡ 1) × (steps_left (state_of (run_ended k)) ≡ 0)
+  pub last : (k : StoreData) → k.running ≡ true → steps_left (state_of k) ≡ 1 → (k.waiting ≡ []) × (batches_left (rules_of k.settings.rules k.marks.lows k.cells) ≡ 0)
   pub grows : (k : StoreData) (series : List Series) (columns : List ColumnPoints) (ms : List CellMap) (facts : List Fact) → GainEmptyCells k.settings.rules k.marks.lows facts k.cells ms
       → steps_left (state_of (grown series columns ms k)) ≡ steps_left (state_of k)
   pub puts : (k : StoreData) (columns : List ColumnPoints) (facts : List Fact) (ns : List CellMap) (n : ℕ) → PutsFacts k.settings.rules k.columns k.cells columns ns facts
       → steps_left (state_of (put_facts columns ns n k)) ≡ steps_left (state_of k)
-  pub bound : (left : ℕ) (calls : List (Bool × ℕ)) → Falls left calls → steps_in calls + last_left left calls ≤ left
+  pub bound : (left : ℕ) (calls : List (Bool × ℕ)) → Falls left calls → count_steps calls + last_left left calls ≤ left

@@ -48,8 +48,8 @@ piece_fault_text fault = fault_text (piece_fault_code fault) detailed.Alone
 abbrev pub is_boundary : Rule → ℤ → Bool
 is_boundary r p = int_eq (start_of r (index_of r p)) p
 
-abbrev pub divides : Rule → Query → Bool
-divides r q = int_eq (int_rem_euclid q.interval r.interval) (pos 0) && int_eq (int_rem_euclid (q.offset -ℤ r.offset) r.interval) (pos 0)
+abbrev pub is_aligned : Rule → Query → Bool
+is_aligned r q = int_eq (int_rem_euclid q.interval r.interval) (pos 0) && int_eq (int_rem_euclid (q.offset -ℤ r.offset) r.interval) (pos 0)
 
 abbrev pub is_in_one_bucket : Query → ℤ → ℤ → Bool
 is_in_one_bucket q a b = int_eq (bucket_of a q.interval q.offset) (bucket_of (b -ℤ pos 1) q.interval q.offset)
@@ -64,7 +64,7 @@ rule_fault q (Some r) a b =
     (unless (is_boundary r.rule a) OffBoundary
     (unless (is_boundary r.rule b) OffBoundary
     (unless (int_le r.low (index_of r.rule a)) BelowLow
-    (unless (divides r.rule q || is_in_one_bucket q a b) Straddles
+    (unless (is_aligned r.rule q || is_in_one_bucket q a b) Straddles
     (unless (list_all (keeps r.rule) (tags_of q)) TagNotKept None)))))
 
 abbrev pub source_fault : QueryContext → Source → ℤ → ℤ → Option Fault

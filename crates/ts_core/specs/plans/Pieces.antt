@@ -57,7 +57,7 @@ abbrev pub IsBoundary : Rule → ℤ → Type 0
 IsBoundary r p = start_of r (index_of r p) ≡ p
 
 -- the rule's interval divides the query's, and their offsets agree modulo the rule's interval
-pub record Divides (r : Rule) (q : Query) : Type 0 where
+pub record IsAligned (r : Rule) (q : Query) : Type 0 where
   pub interval : int_rem_euclid q.interval r.interval ≡ pos 0
   pub offset : int_rem_euclid (q.offset -ℤ r.offset) r.interval ≡ pos 0
 
@@ -75,7 +75,7 @@ pub record RuleServes (q : Query) (r : MarkedRule) (a b : ℤ) : Type 0 where
   pub starts : IsBoundary r.rule a
   pub ends : IsBoundary r.rule b
   pub whole : r.low ≤ℤ index_of r.rule a
-  pub fits : Divides r.rule q ⊎ IsInOneBucket q a b
+  pub fits : IsAligned r.rule q ⊎ IsInOneBucket q a b
   pub tags : AllByRecursion (λ tag. Among tag r.rule.kept_tags) (tags_of q)
 
 -- ---- when pieces are valid

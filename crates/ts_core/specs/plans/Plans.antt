@@ -34,7 +34,7 @@ abbrev pub NoneBefore : QueryContext → ℤ → ℕ → Type 0
 NoneBefore t p n = (m : ℕ) (d : ℤ) → m < n → LeadsOn t m p d → ⊥
 
 -- rule n leads on, and none before it in the order of the settings does
-pub record IsFirstToLead (t : QueryContext) (name : Text) (p e : ℤ) : Type 0 where
+pub record IsFirstToReach (t : QueryContext) (name : Text) (p e : ℤ) : Type 0 where
   pub n : ℕ
   pub leads : LeadsOn t n p e
   pub named : leads.rule.rule.name ≡ name
@@ -44,7 +44,7 @@ pub record IsFirstToLead (t : QueryContext) (name : Text) (p e : ℤ) : Type 0 w
 -- one bucket, and the walk continues.
 abbrev pub Steps : QueryContext → ℤ → ℤ → Source → List Piece → Type 0 → Type 0
 Steps t p e Raw rest more = (t.mark ≤ℤ p) × (e ≡ t.query.to) × (rest ≡ [])
-Steps t p e (Rollup name) rest more = (p <ℤ t.mark) × IsFirstToLead t name p e × more
+Steps t p e (Rollup name) rest more = (p <ℤ t.mark) × IsFirstToReach t name p e × more
 
 -- the walk from p to the end of the range
 abbrev pub IsWalk : QueryContext → ℤ → List Piece → Type 0

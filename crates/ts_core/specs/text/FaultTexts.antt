@@ -35,10 +35,10 @@ fault_text code detail = numbered_text code (detail_text detail)
 abbrev pub memory_text : Text
 memory_text = codes "fault memory"
 
--- words, concatenated
-abbrev pub words_joined : List (Bor Text) → Text
-words_joined [] = []
-words_joined (word ∷ words) = word.now ++ words_joined words
+-- parts, concatenated
+abbrev pub parts_joined : List (Bor Text) → Text
+parts_joined [] = []
+parts_joined (word ∷ parts) = word.now ++ parts_joined parts
 
 -- a prefix of the text was appended
 pub record EndsEarly (text old new : Text) : Type 0 where

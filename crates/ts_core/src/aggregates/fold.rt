@@ -22,7 +22,7 @@ pub fn fold_points<P: Partial>(points: &[(Time, i64)]) -> P
 pub fn aggregate_points(points: &[(Time, i64)]) -> Agg
     requires { length points.now ≤ 2 ^ 62 }
     ensures fold { result ≡ aggregate_of_points points.now }
-    ensures words { IsAggregateOfPoints points.now result }
+    ensures meaning { IsAggregateOfPoints points.now result }
 {
     fold_points::<Agg>(points)
 }

@@ -53,14 +53,14 @@ impl<A: Allocator> OutputBuffer<A> {
         ensures buffered { IsBuffered sink.old self.old result [] sink.new self.new }
         ensures empty { self.new ≡ [] }
     {
-        let result = sink.put(&self.bytes);
+        let result = sink.write_all(&self.bytes);
         self.bytes.clear();
         result
     }
 
     /// Appends bytes. If they don't fit, the buffered bytes are written first; bytes that never fit are written after
     /// them. After a refused write only a prefix of all these bytes may have been written; the rest is lost.
-    pub fn put<W: Write>(&mut self, bytes: &[u8], sink: &mut Sink<W>) -> Result<(), Refused>
+    pub fn write_all<W: Write>(&mut self, bytes: &[u8], sink: &mut Sink<W>) -> Result<(), Refused>
         ensures { IsBuffered sink.old self.old result bytes.now sink.new self.new }
     {
         if bytes.len() <= self.size - self.bytes.len() {
@@ -69,7 +69,7 @@ impl<A: Allocator> OutputBuffer<A> {
         }
         self.flush(sink)?;
         if bytes.len() > self.size {
-            return sink.put(bytes);
+            return sink.write_all(bytes);
         }
         append_in_capacity(&mut self.bytes, bytes);
         Ok(())

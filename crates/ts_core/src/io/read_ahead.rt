@@ -16,7 +16,7 @@ pub enum ReadFault {
     /// A read failed.
     Device,
     /// Limit of reads, reached without an end of input.
-    Turns,
+    TooManyReads,
 }
 
 /// A read buffer. The source is passed to each read.
@@ -25,7 +25,7 @@ pub struct ReadAhead<A: Allocator + Copy> {
     buffer: Vec<u8, A>,
     at: usize,
     end: usize,
-    turns: u64,
+    reads: u64,
     limit: u64,
     ended: bool,
 }
@@ -36,9 +36,9 @@ impl<A: Allocator + Copy> Model for ReadAhead<A> {
 
     ghost Value = { Ahead };
 
-    ghost view = { λ r. record { used = take r.at r.buffer.items; buffered = slice_range r.buffer.items r.at r.end; turns = r.turns; limit = r.limit; ended = r.ended } };
+    ghost view = { λ r. record { used = take r.at r.buffer.items; buffered = slice_range r.buffer.items r.at r.end; reads = r.reads; limit = r.limit; ended = r.ended } };
 
-    ghost invariant = { λ r. (r.at ≤ r.end) × (r.end ≤ vec_len r.buffer) × (vec_len r.buffer ≡ most_ahead) × (r.turns ≤ r.limit) };
+    ghost invariant = { λ r. (r.at ≤ r.end) × (r.end ≤ vec_len r.buffer) × (vec_len r.buffer ≡ most_ahead) × (r.reads ≤ r.limit) };
 }
 
 impl<A: Allocator + Copy> ReadAhead<A> {
@@ -51,7 +51,7 @@ impl<A: Allocator + Copy> ReadAhead<A> {
             buffer: vec![in alloc; 0; BUFFER_SIZE]?,
             at: 0,
             end: 0,
-            turns: 0,
+            reads: 0,
             limit,
             ended: false,
         })
@@ -61,7 +61,7 @@ impl<A: Allocator + Copy> ReadAhead<A> {
     pub fn buffered(&self) -> &[u8]
         ensures value { result.now ≡ self.now.buffered }
         ensures bound { length result.now ≤ most_ahead }
-        ensures within { self.now.turns ≤ self.now.limit }
+        ensures within { self.now.reads ≤ self.now.limit }
     {
         &self.buffer[self.at..self.end]
     }
@@ -95,10 +95,10 @@ impl<A: Allocator + Copy> ReadAhead<A> {
         requires going { self.old.ended ≡ false }
         ensures { IsFilled self.old source.old result self.new source.new }
     {
-        if self.turns >= self.limit {
-            return Err(ReadFault::Turns);
+        if self.reads >= self.limit {
+            return Err(ReadFault::TooManyReads);
         }
-        self.turns += 1;
+        self.reads += 1;
         self.at = 0;
         self.end = 0;
         match source.read(&mut self.buffer) {

@@ -63,7 +63,7 @@ impl<W: Write> Sink<W> {
     }
 
     /// Writes all bytes. After an error, only a prefix of them may have been written.
-    pub fn put(&mut self, bytes: &[u8]) -> Result<(), Refused>
+    pub fn write_all(&mut self, bytes: &[u8]) -> Result<(), Refused>
         ensures { IsPut self.old result bytes.now self.new }
     {
         let mut rest = bytes;

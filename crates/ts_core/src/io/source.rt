@@ -11,7 +11,7 @@ use std::marker::Model;
 #[derive(Drop)]
 pub struct Source<R: Read> {
     inner: R,
-    turns: Tally,
+    reads: Tally,
     failures: Tally,
     ends: Tally,
 }
@@ -21,7 +21,7 @@ impl<R: Read> Model for Source<R> {
 
     ghost Value = { Input };
 
-    ghost view = { λ s. record { remaining = R.remaining s.inner; turns = s.turns.count; failures = s.failures.count; ends = s.ends.count } };
+    ghost view = { λ s. record { remaining = R.remaining s.inner; reads = s.reads.count; failures = s.failures.count; ends = s.ends.count } };
 }
 
 impl<R: Read> Source<R> {
@@ -31,7 +31,7 @@ impl<R: Read> Source<R> {
     {
         Source {
             inner,
-            turns: Tally::new(),
+            reads: Tally::new(),
             failures: Tally::new(),
             ends: Tally::new(),
         }
@@ -43,7 +43,7 @@ impl<R: Read> Source<R> {
     {
         let Source {
             inner,
-            turns: _,
+            reads: _,
             failures: _,
             ends: _,
         } = self;
@@ -54,7 +54,7 @@ impl<R: Read> Source<R> {
     pub fn read(&mut self, buf: &mut [u8]) -> io::Result<usize>
         ensures { IsRead self.old result buf.new self.new }
     {
-        self.turns.tick();
+        self.reads.tick();
         let result = self.inner.read(buf);
         match &result {
             Ok(n) => {

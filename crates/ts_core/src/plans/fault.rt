@@ -9,7 +9,7 @@ use thiserror::Error;
 
 /// Error of a list of pieces that doesn't cover all points of a query.
 #[derive(Clone, Copy, Debug, PartialEq, Eq, Error)]
-#[error("{}", self.code().words())]
+#[error("{}", self.code().message())]
 pub enum Fault {
     /// Gap: the pieces don't follow one another from the start of the range to its end.
     Gap,

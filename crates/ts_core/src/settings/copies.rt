@@ -5,7 +5,7 @@ use super::{Rule, Settings};
 use std::alloc::{AllocError, Allocator};
 
 /// Copies a list of texts.
-pub fn try_clone_texts<A: Allocator + Copy>(
+pub fn try_clone_strings<A: Allocator + Copy>(
     alloc: A,
     texts: &[String<A>],
 ) -> Result<Vec<String<A>, A>, AllocError>
@@ -42,7 +42,7 @@ impl<A: Allocator + Copy> Rule<A> {
             measurement: String::from_str(alloc, self.measurement.as_str())?,
             interval: self.interval,
             offset: self.offset,
-            kept_tags: try_clone_texts(alloc, self.kept_tags.as_slice())?,
+            kept_tags: try_clone_strings(alloc, self.kept_tags.as_slice())?,
             duration: self.duration,
         })
     }

@@ -48,7 +48,7 @@ fn filled(text: &str) -> Option<&str>
 }
 
 /// Copies the texts of a list of values. Returns the error `Form` if a value isn't a text, or is empty.
-fn filled_texts<A: Allocator + Copy>(
+fn filled_strings<A: Allocator + Copy>(
     alloc: A,
     values: &[Value],
 ) -> Result<Vec<String<A>, A>, SettingsError>
@@ -64,7 +64,7 @@ fn filled_texts<A: Allocator + Copy>(
 }
 
 /// Returns the text of a key, or `None` if its value isn't a text, or is empty.
-fn filled_text_at<'v>(value: &'v Value, key: &str) -> Option<&'v str>
+fn filled_string_at<'v>(value: &'v Value, key: &str) -> Option<&'v str>
     ensures { option_map (λ s. s.now) result ≡ option_and_then if_not_empty (text_at key.now (view value.now)) }
 {
     filled(text_at(value, key)?)
@@ -103,7 +103,7 @@ fn rule<A: Allocator + Copy>(alloc: A, value: &Value) -> Result<Rule<A>, Setting
     let Some(name) = text_at(value, "name") else {
         return Err(NO_FORM);
     };
-    let Some(measurement) = filled_text_at(value, "measurement") else {
+    let Some(measurement) = filled_string_at(value, "measurement") else {
         return Err(NO_FORM);
     };
     let Some(interval) = interval_at(value, "interval") else {
@@ -115,7 +115,7 @@ fn rule<A: Allocator + Copy>(alloc: A, value: &Value) -> Result<Rule<A>, Setting
     let Some(tags) = values_at(value, "keep") else {
         return Err(NO_FORM);
     };
-    let kept_tags = filled_texts(alloc, tags)?;
+    let kept_tags = filled_strings(alloc, tags)?;
     let Some(duration) = keeping_at(value, "duration") else {
         return Err(NO_FORM);
     };

@@ -13,7 +13,7 @@ use thiserror::Error;
 
 /// Fault of a rule.
 #[derive(Clone, Copy, Debug, PartialEq, Eq, Error)]
-#[error("{}", self.code().words())]
+#[error("{}", self.code().message())]
 pub enum RuleFault {
     /// The interval isn't from a second to 366 days.
     Interval,
@@ -31,10 +31,10 @@ pub enum RuleFault {
 #[derive(Clone, Copy, Debug, PartialEq, Eq, Error)]
 pub enum SettingsFault {
     /// The text doesn't have the form of settings. Settings that are created from parts never have this fault.
-    #[error("{}", FaultCode::BadSettingsText.words())]
+    #[error("{}", FaultCode::BadSettingsText.message())]
     Form,
     /// There are more than 32 rules.
-    #[error("{}", FaultCode::TooManyRules.words())]
+    #[error("{}", FaultCode::TooManyRules.message())]
     TooManyRules,
     /// The first rule with a fault, by its index.
     #[error("{0}, at rule {1}")]
@@ -176,7 +176,7 @@ pub enum SettingsError {
 
 /// Error of dropping a rule: the settings have none of this name.
 #[derive(Clone, Copy, Debug, PartialEq, Eq, Error)]
-#[error("{}", self.code().words())]
+#[error("{}", self.code().message())]
 pub struct UnknownRule;
 
 impl From<SettingsFault> for SettingsError {

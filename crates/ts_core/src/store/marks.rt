@@ -59,7 +59,7 @@ fn kept_since(duration: u64, now: Time) -> i128
 }
 
 /// Returns the later of a mark and a number of nanoseconds that is not after all valid times.
-fn later(mark: Time, nanos: i128) -> Time
+fn max_mark(mark: Time, nanos: i128) -> Time
     requires { nanos ≤ℤ greatest_time }
     ensures { result ≡ int_max mark nanos }
 {
@@ -107,7 +107,7 @@ impl<A: Allocator> Marks<A> {
     }
 
     /// Returns true if both marks are the same.
-    pub fn is(&self, other: &Marks<A>) -> bool
+    pub fn equals(&self, other: &Marks<A>) -> bool
         ensures { IsTrue result ↔ (self.now ≡ other.now) }
     {
         if self.raw() != other.raw() {
@@ -138,7 +138,7 @@ impl<A: Allocator> Marks<A> {
     pub fn raise(&mut self, settings: &Settings<A>, now: Time)
         ensures { self.new ≡ record { raw = int_max self.old.raw (kept_since settings.now.raw_duration now); lows = raised now settings.now.rules self.old.lows } }
     {
-        self.raw = later(self.raw, kept_since(settings.raw_duration(), now));
+        self.raw = max_mark(self.raw, kept_since(settings.raw_duration(), now));
         raise_lows(settings.rules(), self.lows.as_mut_slice(), now);
     }
 }

@@ -1,12 +1,12 @@
 //! Table of the faults of all layers, with their numbers and a description for operators.
 ghost use Rattle.std.specs.Prelude.{◌≡◌};
-ghost use Rattle.ts_core.specs.text.FaultCodes.{code_number, code_words, all_codes, first_numbered, code_of_number};
+ghost use Rattle.ts_core.specs.text.FaultCodes.{code_number, code_message, all_codes, first_numbered, code_of_number};
 
 use thiserror::Error;
 
 /// A fault. Replies, scripts and pages refer to it by its number.
 #[derive(Clone, Copy, Debug, PartialEq, Eq, Error)]
-#[error("{}", self.words())]
+#[error("{}", self.message())]
 pub enum FaultCode {
     /// Rule interval below a second or above 366 days (number 1).
     IntervalRange,
@@ -290,8 +290,8 @@ impl FaultCode {
     }
 
     /// Returns a description for operators.
-    pub fn words(self) -> &'static str
-        ensures { result.now ≡ code_words self }
+    pub fn message(self) -> &'static str
+        ensures { result.now ≡ code_message self }
     {
         match self {
             FaultCode::IntervalRange => "a rule's interval is below a second or above 366 days",

@@ -1,6 +1,6 @@
 //! Messages of faults: `fault`, the number, and a detail.
 ghost use Rattle.std.specs.Prelude.{◌≡◌, ◌<◌, ◌^◌};
-ghost use Rattle.ts_core.specs.text.FaultTexts.{fault_text, words_joined, IsAppended};
+ghost use Rattle.ts_core.specs.text.FaultTexts.{fault_text, parts_joined, IsAppended};
 
 use crate::text::FaultCode;
 use itoa::Buffer;
@@ -41,12 +41,12 @@ impl FaultDetail<'static> {
     }
 }
 
-/// Appends all words to `text`. When out of memory, `text` may end in some of them. Does not allocate if `text` has the
+/// Appends all parts to `text`. When out of memory, `text` may end in some of them. Does not allocate if `text` has the
 /// capacity.
-pub fn push_all<A: Allocator>(text: &mut String<A>, words: &[&str]) -> Result<(), AllocError>
-    ensures { IsAppended (words_joined words.now) text.old text.new result }
+pub fn push_all<A: Allocator>(text: &mut String<A>, parts: &[&str]) -> Result<(), AllocError>
+    ensures { IsAppended (parts_joined parts.now) text.old text.new result }
 {
-    match words.split_first() {
+    match parts.split_first() {
         None => Ok(()),
         Some((first, others)) => {
             text.push_str(first)?;

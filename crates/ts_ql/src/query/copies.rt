@@ -3,7 +3,7 @@ ghost use Rattle.std.specs.Prelude.{◌≡◌, IfOk};
 
 use super::{Condition, Projection, Query, QueryParts};
 use std::alloc::{AllocError, Allocator};
-use ts_core::try_clone_texts;
+use ts_core::try_clone_strings;
 
 impl<A: Allocator + Copy> Projection<A> {
     /// Returns a copy allocated in `alloc`.
@@ -70,7 +70,7 @@ impl<A: Allocator + Copy> QueryParts<A> {
             to: self.to,
             interval: self.interval,
             offset: self.offset,
-            group_tags: try_clone_texts(alloc, self.group_tags.as_slice())?,
+            group_tags: try_clone_strings(alloc, self.group_tags.as_slice())?,
         })
     }
 }

@@ -6,7 +6,7 @@ ghost use Rattle.ts_ql.specs.Selects.{function_name};
 
 use super::{Projection, Query, QueryParts};
 use crate::fault::{ParseError, QlFaultKind};
-use crate::words::function_name;
+use crate::keywords::function_name;
 use std::alloc::{AllocError, Allocator};
 use ts_core::{Fill, Function, Time};
 

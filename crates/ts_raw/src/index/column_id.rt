@@ -13,7 +13,7 @@ pub struct ColumnId {
 
 impl ColumnId {
     /// Returns the id of the column with this index. Fails if the index doesn't fit 32 bits.
-    pub fn of(number: usize) -> Result<ColumnId, AllocError>
+    pub fn new(number: usize) -> Result<ColumnId, AllocError>
         ensures { IfOk result (λ id. id ≡ number) }
     {
         Ok(ColumnId {

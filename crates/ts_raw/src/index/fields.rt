@@ -43,7 +43,7 @@ impl<A: Allocator + Copy> FieldKey<A> {
         &self.field
     }
 
-    fn is(&self, measurement: &str, field: &str) -> bool
+    fn matches(&self, measurement: &str, field: &str) -> bool
         ensures { IsTrue result ↔ (self.now ≡ field_key measurement.now field.now) }
     {
         self.field.as_str() == field && self.measurement.as_str() == measurement
@@ -104,7 +104,7 @@ impl<A: Allocator + Copy> FieldTable<A> {
         let mut next = self.chains.newest(hash_field(measurement, field));
         while let Some(at) = next {
             let key = &self.keys[at as usize];
-            if key.is(measurement, field) {
+            if key.matches(measurement, field) {
                 return Some(at);
             }
             next = self.chains.older(at);

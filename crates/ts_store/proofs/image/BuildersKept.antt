@@ -12,7 +12,7 @@ use Rattle.ts_core.specs.store.StoreStates.{ColumnPoints, column_of}
 use Rattle.ts_core.specs.store.StoreData.{CellMap}
 use Rattle.ts_core.proofs.lists.MembersLemmas.{Among-append}
 use Rattle.ts_line.specs.Names.{IsKey, IsStatable}
-use Rattle.ts_store.specs.image.Building.{new_built, with_series, with_column, with_cell, cell_map_at}
+use Rattle.ts_store.specs.image.Building.{new_built, with_built_series, with_built_column, with_built_cell, cell_map_at}
 use Rattle.ts_store.specs.image.BuildingParts.{built_of, IsInOrder, AreIdle}
 use Rattle.ts_store.specs.store.ColumnStates.{StoreContent}
 use Rattle.ts_store.specs.rollup.Rollups.{AreRollups, cells_of}
@@ -53,7 +53,7 @@ order_series settings held after passed s few named e h =
     })
 
 pub built_series : (settings : Settings) (marks : Marks) (running : Bool) (n : ℕ) (held after : StoreContent) (passed : List Bool) (s : Series) → after ≡ record { series = held.series ++ s ∷ []; columns = held.columns; rollups = held.rollups }
-    → built_of settings marks running n after passed ≡ with_series s (built_of settings marks running n held passed)
+    → built_of settings marks running n after passed ≡ with_built_series s (built_of settings marks running n held passed)
 built_series settings marks running n held after passed s e = ap (λ (h : StoreContent). built_of settings marks running n h passed) e
 
 -- ---- a column more
@@ -80,7 +80,7 @@ order_column settings held after passed passed' c b key columns series cells rol
 }
 
 pub built_column : (settings : Settings) (marks : Marks) (running : Bool) (n : ℕ) (held after : StoreContent) (passed passed' : List Bool) (c : ColumnPoints) (w : Bool) → after.columns ≡ held.columns ++ c ∷ [] → after.series ≡ held.series
-    → cells_of after.rollups ≡ cells_of held.rollups → passed' ≡ passed ++ not w ∷ [] → built_of settings marks running n after passed' ≡ with_column c w (built_of settings marks running n held passed)
+    → cells_of after.rollups ≡ cells_of held.rollups → passed' ≡ passed ++ not w ∷ [] → built_of settings marks running n after passed' ≡ with_built_column c w (built_of settings marks running n held passed)
 built_column settings marks running n held after passed passed' c w columns series cells flags =
     let waits : map not passed' ≡ map not passed ++ w ∷ [] = ap (map not) flags ∙ map-append not passed (not w ∷ []) ∙ ap (λ (b : Bool). map not passed ++ b ∷ []) (not_not w) in
     λ i. record { settings = settings; marks = marks; running = running; accepted = n; series = series i; columns = columns i; waits = waits i; cells = cells i }
@@ -119,7 +119,7 @@ order_cell settings held after passed rule k frozen columns series cells rollups
 }
 
 pub built_cell : (settings : Settings) (marks : Marks) (running : Bool) (n : ℕ) (held after : StoreContent) (passed : List Bool) (rule : ℕ) (k : Cell) (frozen : Aggregate) → after.columns ≡ held.columns → after.series ≡ held.series
-    → cells_of after.rollups ≡ with_one (cells_of held.rollups) rule k frozen → built_of settings marks running n after passed ≡ with_cell rule k frozen (built_of settings marks running n held passed)
+    → cells_of after.rollups ≡ with_one (cells_of held.rollups) rule k frozen → built_of settings marks running n after passed ≡ with_built_cell rule k frozen (built_of settings marks running n held passed)
 built_cell settings marks running n held after passed rule k frozen columns series cells =
     λ i. record { settings = settings; marks = marks; running = running; accepted = n; series = series i; columns = columns i; waits = map not passed; cells = cells i }
 

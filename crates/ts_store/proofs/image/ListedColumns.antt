@@ -15,7 +15,7 @@ use Rattle.ts_core.proofs.facts.Ids.{series_total, exact_series}
 use Rattle.ts_core.proofs.lists.NumberedLemmas.{at_within, at_among, same_at, once_more, same_place}
 use Rattle.ts_raw.specs.Indexed.{Indexed}
 use Rattle.ts_store.specs.image.SavedContent.{SavedColumn, SavedSeries, saved_field, saved_key, SavesColumns, SavesSeries}
-use Rattle.ts_store.specs.image.ColumnsListed.{without_columns, with_column, ListsFirst, ListsColumns}
+use Rattle.ts_store.specs.image.ColumnsListed.{without_columns, with_saved_column, ListsFirst, ListsColumns}
 use Rattle.ts_store.proofs.image.SavedOrders.{moved_all, moved_among, rising_sorted}
 
 -- ---- lists without columns
@@ -45,7 +45,7 @@ module _ (columns : List Column) (once : AllDistinct columns) (n : ℕ) (c : Col
   here = record { field = c.field; number = n }
 
   -- in its own series
-  own_more : (s : SavedSeries) → s.series ≡ c.series → ListsFirst columns n s → ListsFirst columns (n + 1) (with_column s here)
+  own_more : (s : SavedSeries) → s.series ≡ c.series → ListsFirst columns n s → ListsFirst columns (n + 1) (with_saved_column s here)
   own_more s e h = record {
     once =
         subst AllDistinct (sym (map-append saved_field s.columns (here ∷ [])))
@@ -98,11 +98,11 @@ module _ (columns : List Column) (once : AllDistinct columns) (n : ℕ) (c : Col
   others_more (s ∷ all) apart h = (other_more s (λ e. apart (inl (sym e))) h.0, others_more all (λ a. apart (inr a)) h.1)
 
   pub lists_more : (all : List SavedSeries) (i : ℕ) (s : SavedSeries) → AllDistinct (map saved_key all) → IsAt (map saved_key all) i c.series → s ≡ get_or all i s → AllByRecursion (ListsFirst columns n) all
-      → AllByRecursion (ListsFirst columns (n + 1)) (set all i (with_column s here))
+      → AllByRecursion (ListsFirst columns (n + 1)) (set all i (with_saved_column s here))
   lists_more [] i s d is e h = absurd (none-some c.series is)
   lists_more (x ∷ all) zero s d is e h =
       let key : x.series ≡ c.series = same_Some x.series c.series is in
-      (subst (λ y. ListsFirst columns (n + 1) (with_column y here)) (sym e) (own_more x key h.0), others_more all (subst (λ k. Among k (map saved_key all) → ⊥) key d.0) h.1)
+      (subst (λ y. ListsFirst columns (n + 1) (with_saved_column y here)) (sym e) (own_more x key h.0), others_more all (subst (λ k. Among k (map saved_key all) → ⊥) key d.0) h.1)
   lists_more (x ∷ all) (suc i) s d is e h = (
     other_more x (λ q. d.0 (subst (λ k. Among k (map saved_key all)) (sym q) (at_among (map saved_key all) i c.series is))) h.0,
     lists_more all i s d.1 is e h.1,
@@ -116,7 +116,7 @@ keys_set (x ∷ all) (suc i) s t e k = ap (λ (ys : List Series). x.series ∷ y
 
 -- the next column of an index
 pub list_step : (index : Indexed) (n : ℕ) (all : List SavedSeries) (i id m : ℕ) (s t : SavedSeries) (x : SavedColumn) → AllDistinct index.series → AllDistinct index.columns → n < length index.columns → id ≡ n
-    → ((c : Column) → IsAt index.columns id c → IsAt index.series i c.series) → ((c : Column) → IsAt index.columns id c → x.field ≡ c.field) → x.number ≡ id → m ≡ i → s ≡ get_or all m s → t ≡ with_column s x
+    → ((c : Column) → IsAt index.columns id c → IsAt index.series i c.series) → ((c : Column) → IsAt index.columns id c → x.field ≡ c.field) → x.number ≡ id → m ≡ i → s ≡ get_or all m s → t ≡ with_saved_column s x
     → ListsColumns index n all → ListsColumns index (n + 1) (set all m t)
 list_step index n all i id m s t x series_once once low e names field number index_is read made h =
     let none : Column = record { series = record { measurement = []; tags = [] }; field = [] } in
@@ -124,7 +124,7 @@ list_step index n all i id m s t x series_once once low e names field number ind
     let at : IsAt index.columns n c = slice_get-get_or index.columns n none low in
     let at' : IsAt index.columns id c = subst (λ k. IsAt index.columns k c) (sym e) at in
     let same : x ≡ record { field = c.field; number = n } = λ j. record { field = field c at' j; number = (number ∙ e) j } in
-    let made' : t ≡ with_column s (record { field = c.field; number = n }) = made ∙ ap (with_column s) same in
+    let made' : t ≡ with_saved_column s (record { field = c.field; number = n }) = made ∙ ap (with_saved_column s) same in
     let there : IsAt (map saved_key all) m c.series = subst (λ ks. IsAt ks m c.series) (sym h.keys) (subst (λ k. IsAt index.series k c.series) (sym index_is) (names c at')) in
     record {
       keys = keys_set all m s t read (ap saved_key made') ∙ h.keys;

@@ -12,7 +12,7 @@ use Rattle.ts_core.specs.store.StoreStates.{ColumnPoints, StandsFor, column_of, 
 use Rattle.ts_core.specs.store.StoreData.{CellMap, StoreData, rules_of, state_of, AreLive, GoesOn}
 use Rattle.ts_core.proofs.moves.LivesKept.{lives_go, lives_left}
 use Rattle.ts_core.specs.moves.StoreMoves.{all_moved, points_below, kept_points, column_moved, raised, run_begun, with_cells, run_ended}
-use Rattle.ts_core.specs.moves.Runs.{turns_left, steps_left}
+use Rattle.ts_core.specs.moves.Runs.{batches_left, steps_left}
 use Rattle.ts_core.proofs.moves.StepStands.{step_stands}
 use Rattle.ts_core.proofs.moves.MovesStand.{cells_go, run_ends}
 use Rattle.ts_core.proofs.store.RunSteps.{idle_step_stands}
@@ -34,7 +34,7 @@ use Rattle.ts_store.proofs.rollup.RollupsGrow.{rollups-length}
 use Rattle.ts_store.proofs.store.IndicesKept.{indices_moved, indices_gone}
 use Rattle.ts_store.proofs.store.SizesKept.{sized_begun, sized_moved, sized_gone, sized_ended}
 use Rattle.ts_store.specs.retain.WholeRuns.{AreAbove, FirstLoses, MovesFirst, RemovesCells}
-use Rattle.ts_store.proofs.retain.TurnsLeft.{turns_left-loses, turns_left-moved, of-loses, expired-loses, counts-removed, turns_left-above}
+use Rattle.ts_store.proofs.retain.BatchesLeft.{batches_left-loses, batches_left-moved, of-loses, expired-loses, counts-removed, batches_left-above}
 
 -- ---- a column keeps its name
 
@@ -107,9 +107,9 @@ module _ (settings : Settings) (marks : Marks) (n : ℕ) where
     moved-steps =
         let one : length before.waiting ≡ length rest + 1 = ap (λ (ws : List Column). length ws) waits ∙ (let m : length (s.column ∷ rest) ≡ length rest + 1 = omega arith in m) in
         let others : length moved.waiting ≡ length rest = ap (λ (k : StoreData). length k.waiting) (sym is_moved) in
-        let turns : turns_left (rules_of settings.rules marks.lows moved.cells) ≡ turns_left (rules_of settings.rules marks.lows (cells_of held.rollups)) =
-        ap (λ (ms : List CellMap). turns_left (rules_of settings.rules marks.lows ms)) cells
-        ∙ turns_left-moved s.column (points_below marks.raw s.points) (facts_of (map (kept_points s.column marks.raw) held.columns)) settings.rules marks.lows (cells_of held.rollups) in
+        let turns : batches_left (rules_of settings.rules marks.lows moved.cells) ≡ batches_left (rules_of settings.rules marks.lows (cells_of held.rollups)) =
+        ap (λ (ms : List CellMap). batches_left (rules_of settings.rules marks.lows ms)) cells
+        ∙ batches_left-moved s.column (points_below marks.raw s.points) (facts_of (map (kept_points s.column marks.raw) held.columns)) settings.rules marks.lows (cells_of held.rollups) in
         omega arith
 
     pub moved-kept : IsSoundStore moved after (Some left)
@@ -147,7 +147,7 @@ module _ (settings : Settings) (marks : Marks) (n : ℕ) where
     pub removed-steps : steps_left (state_of full) ≡ steps_left (state_of (data_of_parts settings marks n left (Some run))) + 1
     removed-steps =
         let many : length (cells_of held.rollups) ≡ length settings.rules = length-map held.rollups (λ (u : RollupState). u.grid.cells) ∙ rollups-length settings.rules (map column_of held.columns) held.rollups kept.rollups in
-        let turns = turns_left-loses settings.rules marks.lows (cells_of held.rollups) (cells_of left.rollups) many loses in
+        let turns = batches_left-loses settings.rules marks.lows (cells_of held.rollups) (cells_of left.rollups) many loses in
         let same = ap (λ (k : StoreData). steps_left (state_of k)) is_removed in
         omega arith
 
@@ -327,7 +327,7 @@ module _ (settings : Settings) (marks : Marks) (n : ℕ) (held after : StoreCont
   end_last None all above = absurd (true≢false (sym all.running))
   end_last (Some r) all above =
       let waits : length (waiting_in (Some r) held.columns) ≡ 0 = ap (λ (ws : List Column). length ws) all.none in
-      let turns = turns_left-above settings.rules marks.lows (cells_of held.rollups) above in
+      let turns = batches_left-above settings.rules marks.lows (cells_of held.rollups) above in
       let one : steps_left (state_of (data_of_parts settings marks n held (Some r))) ≡ 1 = omega arith in
       subst (λ (k : StoreData). steps_left (state_of k) ≡ 1) all.shown one
 

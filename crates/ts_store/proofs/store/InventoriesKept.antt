@@ -9,7 +9,7 @@ use Rattle.ts_core.specs.lists.Numbered.{IsAt}
 use Rattle.ts_core.specs.facts.Facts.{Column, Fact}
 use Rattle.ts_core.specs.settings.Settings.{Rule, Settings}
 use Rattle.ts_core.specs.store.Cells.{Cell}
-use Rattle.ts_core.specs.moves.Runs.{turns_of, turns_left, steps_left}
+use Rattle.ts_core.specs.moves.Runs.{batches_of, batches_left, steps_left}
 use Rattle.ts_core.specs.store.StoreStates.{facts_of}
 use Rattle.ts_core.specs.store.StoreData.{CellMap, StoreData, state_of, rules_of, new_data}
 use Rattle.ts_core.specs.moves.StoreMoves.{all_moved, points_below, kept_points, run_ended}
@@ -18,12 +18,12 @@ use Rattle.ts_core.proofs.lists.MembersLemmas.{Among-filter_stays}
 use Rattle.ts_core.proofs.moves.StoreNew.{no_keys}
 use Rattle.ts_core.proofs.moves.MovesStand.{keys_once, key_there, key_not}
 use Rattle.ts_core.proofs.moves.StepStands.{keys_column}
-use Rattle.ts_store.specs.store.Inventories.{Inventory, inventory_of, new_inventory, OfRules, expired_in, Expires, FirstExpires, turns_in, steps_in, StepsTo, LeavesFrom, LeavesRecent}
+use Rattle.ts_store.specs.store.Inventories.{Inventory, inventory_of, new_inventory, OfRules, expired_in, Expires, FirstExpires, batches_in, steps_in, StepsTo, LeavesFrom, LeavesRecent}
 use Rattle.ts_store.specs.retain.WholeRuns.{AreAbove, LosesCells, FirstLoses, MovesFirst, RemovesCells}
 use Rattle.ts_store.specs.declared.store.retention.StepAnswer.{StepAnswer}
 use Rattle.ts_store.specs.declared.store.retention.StepAnswer.TheVariants.{Moved, Done}
 use Rattle.ts_store.proofs.retain.RunsGoOn.{kept-names}
-use Rattle.ts_store.proofs.retain.TurnsLeft.{below_fewer, none_below, removes_above, of-all}
+use Rattle.ts_store.proofs.retain.BatchesLeft.{below_fewer, none_below, removes_above, of-all}
 
 -- the keys of each map
 abbrev pub all_keys : List CellMap → List (List Cell)
@@ -92,14 +92,14 @@ steps_to old new m = ⊎_elim {C = StepsTo old.marks.lows (inventory_of old) Mov
 
 -- ---- the end
 
-no_turns : (lows : List ℤ) (ms : List CellMap) → AreAbove lows ms → turns_in lows (all_keys ms) ≡ 0
+no_turns : (lows : List ℤ) (ms : List CellMap) → AreAbove lows ms → batches_in lows (all_keys ms) ≡ 0
 no_turns [] ms a = refl
 no_turns (low ∷ lows) [] a = refl
-no_turns (low ∷ lows) (m ∷ ms) a = ap₂ (λ x y. turns_of x + y) (none_below low m a.0) (no_turns lows ms a.1)
+no_turns (low ∷ lows) (m ∷ ms) a = ap₂ (λ x y. batches_of x + y) (none_below low m a.0) (no_turns lows ms a.1)
 
 none_wait : (k : StoreData) → k.running ≡ true → steps_left (state_of k) ≡ 1 → k.waiting ≡ []
 none_wait k runs last =
-    let left : length k.waiting + turns_left (rules_of k.settings.rules k.marks.lows k.cells) + 1 ≡ 1 = sym (ap (λ b. cond b (length k.waiting + turns_left (rules_of k.settings.rules k.marks.lows k.cells) + 1) 0) runs) ∙ last in
+    let left : length k.waiting + batches_left (rules_of k.settings.rules k.marks.lows k.cells) + 1 ≡ 1 = sym (ap (λ b. cond b (length k.waiting + batches_left (rules_of k.settings.rules k.marks.lows k.cells) + 1) 0) runs) ∙ last in
     nil_from_length k.waiting (omega arith)
 
 pub ends_to : (old new : StoreData) → old.running ≡ true → steps_left (state_of old) ≡ 1 → new ≡ run_ended old → AreAbove new.marks.lows new.cells → StepsTo old.marks.lows (inventory_of old) Done (inventory_of new)
@@ -149,20 +149,20 @@ first_kept (low ∷ lows) (a ∷ old) (b ∷ new) e =
     ⊎_elim {C = KeepAll (low ∷ lows) (a ∷ old) (b ∷ new)} (λ p. (record { only = p.0.only; stays = p.0.stays }, subst (KeepAll lows old) (sym p.1) (all_kept_same lows old)))
     (λ p. (subst (Keeps low a) (sym p.1) (kept_same low a), first_kept lows old new p.2)) e
 
-turn_taken : (low : ℤ) (a b : List Cell) → Expires low a b → turns_of (expired_in low a) ≡ turns_of (expired_in low b) + 1
+turn_taken : (low : ℤ) (a b : List Cell) → Expires low a b → batches_of (expired_in low a) ≡ batches_of (expired_in low b) + 1
 turn_taken low a b e =
     let some = e.some in
     let fewer = e.fewer in
     omega (arith, some, fewer)
 
-first_turn : (lows : List ℤ) (old new : List (List Cell)) → FirstExpires lows old new → turns_in lows old ≡ turns_in lows new + 1
+first_turn : (lows : List ℤ) (old new : List (List Cell)) → FirstExpires lows old new → batches_in lows old ≡ batches_in lows new + 1
 first_turn [] old new e = absurd e
 first_turn (low ∷ lows) [] new e = absurd e
 first_turn (low ∷ lows) (a ∷ old) [] e = absurd e
 first_turn (low ∷ lows) (a ∷ old) (b ∷ new) e =
-    ⊎_elim {C = turns_in (low ∷ lows) (a ∷ old) ≡ turns_in (low ∷ lows) (b ∷ new) + 1}
-    (λ p. let one = turn_taken low a b p.0 in let others : turns_in lows new ≡ turns_in lows old = ap (turns_in lows) p.1 in omega arith)
-    (λ p. let same : turns_of (expired_in low b) ≡ turns_of (expired_in low a) = ap (λ (x : List Cell). turns_of (expired_in low x)) p.1 in let others = first_turn lows old new p.2 in omega arith) e
+    ⊎_elim {C = batches_in (low ∷ lows) (a ∷ old) ≡ batches_in (low ∷ lows) (b ∷ new) + 1}
+    (λ p. let one = turn_taken low a b p.0 in let others : batches_in lows new ≡ batches_in lows old = ap (batches_in lows) p.1 in omega arith)
+    (λ p. let same : batches_of (expired_in low b) ≡ batches_of (expired_in low a) = ap (λ (x : List Cell). batches_of (expired_in low x)) p.1 in let others = first_turn lows old new p.2 in omega arith) e
 
 -- the parts that are unchanged since a run began, and the number of steps that were taken
 pub record KeptSince (lows : List ℤ) (old new : Inventory) (taken : ℕ) : Type 0 where
@@ -200,7 +200,7 @@ one_recent low a n keeps none = record {
   once = keys_once n;
 }
 
-recent_at : (lows : List ℤ) (old : List (List Cell)) (ns : List CellMap) → KeepAll lows old (all_keys ns) → turns_in lows (all_keys ns) ≡ 0
+recent_at : (lows : List ℤ) (old : List (List Cell)) (ns : List CellMap) → KeepAll lows old (all_keys ns) → batches_in lows (all_keys ns) ≡ 0
     → (i : ℕ) (low : ℤ) (a b : List Cell) → IsAt lows i low → IsAt old i a → IsAt (all_keys ns) i b → LeavesFrom low a b
 recent_at [] old ns keeps none i low a b at_low at_old at_new = absurd (none-some low at_low)
 recent_at (l ∷ lows) [] ns keeps none i low a b at_low at_old at_new = absurd (none-some a at_old)
@@ -223,10 +223,10 @@ pub record HasEnded (rules : List Rule) (lows : List ℤ) (old new : Inventory) 
   pub recent : LeavesRecent rules lows old new
   pub count : taken + 1 ≡ steps_in lows old
 
-ended_now : (rules : List Rule) (lows : List ℤ) (old s : Inventory) (ns : List CellMap) (taken : ℕ) → s.cells ≡ all_keys ns → s.waiting ≡ [] → turns_in lows s.cells ≡ 0 → KeptSince lows old s taken → HasEnded rules lows old s taken
+ended_now : (rules : List Rule) (lows : List ℤ) (old s : Inventory) (ns : List CellMap) (taken : ℕ) → s.cells ≡ all_keys ns → s.waiting ≡ [] → batches_in lows s.cells ≡ 0 → KeptSince lows old s taken → HasEnded rules lows old s taken
 ended_now rules lows old s ns taken keys waits none since =
     let kept : KeepAll lows old.cells (all_keys ns) = subst (KeepAll lows old.cells) keys since.cells in
-    let turns : turns_in lows (all_keys ns) ≡ 0 = sym (ap (turns_in lows) keys) ∙ none in
+    let turns : batches_in lows (all_keys ns) ≡ 0 = sym (ap (batches_in lows) keys) ∙ none in
     let before = since.count in
     let no_column : length s.waiting ≡ 0 = ap length waits in
     record {

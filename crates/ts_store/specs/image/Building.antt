@@ -46,8 +46,8 @@ new_built settings marks accepted running = record {
 
 -- ---- parts are appended
 
-abbrev pub with_series : Series → Built → Built
-with_series s b = record {
+abbrev pub with_built_series : Series → Built → Built
+with_built_series s b = record {
   settings = b.settings;
   marks = b.marks;
   running = b.running;
@@ -58,8 +58,8 @@ with_series s b = record {
   cells = b.cells;
 }
 
-abbrev pub with_column : ColumnPoints → Bool → Built → Built
-with_column c waits b = record {
+abbrev pub with_built_column : ColumnPoints → Bool → Built → Built
+with_built_column c waits b = record {
   settings = b.settings;
   marks = b.marks;
   running = b.running;
@@ -75,8 +75,8 @@ abbrev pub cell_map_at : List CellMap → ℕ → CellMap
 cell_map_at ms rule = get_or ms rule finmap.empty
 
 -- a cell of the rule with this index, with a frozen part
-abbrev pub with_cell : ℕ → Cell → Aggregate → Built → Built
-with_cell rule k frozen b = record {
+abbrev pub with_built_cell : ℕ → Cell → Aggregate → Built → Built
+with_built_cell rule k frozen b = record {
   settings = b.settings;
   marks = b.marks;
   running = b.running;

@@ -10,8 +10,8 @@ use Rattle.ts_store.specs.image.SavedContent.{SavedColumn, SavedSeries, saved_fi
 abbrev pub without_columns : Series → SavedSeries
 without_columns s = record { series = s; columns = [] }
 
-abbrev pub with_column : SavedSeries → SavedColumn → SavedSeries
-with_column s x = record { series = s.series; columns = s.columns ++ x ∷ [] }
+abbrev pub with_saved_column : SavedSeries → SavedColumn → SavedSeries
+with_saved_column s x = record { series = s.series; columns = s.columns ++ x ∷ [] }
 
 -- the series has exactly its columns with an index below n, each field once
 pub record ListsFirst (columns : List Column) (n : ℕ) (s : SavedSeries) : Type 0 where

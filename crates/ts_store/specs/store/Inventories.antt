@@ -7,7 +7,7 @@ use Rattle.ts_core.specs.lists.Numbered.{IsAt}
 use Rattle.ts_core.specs.facts.Facts.{Column, Fact}
 use Rattle.ts_core.specs.settings.Settings.{Rule, Settings}
 use Rattle.ts_core.specs.store.Cells.{Cell}
-use Rattle.ts_core.specs.moves.Runs.{turns_of}
+use Rattle.ts_core.specs.moves.Runs.{batches_of}
 use Rattle.ts_core.specs.store.StoreStates.{column_of}
 use Rattle.ts_core.specs.store.StoreData.{CellMap, StoreData}
 use Rattle.ts_line.specs.Parts.{Parts, line_facts}
@@ -118,14 +118,14 @@ FirstExpires (low ∷ lows) (a ∷ old) [] = ⊥
 FirstExpires (low ∷ lows) (a ∷ old) (b ∷ new) = (Expires low a b × (new ≡ old)) ⊎ ((expired_in low a ≡ 0) × (b ≡ a) × FirstExpires lows old new)
 
 -- the number of steps that remove all cells below the low indices
-abbrev pub turns_in : List ℤ → List (List Cell) → ℕ
-turns_in [] cells = 0
-turns_in (low ∷ lows) [] = 0
-turns_in (low ∷ lows) (a ∷ cells) = turns_of (expired_in low a) + turns_in lows cells
+abbrev pub batches_in : List ℤ → List (List Cell) → ℕ
+batches_in [] cells = 0
+batches_in (low ∷ lows) [] = 0
+batches_in (low ∷ lows) (a ∷ cells) = batches_of (expired_in low a) + batches_in lows cells
 
 -- the number of steps that an open run still takes: each waiting column takes one, and so does the end
 abbrev pub steps_in : List ℤ → Inventory → ℕ
-steps_in lows s = length s.waiting + turns_in lows s.cells + 1
+steps_in lows s = length s.waiting + batches_in lows s.cells + 1
 
 -- From `old`, a step of an open run may have this answer and lead to that inventory.
 pub data StepsTo (lows : List ℤ) (old : Inventory) : StepAnswer → Inventory → Type 0 where
@@ -133,7 +133,7 @@ pub data StepsTo (lows : List ℤ) (old : Inventory) : StepAnswer → Inventory 
   moves : (column : Column) (others : List Column) → old.waiting ≡ column ∷ others → StepsTo lows old Moved (record old { waiting = others })
   removes : (cells : List (List Cell)) → old.waiting ≡ [] → FirstExpires lows old.cells cells → StepsTo lows old Moved (record old { cells = cells })
   -- nothing is left
-  ends : old.waiting ≡ [] → turns_in lows old.cells ≡ 0 → StepsTo lows old Done old
+  ends : old.waiting ≡ [] → batches_in lows old.cells ≡ 0 → StepsTo lows old Done old
 
 -- the cells from the low index on stay, and no others
 pub record LeavesFrom (low : ℤ) (old new : List Cell) : Type 0 where

@@ -54,7 +54,7 @@ impl<A: Allocator + Copy> ColumnFacts<A> {
         ensures rollups { AreRollups rules.now (map column_of self.new.columns) self.new.rollups }
         ensures cells { cells_of self.new.rollups ≡ cells_of self.old.rollups }
     {
-        let points = StoredColumn::of(points)?;
+        let points = StoredColumn::from_points(points)?;
         let column = make_column(
             &mut self.index,
             &mut self.columns,

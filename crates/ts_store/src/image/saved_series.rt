@@ -5,7 +5,7 @@ ghost use Rattle.ts_core.specs.lists.Members.{AllDistinct};
 ghost use Rattle.ts_core.specs.lists.Numbered.{IsAt};
 ghost use Rattle.ts_core.specs.facts.Facts.{Column, text_cmp, series_cmp};
 ghost use Rattle.ts_core.specs.store.StoreStates.{column_of};
-ghost use Rattle.ts_store.specs.image.ColumnsListed.{without_columns, with_column, ListsColumns};
+ghost use Rattle.ts_store.specs.image.ColumnsListed.{without_columns, with_saved_column, ListsColumns};
 ghost use Rattle.ts_store.specs.image.SavedContent.{saved_field, saved_key, SavesColumns, SavesSeries};
 
 use crate::store::column_facts::ColumnFacts;
@@ -108,7 +108,7 @@ impl<'a, A: Allocator + Copy> SavedSeries<'a, A> {
 
     /// Appends a column.
     fn push(&mut self, column: SavedColumn<'a, A>) -> Result<(), AllocError>
-        ensures { OnOk result (self.new ≡ with_column self.old column.entry) }
+        ensures { OnOk result (self.new ≡ with_saved_column self.old column.entry) }
     {
         self.columns.push(column)?;
         Ok(())
@@ -160,7 +160,7 @@ fn list_columns<'a, A: Allocator + Copy>(
     ensures once { AllDistinct index.now.series }
 {
     for number in 0..index.column_count() {
-        let id = ColumnId::of(number)?;
+        let id = ColumnId::new(number)?;
         let series = index.series_of(id);
         all[series.number()].push(saved_column(index, id))?;
     }

@@ -32,7 +32,7 @@ impl<'a, A: Allocator> Model for Columns<'a, A> {
 }
 
 /// Returns a column of an index.
-fn seen<A: Allocator + Copy>(index: &Index<A>, id: ColumnId) -> ViewColumn<'_, A>
+fn view_column<A: Allocator + Copy>(index: &Index<A>, id: ColumnId) -> ViewColumn<'_, A>
     requires { id < length index.now.columns }
     ensures { result ≡ column_ref_in index.now.columns id }
 {
@@ -41,7 +41,7 @@ fn seen<A: Allocator + Copy>(index: &Index<A>, id: ColumnId) -> ViewColumn<'_, A
 }
 
 /// Returns the columns of an index with these ids.
-fn seen_all<'a, A: Allocator + Copy>(
+fn view_columns_of<'a, A: Allocator + Copy>(
     alloc: A,
     ids: &[ColumnId],
     index: &'a Index<A>,
@@ -51,7 +51,7 @@ fn seen_all<'a, A: Allocator + Copy>(
 {
     let mut columns = Vec::new(alloc);
     for id in ids {
-        columns.push(seen(index, *id))?;
+        columns.push(view_column(index, *id))?;
     }
     Ok(columns)
 }
@@ -67,7 +67,7 @@ fn names<A: Allocator + Copy>(index: &Index<A>, id: ColumnId) -> (&str, &str)
 
 impl<'a, A: Allocator> Columns<'a, A> {
     /// Creates an iterator over the columns with these ids.
-    pub fn of(left: &'a [ColumnId], index: &'a Index<A>) -> Columns<'a, A>
+    pub fn new(left: &'a [ColumnId], index: &'a Index<A>) -> Columns<'a, A>
         requires { AllByRecursion (λ n. n < length index.now.columns) left.now }
         ensures { result ≡ map (column_ref_in index.now.columns) left.now }
     {
@@ -102,7 +102,7 @@ impl<'a, A: Allocator + Copy> Columns<'a, A> {
     pub fn to_vec(&self, alloc: A) -> Result<Vec<ViewColumn<'a, A>, A>, AllocError>
         ensures { IfOk result (λ v. v.items ≡ self.now) }
     {
-        seen_all(alloc, self.left, self.index)
+        view_columns_of(alloc, self.left, self.index)
     }
 
     /// Returns about how many of these columns have a series with this value of a tag. It is a hint for the choice of a
@@ -140,7 +140,7 @@ impl<'a, A: Allocator + Copy> Columns<'a, A> {
                 let found = self
                     .index
                     .columns_with_tag(alloc, measurement, field, tag, value)?;
-                seen_all(alloc, &found, self.index)
+                view_columns_of(alloc, &found, self.index)
             }
         }
     }
@@ -171,6 +171,6 @@ impl<'a, A: Allocator + Copy> Iterator for Columns<'a, A> {
         let (first, others) = self.left.split_first()?;
         self.left = others;
         self.whole = false;
-        Some(seen(self.index, *first))
+        Some(view_column(self.index, *first))
     }
 }

@@ -76,7 +76,7 @@ fn refold_points<A: Allocator + Copy>(
         return;
     };
     let mut last = None;
-    for (time, _) in PointsBelow::of(&columns[column], mark) {
+    for (time, _) in PointsBelow::new(&columns[column], mark) {
         let index = index_of(rule, i128::from(time.nanos()));
         if !is_last(&last, &index) {
             let live = rollup_series_left(rule, rollup, columns, series, &index, column, mark);
@@ -106,7 +106,7 @@ fn move_points<A: Allocator + Copy>(
             rule,
             rollup,
             column,
-            PointsBelow::of(&columns[column], mark),
+            PointsBelow::new(&columns[column], mark),
         );
         refold_points(rule, rollup, columns, column, mark);
     }

@@ -32,7 +32,7 @@ impl<'a> Model for PointsBelow<'a> {
 
 impl<'a> PointsBelow<'a> {
     /// Creates an iterator over the points of a column below a mark.
-    pub(crate) fn of<A: Allocator + Copy>(
+    pub(crate) fn new<A: Allocator + Copy>(
         column: &'a StoredColumn<A>,
         mark: Time,
     ) -> PointsBelow<'a>

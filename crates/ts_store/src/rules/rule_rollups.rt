@@ -21,7 +21,7 @@ fn rollup_over<A: Allocator + Copy>(
 {
     let mut rollup = Rollup::new(alloc);
     for number in 0..index.column_count() {
-        let column = ColumnId::of(number)?;
+        let column = ColumnId::new(number)?;
         let key = index.key_of(index.series_of(column));
         rollup.prepare(rule, key, index.field_of(column).as_str())?;
         rollup.commit(column);

@@ -9,7 +9,7 @@ ghost use Rattle.ts_line.specs.Names.{IsKey, IsStatable};
 ghost use Rattle.ts_cells.specs.Grids.{cell_at, rollup_series_named};
 ghost use Rattle.ts_raw.specs.Columns.{AreTimed};
 ghost use Rattle.ts_raw.specs.PlainColumns.{IsRising};
-ghost use Rattle.ts_store.specs.image.Building.{new_built, with_series, with_column, with_cell, cell_map_at, IsBuildable, IsBuiltFrom};
+ghost use Rattle.ts_store.specs.image.Building.{new_built, with_built_series, with_built_column, with_built_cell, cell_map_at, IsBuildable, IsBuiltFrom};
 
 use crate::retain::run::Run;
 use crate::store::Store;
@@ -72,7 +72,7 @@ impl<A: Allocator + Copy> StoreBuilder<A> {
         requires few { length self.old.series < 1000000 }
         requires named { IsStatable key.now }
         ensures number { IfOk result (λ n. IsAt self.new.series n key.now) }
-        ensures ok { OnOk result (self.new ≡ with_series key.now self.old) }
+        ensures ok { OnOk result (self.new ≡ with_built_series key.now self.old) }
         ensures err { OnErr result (self.new ≡ self.old) }
     {
         self.facts.add_series(key)
@@ -92,7 +92,7 @@ impl<A: Allocator + Copy> StoreBuilder<A> {
         requires key { IsKey field.now }
         requires rising { IsRising points.items }
         requires timed { AreTimed points.items }
-        ensures ok { (s : Series) → IsAt self.old.series series s → OnOk result (self.new ≡ with_column (record { column = record { series = s; field = field.now }; points = points.items }) waits self.old) }
+        ensures ok { (s : Series) → IsAt self.old.series series s → OnOk result (self.new ≡ with_built_column (record { column = record { series = s; field = field.now }; points = points.items }) waits self.old) }
         ensures err { OnErr result (self.new ≡ self.old) }
     {
         self.passed.reserve(1)?;
@@ -114,7 +114,7 @@ impl<A: Allocator + Copy> StoreBuilder<A> {
     ) -> Result<(), AllocError>
         requires rule { rule < length self.old.settings.rules }
         requires absent { finmap.get (cell_map_at self.old.cells rule) (cell_at index.now (rollup_series_named field.now group.now)) ≡ None }
-        ensures ok { OnOk result (self.new ≡ with_cell rule (cell_at index.now (rollup_series_named field.now group.now)) frozen self.old) }
+        ensures ok { OnOk result (self.new ≡ with_built_cell rule (cell_at index.now (rollup_series_named field.now group.now)) frozen self.old) }
         ensures err { OnErr result (self.new ≡ self.old) }
     {
         self.facts.add_cell(rule, index, field, group, frozen)

@@ -16,8 +16,8 @@ ghost use Rattle.ts_core.specs.store.StoreStates.{column_of};
 use crate::read::Columns;
 use crate::rollup::{Rollup, new_rollups};
 use crate::write::columns::prepare_line;
+use crate::write::committing::commit_points;
 use crate::write::creating::create_cells;
-use crate::write::putting::put_points;
 use std::alloc::{AllocError, Allocator};
 use std::marker::Model;
 use ts_core::{KeyRef, Rule};
@@ -74,7 +74,7 @@ impl<A: Allocator + Copy> ColumnFacts<A> {
     /// Inserts the facts of a line, replacing those with their ids, and adds them to the cells of the rules that roll
     /// them up. Allocates everything before it inserts the first. On allocation failure, no fact is inserted, but the
     /// series, some columns without points and some cells without facts may exist.
-    pub(crate) fn put_line<L: Allocator>(
+    pub(crate) fn insert_line<L: Allocator>(
         &mut self,
         rules: &[Rule<A>],
         lows: &[i128],
@@ -112,7 +112,7 @@ impl<A: Allocator + Copy> ColumnFacts<A> {
             self.touched.as_slice(),
             line.time(),
         )?;
-        put_points(
+        commit_points(
             &mut self.columns,
             rules,
             self.rollups.as_mut_slice(),

@@ -44,7 +44,7 @@ impl<'i, A: Allocator + Copy> Call<A> for Save<'i> {
     fn make(&self, alloc: A, store: &mut Store<A>) -> Answer {
         let mut sink = Sink::new(Vec::new(alloc));
         match save(alloc, &*store, &mut sink) {
-            Ok(()) => Answer::of(sink.into_inner().as_slice() == self.image),
+            Ok(()) => Answer::new(sink.into_inner().as_slice() == self.image),
             Err(SaveFault::OutOfMemory | SaveFault::Device) => Answer::OutOfMemory,
             Err(SaveFault::Unfit) => Answer::Wrong,
         }

@@ -73,7 +73,7 @@ impl<A: Allocator + Copy> Call<A> for Parse {
     fn make(&self, alloc: A, _store: &mut Store<A>) -> Answer {
         match parse(alloc, QUERY, Time::least()) {
             Ok(queries) => match queries.as_slice() {
-                [query] => Answer::of(is_right_query(query)),
+                [query] => Answer::new(is_right_query(query)),
                 _ => Answer::Wrong,
             },
             Err(ParseError::OutOfMemory) => Answer::OutOfMemory,
@@ -91,7 +91,7 @@ struct ReadCertificate {
 impl<A: Allocator + Copy> Call<A> for ReadCertificate {
     fn make(&self, alloc: A, _store: &mut Store<A>) -> Answer {
         match read_certificate(alloc, PLAN) {
-            Ok(certificate) => Answer::of(is_right_plan(self.json, &certificate)),
+            Ok(certificate) => Answer::new(is_right_plan(self.json, &certificate)),
             Err(ReadCertificateError::OutOfMemory) => Answer::OutOfMemory,
             Err(_) => Answer::Wrong,
         }
@@ -108,7 +108,7 @@ struct Plan<A: Allocator> {
 impl<A: Allocator + Copy> Call<A> for Plan<A> {
     fn make(&self, alloc: A, store: &mut Store<A>) -> Answer {
         match plan(alloc, store.settings(), store.marks(), &self.query) {
-            Ok(certificate) => Answer::of(is_right_plan(self.json, &certificate)),
+            Ok(certificate) => Answer::new(is_right_plan(self.json, &certificate)),
             Err(PlanError::OutOfMemory) => Answer::OutOfMemory,
             Err(_) => Answer::Wrong,
         }
@@ -132,7 +132,7 @@ impl<A: Allocator + Copy> Call<A> for Check<A> {
             &self.certificate,
         ) {
             Ok(checked) => {
-                Answer::of(checked.pieces().len() == 2 && is_right_query(checked.query()))
+                Answer::new(checked.pieces().len() == 2 && is_right_query(checked.query()))
             }
             Err(CheckError::OutOfMemory) => Answer::OutOfMemory,
             Err(_) => Answer::Wrong,
@@ -149,7 +149,7 @@ struct Execute<A: Allocator> {
 impl<A: Allocator + Copy> Call<A> for Execute<A> {
     fn make(&self, alloc: A, store: &mut Store<A>) -> Answer {
         match execute(alloc, &*store, &self.plan) {
-            Ok(table) => Answer::of(is_right_table(&table)),
+            Ok(table) => Answer::new(is_right_table(&table)),
             Err(ExecFault::OutOfMemory) => Answer::OutOfMemory,
             Err(_) => Answer::Wrong,
         }
@@ -165,7 +165,7 @@ struct Reply {
 impl<A: Allocator + Copy> Call<A> for Reply {
     fn make(&self, alloc: A, store: &mut Store<A>) -> Answer {
         match replies(alloc, self.json, store, QUERIES, REPLY) {
-            Ok(is_right) => Answer::of(is_right),
+            Ok(is_right) => Answer::new(is_right),
             Err(_) => Answer::OutOfMemory,
         }
     }

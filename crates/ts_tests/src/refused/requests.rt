@@ -42,7 +42,7 @@ impl<A: Allocator + Copy> Call<A> for Request {
     fn make(&self, alloc: A, store: &mut Store<A>) -> Answer {
         match reply_to(alloc, self.json, store, self.bytes) {
             Some(reply) if reply.as_slice() == OUT_OF_MEMORY => Answer::OutOfMemory,
-            Some(reply) => Answer::of(reply.as_slice() == self.reply),
+            Some(reply) => Answer::new(reply.as_slice() == self.reply),
             None => Answer::Wrong,
         }
     }

@@ -30,7 +30,7 @@ struct AddRule {
 impl<A: Allocator + Copy> Call<A> for AddRule {
     fn make(&self, alloc: A, store: &mut Store<A>) -> Answer {
         match store.add_rule_text(alloc, self.json, RULE) {
-            Ok(added) => Answer::of(added.name.as_str() == "m10" && added.low == 1),
+            Ok(added) => Answer::new(added.name.as_str() == "m10" && added.low == 1),
             Err(SettingsError::OutOfMemory) => Answer::OutOfMemory,
             Err(_) => Answer::Wrong,
         }
@@ -55,7 +55,7 @@ struct ReadSettings {
 impl<A: Allocator + Copy> Call<A> for ReadSettings {
     fn make(&self, alloc: A, _store: &mut Store<A>) -> Answer {
         match Settings::read(alloc, self.json, SETTINGS) {
-            Ok(settings) => Answer::of(are_right(&settings)),
+            Ok(settings) => Answer::new(are_right(&settings)),
             Err(SettingsError::OutOfMemory) => Answer::OutOfMemory,
             Err(_) => Answer::Wrong,
         }
@@ -71,7 +71,7 @@ struct NewStore {
 /// Returns the answer of creating a store with these settings.
 fn created<A: Allocator + Copy>(alloc: A, settings: Settings<A>) -> Answer {
     match Store::new(alloc, settings) {
-        Ok(store) => Answer::of(are_right(store.settings()) && store.accepted() == 0),
+        Ok(store) => Answer::new(are_right(store.settings()) && store.accepted() == 0),
         Err(_) => Answer::OutOfMemory,
     }
 }

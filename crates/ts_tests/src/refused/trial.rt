@@ -39,7 +39,7 @@ pub(super) enum Answer {
 
 impl Answer {
     /// Returns `Right` if the answer is right, else `Wrong`.
-    pub(super) fn of(is_right: bool) -> Answer {
+    pub(super) fn new(is_right: bool) -> Answer {
         if is_right {
             Answer::Right
         } else {
@@ -107,8 +107,8 @@ pub(super) fn replies<A: Allocator + Copy>(
 
 /// Returns true if two stores have the same settings, marks, numbers and open run.
 fn are_alike<A: Allocator + Copy>(one: &Store<A>, other: &Store<A>) -> bool {
-    one.settings().is(other.settings())
-        && one.marks().is(other.marks())
+    one.settings().equals(other.settings())
+        && one.marks().equals(other.marks())
         && one.accepted() == other.accepted()
         && one.raw_points() == other.raw_points()
         && one.run_in_progress() == other.run_in_progress()

@@ -16,7 +16,7 @@ struct Write {
 impl<A: Allocator + Copy> Call<A> for Write {
     fn make(&self, alloc: A, store: &mut Store<A>) -> Answer {
         match write(alloc, store, self.line) {
-            Ok(is_accepted) => Answer::of(is_accepted),
+            Ok(is_accepted) => Answer::new(is_accepted),
             Err(_) => Answer::OutOfMemory,
         }
     }

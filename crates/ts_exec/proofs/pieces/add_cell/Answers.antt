@@ -12,7 +12,7 @@ use Rattle.ts_ql.specs.Selects.{texts}
 use Rattle.ts_store.specs.read.ViewResults.{SeenCell}
 use Rattle.ts_exec.specs.Borrowed.{borrowed}
 use Rattle.ts_exec.specs.RowParts.{BucketGrid, bucket_grid, row_index_at}
-use Rattle.ts_exec.specs.GroupTables.{Table, width, is_cell_taken, with_cell_part, with_cell}
+use Rattle.ts_exec.specs.GroupTables.{Table, width, is_cell_taken, with_cell_part, with_rule_cell}
 use Rattle.ts_exec.proofs.Walked.{within_fits, taken-within}
 use Rattle.ts_exec.proofs.Widths.{row_index-within}
 use Rattle.ts_exec.proofs.pieces.add_cell.Goals as goal
@@ -58,7 +58,7 @@ returns-clause-value g c =
     let read : borrowed c.read_kept_values.new.values.items ≡ map (value_among (zip (map string_bytes c.kept_tags.result.now) (map string_bytes c.cell.inside.group.now))) (texts c.group_tags.result.now) = search rules in
     let v : borrowed c.deref.result.now ≡ group_of q (representative r k.cell) =
     ap borrowed c.deref.ensures.value ∙ read ∙ ap₂ (λ (ts : List (Text × Text)) (ks : List Text). map (value_among ts) ks) (ap₂ (λ (xs ys : List Text). zip xs ys) kept group) tags in
-    let put : with_cell_part (width q) (borrowed c.deref.result.now) c.row_index-row_index.result (total_in k.parts) c.args.groups.now ≡ with_cell q r c.args.from c.args.to k c.args.groups.now =
+    let put : with_cell_part (width q) (borrowed c.deref.result.now) c.row_index-row_index.result (total_in k.parts) c.args.groups.now ≡ with_rule_cell q r c.args.from c.args.to k c.args.groups.now =
     ap₂ (λ (x : List Text) i. with_cell_part (width q) x i (total_in k.parts) c.args.groups.now) v p
     ∙ sym (ap (λ b. cond b (with_cell_part (width q) (group_of q (representative r k.cell)) (row_index_at (bucket_grid q) t) (total_in k.parts) c.args.groups.now) c.args.groups.now) e) in
     subst (λ (z : Table). OnOk c.add_part.result (c.add_part.new.self ≡ z)) put (search rules)

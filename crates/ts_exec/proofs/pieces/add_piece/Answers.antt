@@ -5,7 +5,7 @@ use Rattle.ts_core.specs.store.Views.{ViewState}
 use Rattle.ts_core.specs.plans.Pieces.{Source, Rollup}
 use Rattle.ts_core.specs.store.StoreStates.{RuleCells, rule_of}
 use Rattle.ts_exec.specs.FirstOf.{rule_from}
-use Rattle.ts_exec.specs.GroupTables.{Table, with_rule, with_source}
+use Rattle.ts_exec.specs.GroupTables.{Table, with_rule_cells, with_source}
 use Rattle.ts_exec.proofs.NamedRules.{found-shown, none-shown, found-holds, found-put}
 use Rattle.ts_exec.proofs.pieces.add_piece.Goals as goal
 
@@ -40,4 +40,4 @@ returns-in-None-clause-value g c =
     let own_name : c.args.piece.now.source ≡ Rollup c.in-Rollup.name = search rules in
     let source = own_name ∙ ap Rollup (sym c.as_str.ensures.value) in
     sym (ap (λ (z : Source). with_source c.args.parts seen q z c.args.piece.now.from c.args.piece.now.to c.args.groups.now) source
-    ∙ ap (λ o. with_rule q c.args.piece.now.from c.args.piece.now.to o c.args.groups.now) (none-shown c.as_str.result.now seen.rules 0 e))
+    ∙ ap (λ o. with_rule_cells q c.args.piece.now.from c.args.piece.now.to o c.args.groups.now) (none-shown c.as_str.result.now seen.rules 0 e))

@@ -6,8 +6,8 @@ use Rattle.ts_exec.specs.RowParts.{BucketGrid, IsRun, with_part, with_point_part
 use Rattle.ts_exec.proofs.Blocks.{front-some, front-first}
 use Rattle.ts_exec.proofs.rows.first_block.Goals as goal
 
-pub of-requires-clause-some : goal.of-requires-clause-some
-of-requires-clause-some g c = front-some _ _ _ _ c.in_ok-part.part c.in_ok-part.ensures
+pub from_agg-requires-clause-some : goal.from_agg-requires-clause-some
+from_agg-requires-clause-some g c = front-some _ _ _ _ c.in_ok-part.part c.in_ok-part.ensures
 
 pub returns-clause-run : goal.returns-clause-run
 returns-clause-run g c =
@@ -26,7 +26,7 @@ returns-clause-run g c =
     let bounded : (get_or rows row_index empty_aggregate).count + (length all + 1) ≤ 2 ^ 62 = search rules in
     let front : IsFront low high all left a = rw (to_z-of_z low_fits, to_z-of_z high_fits) at c.in_ok-part.ensures in
     let first = front-first parts grid rows low high row_index all left a short c.span-span.ensures.others bounded front in
-    rw (to_z-of_z low_fits, to_z-of_z high_fits) (subst (λ (x : Aggregate). IsRun grid rows (length left) low high row_index x) (sym c.of.ensures) first.1)
+    rw (to_z-of_z low_fits, to_z-of_z high_fits) (subst (λ (x : Aggregate). IsRun grid rows (length left) low high row_index x) (sym c.from_agg.ensures) first.1)
 
 pub returns-clause-value : goal.returns-clause-value
 returns-clause-value g c =
@@ -45,4 +45,4 @@ returns-clause-value g c =
     let bounded : (get_or rows row_index empty_aggregate).count + (length all + 1) ≤ 2 ^ 62 = search rules in
     let front : IsFront low high all left a = rw (to_z-of_z low_fits, to_z-of_z high_fits) at c.in_ok-part.ensures in
     let first = front-first parts grid rows low high row_index all left a short c.span-span.ensures.others bounded front in
-    ap (λ (x : Aggregate). with_point_parts parts grid left (with_part row_index x rows)) c.of.ensures ∙ first.0
+    ap (λ (x : Aggregate). with_point_parts parts grid left (with_part row_index x rows)) c.from_agg.ensures ∙ first.0

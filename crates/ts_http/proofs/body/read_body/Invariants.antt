@@ -9,7 +9,7 @@ invariant-loop-have g l = record {
   size : length l.body ≡ length l.initial.body;
   came : (got : Text) × (take l.have l.body ≡ take l.initial.have l.initial.body ++ got) × (l.have ≡ l.initial.have + length got) × Consumes l.initial.source.remaining l.source.remaining got;
   failures : l.source.failures ≡ l.initial.source.failures;
-  turns : l.source.turns + l.initial.have ≤ l.initial.source.turns + l.have;
+  reads : l.source.reads + l.initial.have ≤ l.initial.source.reads + l.have;
 }
 
 abbrev pub decreases-loop-have : goal.decreases-loop-have

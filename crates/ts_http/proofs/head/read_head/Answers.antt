@@ -17,7 +17,7 @@ returns-then-more-eq0 g c =
       bytes = none_came _ _ _ count c.in_ok-more.more c.loop-count.buffer c.read_behind.new.buffer none i.came r.came;
       head = end_told (take count c.read_behind.new.buffer) count c.read_behind.new.source c.loop-count.spans c.at_end.result (length-take-le count c.read_behind.new.buffer (omega (arith, i.within, r.size))) (omega (arith, c.loop-count-test.true, i.buffer)) (λ some. subst IsUnfinishedHead (sym same) (i.unfinished some)) (r.end none) c.at_end.ensures.none c.at_end.ensures.some;
       failures = search rules;
-      turns = omega (arith, r.turns, i.turns, c.loop-count-test.true, i.buffer);
+      reads = omega (arith, r.reads, i.reads, c.loop-count-test.true, i.buffer);
     }
 
 pub returns-in-Some : goal.returns-in-Some
@@ -32,7 +32,7 @@ returns-in-Some g c =
       bytes = more_came _ _ _ c.loop-count.count c.in_ok-more.more c.loop-count.buffer c.read_behind.new.buffer i.came r.came;
       head = front_told came (unwrap_or c.read_behind.new.source.remaining []) c.look.new.spans c.in-Some.head (omega (arith, length-take-le count c.read_behind.new.buffer (omega (arith, r.within, r.size)), r.within, i.buffer)) (c.look.ensures.spans ∙ i.spans) c.in-Some.ensures.front;
       failures = omega (arith, r.failures, i.failures);
-      turns = omega (arith, r.turns, i.turns, r.within, i.buffer, some);
+      reads = omega (arith, r.reads, i.reads, r.within, i.buffer, some);
     }
 
 pub returns : goal.returns
@@ -45,5 +45,5 @@ returns g c =
       bytes = i.came;
       head = too_long_told (take count c.loop-count.buffer) (unwrap_or c.loop-count.source.remaining []) c.loop-count.spans size (i.unfinished (omega (arith, i.buffer, c.loop-count-test.false)));
       failures = omega (arith, i.failures);
-      turns = omega (arith, i.turns, i.buffer, i.within);
+      reads = omega (arith, i.reads, i.buffer, i.within);
     }

@@ -11,7 +11,7 @@ invariant-loop-count g l = record {
   came : Consumes l.initial.source.remaining l.source.remaining (take l.count l.buffer);
   unfinished : 0 < l.count → IsUnfinishedHead (take l.count l.buffer);
   failures : l.source.failures ≡ l.initial.source.failures;
-  turns : l.source.turns ≤ l.initial.source.turns + l.count;
+  reads : l.source.reads ≤ l.initial.source.reads + l.count;
 }
 
 abbrev pub decreases-loop-count : goal.decreases-loop-count

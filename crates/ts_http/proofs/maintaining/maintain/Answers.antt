@@ -14,8 +14,8 @@ returns-in-Err g c = steps_refused c.args.now c.args.query.now c.args.store.now 
 
 pub returns : goal.returns
 returns g c =
-    let k : StoreData = c.take_steps-progress.new.store in
-    let text : c.progress_note.result.bytes ≡ progress_text c.take_steps-progress.result.done k.marks.raw c.take_steps-progress.result.taken = search rules in
-    maintained c.args.now c.args.query.now c.args.store.now c.in-Ok.limit k c.take_steps-progress.result.taken c.take_steps-progress.result.done (Brief Success c.progress_note.result) c.in-Ok.ensures c.open_run.ensures.begins
-    (subst (λ (old : StoreData). HasStepped c.in-Ok.limit old k c.take_steps-progress.result.taken c.take_steps-progress.result.done) c.open_run.ensures.opened c.take_steps-progress.ensures)
+    let k : StoreData = c.run_steps-progress.new.store in
+    let text : c.progress_note.result.bytes ≡ progress_text c.run_steps-progress.result.done k.marks.raw c.run_steps-progress.result.taken = search rules in
+    maintained c.args.now c.args.query.now c.args.store.now c.in-Ok.limit k c.run_steps-progress.result.taken c.run_steps-progress.result.done (Brief Success c.progress_note.result) c.in-Ok.ensures c.open_run.ensures.begins
+    (subst (λ (old : StoreData). HasStepped c.in-Ok.limit old k c.run_steps-progress.result.taken c.run_steps-progress.result.done) c.open_run.ensures.opened c.run_steps-progress.ensures)
     (ap (λ (t : Text). answer_reply true t) text)

@@ -20,5 +20,5 @@ returns-in-Ok g c =
       came = (take n buf, stands_behind buffer buf count n there size some, length-take-le n buf some, c.in-Ok.ensures.bytes.0);
       end = λ none. c.in-Ok.ensures.bytes.1 none (omega (arith, size, c.requires));
       failures = search rules;
-      turns = search rules;
+      reads = search rules;
     }

@@ -16,7 +16,7 @@ pub returns-in_err-count : goal.returns-in_err-count
 returns-in_err-count g c =
     let p = err_from_is_err_and c.from_residual.result c.from_residual.ensures.1 in
     let r = c.in_err-count.ensures in
-    read_failed c.args.now c.args.store.now c.args.store.now c.args.source.now c.read_head.new.source c.args.sink.now c.from_residual.result (p.1 ∙ ap Err p.2) refl r.failures (omega (arith, r.turns))
+    read_failed c.args.now c.args.store.now c.args.store.now c.args.source.now c.read_head.new.source c.args.sink.now c.from_residual.result (p.1 ∙ ap Err p.2) refl r.failures (omega (arith, r.reads))
 
 pub body_len-requires : goal.body_len-requires
 body_len-requires g c =
@@ -29,14 +29,14 @@ returns-in_err-outcome-in-Ok g c =
     let p = err_from_is_err_and c.from_residual-in_err-outcome-in-Ok.result c.from_residual-in_err-outcome-in-Ok.ensures.1 in
     let h = c.in_ok-count.ensures in
     let a = c.in_err-outcome-in-Ok.ensures in
-    read_failed c.args.now c.args.store.now c.act_on_body.new.store c.args.source.now c.act_on_body.new.source c.args.sink.now c.from_residual-in_err-outcome-in-Ok.result (p.1 ∙ ap Err p.2) a.unread (omega (arith, h.failures, a.failures)) (omega (arith, h.turns, a.turns, c.in-Ok.ensures.2))
+    read_failed c.args.now c.args.store.now c.act_on_body.new.store c.args.source.now c.act_on_body.new.source c.args.sink.now c.from_residual-in_err-outcome-in-Ok.result (p.1 ∙ ap Err p.2) a.unread (omega (arith, h.failures, a.failures)) (omega (arith, h.reads, a.reads, c.in-Ok.ensures.2))
 
 pub returns-in-Nothing : goal.returns-in-Nothing
 returns-in-Nothing g c =
     let h = c.in_ok-count.ensures in
     let came = take c.in_ok-count.count c.read_head.new.buffer in
     let told = subst (TellsHead (request_of came c.read_head.new.source) came c.read_head.new.spans) c.in-Nothing.is h.head in
-    nothing_served c.args.now c.args.store.now c.args.source.now c.read_head.new.source c.args.sink.now came h.bytes told (omega (arith, h.failures)) (omega (arith, h.turns))
+    nothing_served c.args.now c.args.store.now c.args.source.now c.read_head.new.source c.args.sink.now came h.bytes told (omega (arith, h.failures)) (omega (arith, h.reads))
 
 pub returns-in-Fault : goal.returns-in-Fault
 returns-in-Fault g c =
@@ -44,7 +44,7 @@ returns-in-Fault g c =
     let came = take c.in_ok-count.count c.read_head.new.buffer in
     let told = subst (TellsHead (request_of came c.read_head.new.source) came c.read_head.new.spans) c.in-Fault.is h.head in
     sent_told c.args.now c.args.store.now c.args.store.now c.args.source.now c.read_head.new.source c.args.sink.now c.reply.new.sink (outcomes.Refused (refusals.Head c.in-Fault.fault)) to.Other _ came c.reply.result c.reply.ensures h.bytes
-    (λ s i. (s, Serves.refuses (refusals.Head c.in-Fault.fault) to.Other _ (Asks.no_head c.in-Fault.fault told), i)) (omega (arith, h.failures)) (omega (arith, h.turns))
+    (λ s i. (s, Serves.refuses (refusals.Head c.in-Fault.fault) to.Other _ (Asks.no_head c.in-Fault.fault told), i)) (omega (arith, h.failures)) (omega (arith, h.reads))
 
 pub returns-in-Err : goal.returns-in-Err
 returns-in-Err g c =
@@ -57,7 +57,7 @@ returns-in-Err g c =
     let told = subst (TellsHead bytes came spans) c.in-Whole.is h.head in
     let asks = asks_refused came spans found told.1.0 told.1.1 bytes (drop found.len bytes) q.result.route q.result.method c.in-Err.refusal told.1.2 q.ensures.route q.ensures.method c.in-Err.ensures in
     sent_told c.args.now c.args.store.now c.args.store.now c.args.source.now c.read_head.new.source c.args.sink.now c.reply-in-Err.new.sink (outcomes.Refused c.in-Err.refusal) q.result.route c.is_head.result came c.reply-in-Err.result c.reply-in-Err.ensures h.bytes
-    (λ s i. (s, Serves.refuses c.in-Err.refusal q.result.route c.is_head.result (subst (λ b. Asks bytes (Refuses c.in-Err.refusal q.result.route b)) (sym c.is_head.ensures) asks), i)) (omega (arith, h.failures)) (omega (arith, h.turns))
+    (λ s i. (s, Serves.refuses c.in-Err.refusal q.result.route c.is_head.result (subst (λ b. Asks bytes (Refuses c.in-Err.refusal q.result.route b)) (sym c.is_head.ensures) asks), i)) (omega (arith, h.failures)) (omega (arith, h.reads))
 
 pub returns-in_ok-outcome-in-Ok : goal.returns-in_ok-outcome-in-Ok
 returns-in_ok-outcome-in-Ok g c =
@@ -78,4 +78,4 @@ returns-in_ok-outcome-in-Ok g c =
     (Consumes-trans c.args.source.now.remaining c.read_head.new.source.remaining source.remaining came got h.bytes a.acted.1)
     (λ s i. asks_taken came spans found told.1.0 told.1.1 (request_of (came ++ got) source) (q.result.behind.now ++ more) c.args.now q.result.route q.result.method q.result.query.now c.in-Ok.len c.args.store.now c.act_on_body.new.store c.in_ok-outcome-in-Ok.outcome s whole
     q.ensures.route q.ensures.method q.ensures.query c.in-Ok.ensures.0 c.in-Ok.ensures.1 a.acted.2 i)
-    (omega (arith, h.failures, a.failures)) (omega (arith, h.turns, a.turns, c.in-Ok.ensures.2))
+    (omega (arith, h.failures, a.failures)) (omega (arith, h.reads, a.reads, c.in-Ok.ensures.2))

@@ -23,4 +23,4 @@ returns-in_err-put_text g c = λ r same.
 pub returns : goal.returns
 returns g c = λ r same.
     let k : Cell = record { index = c.args.index.now; field = c.args.field.now; group = map string_bytes c.args.group.now } in
-    iso_puts _ _ k (also_puts c.in_ok-put_index.ensures (also_puts c.in_ok-put_text.ensures (along_puts text r.kept_tags (map string_bytes c.args.group.now) _ _ _ _ _ (length-map c.args.group.now string_bytes ∙ same) c.put_texts.ensures)))
+    iso_puts _ _ k (also_puts c.in_ok-put_index.ensures (also_puts c.in_ok-put_text.ensures (along_puts text r.kept_tags (map string_bytes c.args.group.now) _ _ _ _ _ (length-map c.args.group.now string_bytes ∙ same) c.put_strings.ensures)))

@@ -9,4 +9,4 @@ returns g c =
     let z = c.args.value.now in
     let f : SFits w128 z = search rules in
     let e : to_z w128 (of_z w128 z) ≡ z = to_z-of_z f in
-    put_field (signed_number w128) z (to_be_bytes w128 (cast_unsigned w128 z)) c.to_be_bytes.result c.args.sink.now c.put.new.sink c.args.out.now c.put.new.self c.put.result refl f (c.to_be_bytes.ensures ∙ ap (λ (x : ℤ). to_be_bytes w128 (cast_unsigned w128 x)) e) c.put.ensures
+    put_field (signed_number w128) z (to_be_bytes w128 (cast_unsigned w128 z)) c.to_be_bytes.result c.args.sink.now c.write_all.new.sink c.args.out.now c.write_all.new.self c.write_all.result refl f (c.to_be_bytes.ensures ∙ ap (λ (x : ℤ). to_be_bytes w128 (cast_unsigned w128 x)) e) c.write_all.ensures

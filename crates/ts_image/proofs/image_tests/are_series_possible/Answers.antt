@@ -26,7 +26,7 @@ returns g c =
     let all = subst (λ (l : List (SeriesParts g.row.A.Denot)). AllByRecursion (IsImageSeries p.marks.raw p.runs) (map series_of_parts l)) c.deref.ensures.value (c.if-not-are_series.ensures.0 refl) in
     let e = ap (map series_key_of) c.deref-2.ensures.value ∙ mapped (λ (x : ImageSeries). x.series) series_of_parts p.series.items in
     let q = ap (λ (l : List (SeriesParts g.row.A.Denot)). points_in_all (map series_of_parts l)) c.deref-3.ensures.value in
-    let t = taken p.accepted (points_in_all (map series_of_parts c.deref-3.result.now)) c.take_series.result c.take_series.ensures in (
+    let t = taken p.accepted (points_in_all (map series_of_parts c.deref-3.result.now)) c.subtract_series.result c.subtract_series.ensures in (
       λ h. record {
         series = all;
         rising = subst (AreRising series_cmp) e (c.if-not-are_series_rising.ensures.0 refl);

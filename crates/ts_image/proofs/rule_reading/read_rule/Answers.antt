@@ -18,7 +18,7 @@ returns g c =
     let e2 : to_z w64 (of_z w64 c.in_ok-offset.offset) ≡ c.in_ok-offset.offset = to_z-of_z f2 in
     let e3 : to_z w64 (of_z w64 c.in_ok-duration.duration) ≡ c.in_ok-duration.duration = to_z-of_z f3 in
     rw (e1, e2, e3)
-    (iso_reads _ _ _ _ rule_from_parts c.args.reader.now c.read_counted_texts.new.reader c.args.source.now c.read_counted_texts.new.source _ _ refl
+    (iso_reads _ _ _ _ rule_from_parts c.args.reader.now c.read_counted_strings.new.reader c.args.source.now c.read_counted_strings.new.source _ _ refl
     (also_reads text (also text (also (signed_number w64) (also (signed_number w64) (also (signed_number w64) (list_of w8 text))))) string_bytes _ _ _ _ _ _ _ c.in_ok-name.name _ c.in_ok-name.ensures
     (also_reads text (also (signed_number w64) (also (signed_number w64) (also (signed_number w64) (list_of w8 text)))) string_bytes _ _ _ _ _ _ _ c.in_ok-measurement.measurement _ c.in_ok-measurement.ensures
     (also_reads (signed_number w64) (also (signed_number w64) (also (signed_number w64) (list_of w8 text))) as_it_is _ _ _ _ _ _ _ c.in_ok-interval.interval _ c.in_ok-interval.ensures

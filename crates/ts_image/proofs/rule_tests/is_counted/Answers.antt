@@ -15,5 +15,5 @@ returns-in-Some g c =
     let ss = map series_of_parts c.args.series.now in
     let d = ap (λ (l : List (CellParts g.row.A.Denot)). count_frozen (map cell_of_parts l)) c.deref.ensures.value in
     let q = of_measurement (string_bytes c.args.rule.now.measurement) ss ∙ ap (λ (x : Text). sum_by (points_if x) ss) (sym c.as_str.ensures.value) in
-    let p = counted c.args.accepted c.in-Some.left (count_frozen (map cell_of_parts c.deref.result.now)) (sum_by (points_if c.as_str.result.now) ss) c.take_measurement.result c.in-Some.ensures c.take_measurement.ensures in
+    let p = counted c.args.accepted c.in-Some.left (count_frozen (map cell_of_parts c.deref.result.now)) (sum_by (points_if c.as_str.result.now) ss) c.subtract_measurement.result c.in-Some.ensures c.subtract_measurement.ensures in
     (λ h. let k = p.0 (sym c.is_some.ensures ∙ h) in record { enough = omega (arith, k, q, d) }, λ z. let le = z.enough in c.is_some.ensures ∙ p.1 (omega (arith, le, q, d)))

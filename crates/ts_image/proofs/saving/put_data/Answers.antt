@@ -11,7 +11,7 @@ use Rattle.ts_image.specs.Formats.{number, also, along, list_of}
 use Rattle.ts_image.specs.Images.{ImageRule, image_series, image_cell}
 use Rattle.ts_image.specs.FieldWriting.{PutsField}
 use Rattle.ts_image.specs.SavedParts.{image_rule_of, image_settings_of}
-use Rattle.ts_image.specs.Saving.{image_cells_from, image_of, FitCellsFrom}
+use Rattle.ts_image.specs.Saving.{image_cells_from, store_image, FitCellsFrom}
 use Rattle.ts_image.proofs.Putting.{puts_at, and_puts, and_stops, also_puts, also_stops, iso_puts}
 use Rattle.ts_image.proofs.SavedOf.{after_settings}
 use Rattle.ts_image.proofs.Saved.{byte_is}
@@ -22,7 +22,7 @@ returns-in_err-put_settings g c =
     let k : StoreData = c.args.store.now in
     let rs : List ImageRule = map image_rule_of k.settings.rules in
     let p = err_from_is_err_and c.from_residual.result c.from_residual.ensures.1 in
-    rw p.1 (iso_puts _ _ (image_of k c.args.all.now) (and_stops (after_settings V2) _ _ (puts_at (ap image_settings_of c.settings.ensures.value) c.in_err-put_settings.ensures)))
+    rw p.1 (iso_puts _ _ (store_image k c.args.all.now) (and_stops (after_settings V2) _ _ (puts_at (ap image_settings_of c.settings.ensures.value) c.in_err-put_settings.ensures)))
 
 pub returns-in_err-put_marks : goal.returns-in_err-put_marks
 returns-in_err-put_marks g c =
@@ -30,7 +30,7 @@ returns-in_err-put_marks g c =
     let rs : List ImageRule = map image_rule_of k.settings.rules in
     let same : length c.marks.result.now.lows ≡ length rs = ap (λ (m : Marks). length m.lows) c.marks.ensures.value ∙ c.marks.ensures.lows ∙ sym (length-map k.settings.rules image_rule_of) in
     let p = err_from_is_err_and c.from_residual-in_err-put_marks.result c.from_residual-in_err-put_marks.ensures.1 in
-    rw p.1 (iso_puts _ _ (image_of k c.args.all.now) (and_puts (after_settings V2) (puts_at (ap image_settings_of c.settings.ensures.value) c.in_ok-put_settings.ensures) (also_stops (also (number w8) (also (number w64) (also (list_of w32 (image_series V2)) (along (λ (r : ImageRule). list_of w64 (image_cell r)) rs)))) _ _ (puts_at c.marks.ensures.value (c.in_err-put_marks.ensures rs same)))))
+    rw p.1 (iso_puts _ _ (store_image k c.args.all.now) (and_puts (after_settings V2) (puts_at (ap image_settings_of c.settings.ensures.value) c.in_ok-put_settings.ensures) (also_stops (also (number w8) (also (number w64) (also (list_of w32 (image_series V2)) (along (λ (r : ImageRule). list_of w64 (image_cell r)) rs)))) _ _ (puts_at c.marks.ensures.value (c.in_err-put_marks.ensures rs same)))))
 
 pub returns-in_err-put_u8 : goal.returns-in_err-put_u8
 returns-in_err-put_u8 g c =
@@ -39,7 +39,7 @@ returns-in_err-put_u8 g c =
     let same : length c.marks.result.now.lows ≡ length rs = ap (λ (m : Marks). length m.lows) c.marks.ensures.value ∙ c.marks.ensures.lows ∙ sym (length-map k.settings.rules image_rule_of) in
     let run : c.from.result ≡ bit k.running = c.from.ensures ∙ byte_is c.run_in_progress.result ∙ ap bit c.run_in_progress.ensures in
     let p = err_from_is_err_and c.from_residual-in_err-put_u8.result c.from_residual-in_err-put_u8.ensures.1 in
-    rw p.1 (iso_puts _ _ (image_of k c.args.all.now) (and_puts (after_settings V2) (puts_at (ap image_settings_of c.settings.ensures.value) c.in_ok-put_settings.ensures) (also_puts (puts_at c.marks.ensures.value (c.in_ok-put_marks.ensures rs same)) (also_stops (also (number w64) (also (list_of w32 (image_series V2)) (along (λ (r : ImageRule). list_of w64 (image_cell r)) rs))) _ _ (puts_at run c.in_err-put_u8.ensures)))))
+    rw p.1 (iso_puts _ _ (store_image k c.args.all.now) (and_puts (after_settings V2) (puts_at (ap image_settings_of c.settings.ensures.value) c.in_ok-put_settings.ensures) (also_puts (puts_at c.marks.ensures.value (c.in_ok-put_marks.ensures rs same)) (also_stops (also (number w64) (also (list_of w32 (image_series V2)) (along (λ (r : ImageRule). list_of w64 (image_cell r)) rs))) _ _ (puts_at run c.in_err-put_u8.ensures)))))
 
 pub returns-in_err-put_u64 : goal.returns-in_err-put_u64
 returns-in_err-put_u64 g c =
@@ -48,7 +48,7 @@ returns-in_err-put_u64 g c =
     let same : length c.marks.result.now.lows ≡ length rs = ap (λ (m : Marks). length m.lows) c.marks.ensures.value ∙ c.marks.ensures.lows ∙ sym (length-map k.settings.rules image_rule_of) in
     let run : c.from.result ≡ bit k.running = c.from.ensures ∙ byte_is c.run_in_progress.result ∙ ap bit c.run_in_progress.ensures in
     let p = err_from_is_err_and c.from_residual-in_err-put_u64.result c.from_residual-in_err-put_u64.ensures.1 in
-    rw p.1 (iso_puts _ _ (image_of k c.args.all.now) (and_puts (after_settings V2) (puts_at (ap image_settings_of c.settings.ensures.value) c.in_ok-put_settings.ensures) (also_puts (puts_at c.marks.ensures.value (c.in_ok-put_marks.ensures rs same)) (also_puts (puts_at run c.in_ok-put_u8.ensures) (also_stops (also (list_of w32 (image_series V2)) (along (λ (r : ImageRule). list_of w64 (image_cell r)) rs)) _ _ (puts_at c.accepted.ensures.value c.in_err-put_u64.ensures))))))
+    rw p.1 (iso_puts _ _ (store_image k c.args.all.now) (and_puts (after_settings V2) (puts_at (ap image_settings_of c.settings.ensures.value) c.in_ok-put_settings.ensures) (also_puts (puts_at c.marks.ensures.value (c.in_ok-put_marks.ensures rs same)) (also_puts (puts_at run c.in_ok-put_u8.ensures) (also_stops (also (list_of w32 (image_series V2)) (along (λ (r : ImageRule). list_of w64 (image_cell r)) rs)) _ _ (puts_at c.accepted.ensures.value c.in_err-put_u64.ensures))))))
 
 pub returns-in_err-put_counted_series : goal.returns-in_err-put_counted_series
 returns-in_err-put_counted_series g c =
@@ -57,7 +57,7 @@ returns-in_err-put_counted_series g c =
     let same : length c.marks.result.now.lows ≡ length rs = ap (λ (m : Marks). length m.lows) c.marks.ensures.value ∙ c.marks.ensures.lows ∙ sym (length-map k.settings.rules image_rule_of) in
     let run : c.from.result ≡ bit k.running = c.from.ensures ∙ byte_is c.run_in_progress.result ∙ ap bit c.run_in_progress.ensures in
     let p = err_from_is_err_and c.from_residual-in_err-put_counted_series.result c.from_residual-in_err-put_counted_series.ensures.1 in
-    rw p.1 (iso_puts _ _ (image_of k c.args.all.now) (and_puts (after_settings V2) (puts_at (ap image_settings_of c.settings.ensures.value) c.in_ok-put_settings.ensures) (also_puts (puts_at c.marks.ensures.value (c.in_ok-put_marks.ensures rs same)) (also_puts (puts_at run c.in_ok-put_u8.ensures) (also_puts (puts_at c.accepted.ensures.value c.in_ok-put_u64.ensures) (also_stops (along (λ (r : ImageRule). list_of w64 (image_cell r)) rs) _ _ c.in_err-put_counted_series.ensures))))))
+    rw p.1 (iso_puts _ _ (store_image k c.args.all.now) (and_puts (after_settings V2) (puts_at (ap image_settings_of c.settings.ensures.value) c.in_ok-put_settings.ensures) (also_puts (puts_at c.marks.ensures.value (c.in_ok-put_marks.ensures rs same)) (also_puts (puts_at run c.in_ok-put_u8.ensures) (also_puts (puts_at c.accepted.ensures.value c.in_ok-put_u64.ensures) (also_stops (along (λ (r : ImageRule). list_of w64 (image_cell r)) rs) _ _ c.in_err-put_counted_series.ensures))))))
 
 pub returns : goal.returns
 returns g c =
@@ -66,7 +66,7 @@ returns g c =
     let same : length c.marks.result.now.lows ≡ length rs = ap (λ (m : Marks). length m.lows) c.marks.ensures.value ∙ c.marks.ensures.lows ∙ sym (length-map k.settings.rules image_rule_of) in
     let run : c.from.result ≡ bit k.running = c.from.ensures ∙ byte_is c.run_in_progress.result ∙ ap bit c.run_in_progress.ensures in
     let all : c.rules.result.now ≡ k.settings.rules = c.rules.ensures.value ∙ ap (λ (s : Settings). s.rules) c.settings-2.ensures.value in
-    iso_puts _ _ (image_of k c.args.all.now) (and_puts (after_settings V2) (puts_at (ap image_settings_of c.settings.ensures.value) c.in_ok-put_settings.ensures) (also_puts (puts_at c.marks.ensures.value (c.in_ok-put_marks.ensures rs same)) (also_puts (puts_at run c.in_ok-put_u8.ensures) (also_puts (puts_at c.accepted.ensures.value c.in_ok-put_u64.ensures) (also_puts c.in_ok-put_counted_series.ensures (subst (λ (xs : List Rule). PutsField (along (λ (r : ImageRule). list_of w64 (image_cell r)) (map image_rule_of xs)) (image_cells_from k 0 xs) c.put_counted_series.new.sink c.put_counted_series.new.out c.put_cells_from.result c.put_cells_from.new.sink c.put_cells_from.new.out) all c.put_cells_from.ensures))))))
+    iso_puts _ _ (store_image k c.args.all.now) (and_puts (after_settings V2) (puts_at (ap image_settings_of c.settings.ensures.value) c.in_ok-put_settings.ensures) (also_puts (puts_at c.marks.ensures.value (c.in_ok-put_marks.ensures rs same)) (also_puts (puts_at run c.in_ok-put_u8.ensures) (also_puts (puts_at c.accepted.ensures.value c.in_ok-put_u64.ensures) (also_puts c.in_ok-put_counted_series.ensures (subst (λ (xs : List Rule). PutsField (along (λ (r : ImageRule). list_of w64 (image_cell r)) (map image_rule_of xs)) (image_cells_from k 0 xs) c.put_counted_series.new.sink c.put_counted_series.new.out c.put_cells_from.result c.put_cells_from.new.sink c.put_cells_from.new.out) all c.put_cells_from.ensures))))))
 
 pub put_marks-requires : goal.put_marks-requires
 put_marks-requires g c = rw c.marks.ensures.value c.requires.fits.lows

@@ -51,4 +51,4 @@ returns g c =
     let i1 : to_z w64 (of_z w64 c.interval.result) ≡ c.args.rule.now.interval = to_z-of_z f1 ∙ c.interval.ensures in
     let i2 : to_z w64 (of_z w64 c.offset.result) ≡ c.args.rule.now.offset = to_z-of_z f2 ∙ c.offset.ensures in
     let i3 : to_z w64 c.duration.result ≡ pos c.args.rule.now.duration = ap (to_z w64) c.duration.ensures.value ∙ to_z_pos w64 c.duration.ensures.possible.duration in
-    (iso_puts _ _ (image_rule_of c.args.rule.now) (also_puts (puts_at c.name.ensures c.in_ok-put_text.ensures) (also_puts (puts_at c.measurement.ensures c.in_ok-put_text-2.ensures) (also_puts (puts_at i1 c.in_ok-put_i64.ensures) (also_puts (puts_at i2 c.in_ok-put_i64-2.ensures) (also_puts (puts_at i3 c.in_ok-put_i64-3.ensures) (puts_at c.kept_tags.ensures c.put_counted_texts.ensures)))))))
+    (iso_puts _ _ (image_rule_of c.args.rule.now) (also_puts (puts_at c.name.ensures c.in_ok-put_text.ensures) (also_puts (puts_at c.measurement.ensures c.in_ok-put_text-2.ensures) (also_puts (puts_at i1 c.in_ok-put_i64.ensures) (also_puts (puts_at i2 c.in_ok-put_i64-2.ensures) (also_puts (puts_at i3 c.in_ok-put_i64-3.ensures) (puts_at c.kept_tags.ensures c.put_counted_strings.ensures)))))))

@@ -1,6 +1,6 @@
 use Rattle.std.proofs.Common.{List, length, map, take, sym, ap, ◌∙◌, arith}
 use Rattle.std.proofs.lemmas.List.{take_all}
-use Rattle.ts_store.specs.image.Building.{Built, with_cell}
+use Rattle.ts_store.specs.image.Building.{Built, with_built_cell}
 use Rattle.ts_image.specs.declared.cell_reading.CellParts.{CellParts}
 use Rattle.ts_image.specs.CellParts.{cell_of_parts}
 use Rattle.ts_image.specs.Images.{ImageCell}
@@ -33,7 +33,7 @@ loop-parts-preserved g c =
     let at = c.loop-parts in
     let b = c.args.builder.now in
     let x = cell_of_parts c.parts-item.result in
-    c.in_ok-add_cell.ensures ∙ ap (λ (z : Built). with_cell c.args.rule x.cell (cell_part_of x) z) at.invariant ∙ cell_added c.args.rule (map cell_of_parts (take at.parts-index c.args.cells.now)) x b c.requires.inside
+    c.in_ok-add_cell.ensures ∙ ap (λ (z : Built). with_built_cell c.args.rule x.cell (cell_part_of x) z) at.invariant ∙ cell_added c.args.rule (map cell_of_parts (take at.parts-index c.args.cells.now)) x b c.requires.inside
     ∙ ap (λ (cs : List ImageCell). with_cells_at c.args.rule cs b) (sym (map_step cell_of_parts c.args.cells.now at.parts-index c.parts-item.result c.loop-parts-test.true c.parts-item.is))
 
 pub returns : goal.returns

@@ -3,7 +3,7 @@ use Rattle.std.proofs.lemmas.List.{map-append}
 use Rattle.std.specs.Vec.Iter.{into_iter_items}
 use Rattle.ts_core.specs.facts.Facts.{Series, text_cmp}
 use Rattle.ts_core.specs.lists.Numbered.{IsAt}
-use Rattle.ts_store.specs.image.Building.{Built, with_column}
+use Rattle.ts_store.specs.image.Building.{Built, with_built_column}
 use Rattle.ts_image.specs.declared.series_reading.ColumnParts.{ColumnParts}
 use Rattle.ts_image.specs.Images.{ImageColumn}
 use Rattle.ts_store.specs.image.SavedContent.{AreRising}
@@ -62,7 +62,7 @@ loop-parts-preserved g c =
           let b = c.args.builder.now in
           let so_far = at.invariant.built s here in
           let there = subst (λ (ss : List Series). IsAt ss c.args.series s) (sym (ap (λ (z : Built). z.series) so_far)) here in
-          c.in_ok-add_column.ensures s there ∙ ap (λ (z : Built). with_column (image_points_in s (column_of_parts x)) (is_column_waiting (column_of_parts x)) z) so_far
+          c.in_ok-add_column.ensures s there ∙ ap (λ (z : Built). with_built_column (image_points_in s (column_of_parts x)) (is_column_waiting (column_of_parts x)) z) so_far
           ∙ columns_more s (map column_of_parts at.yielded) (column_of_parts x) b ∙ ap (λ (cs : List ImageColumn). with_image_columns s cs b) (sym (map-append column_of_parts at.yielded (x ∷ [])));
     }
 

@@ -6,7 +6,7 @@ use Rattle.ts_core.specs.lists.Members.{Among}
 use Rattle.ts_core.specs.lists.Numbered.{IsAt}
 use Rattle.ts_core.specs.text.Texts.{borrowed_pairs, borrowed_series}
 use Rattle.ts_line.specs.Names.{IsStatable}
-use Rattle.ts_store.specs.image.Building.{with_series}
+use Rattle.ts_store.specs.image.Building.{with_built_series}
 use Rattle.ts_image.specs.declared.series_reading.KeyParts.{KeyParts}
 use Rattle.ts_image.specs.SeriesParts.{tag_of, key_of}
 use Rattle.ts_image.proofs.NamedKeys.{series_named}
@@ -39,5 +39,5 @@ returns g c =
     let e = borrowed c.args.key.now c.as_str.result.now c.deref-2.result.now c.borrow_tags.new.borrowed.items c.deref.result.now c.as_str.ensures.value c.deref-2.ensures.0 c.borrow_tags.ensures c.deref.ensures.value in
     record {
       number = subst (λ (s : Series). IfOk c.register.result (λ (n : ℕ). IsAt c.register.new.builder.series n s)) e c.register.ensures.number;
-      ok = subst (λ (s : Series). OnOk c.register.result (c.register.new.builder ≡ with_series s c.args.builder.now)) e c.register.ensures.ok;
+      ok = subst (λ (s : Series). OnOk c.register.result (c.register.new.builder ≡ with_built_series s c.args.builder.now)) e c.register.ensures.ok;
     }

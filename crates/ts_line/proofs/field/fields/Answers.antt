@@ -13,14 +13,14 @@ returns-in_err-end-clause-value g c =
 
 pub returns-then-byte_at-ne44-clause-value : goal.returns-then-byte_at-ne44-clause-value
 returns-then-byte_at-ne44-clause-value g c =
-    let f = was_read (with_field c.loop.fields.items) (next_field c.args.line.now c.loop.at) c.put_next.new.fields.items c.in_ok-end.end c.in_ok-end.ensures.value in
+    let f = was_read (with_field c.loop.fields.items) (next_field c.args.line.now c.loop.at) c.insert_next.new.fields.items c.in_ok-end.end c.in_ok-end.ensures.value in
     rw f.2 (fields_ended c.loop.counter c.loop.fields.items c.args.line.now c.loop.at f.0 c.in_ok-end.end (fields_at 256 [] c.args.line.now c.args.start) c.loop-test.true (λ e. c.if-byte_at-ne44.true (c.byte_at.ensures ∙ e)) f.1 c.loop.invariant.value)
 
 pub loop-preserved : goal.loop-preserved
 loop-preserved g c =
     let comma : slice_index c.args.line.now c.in_ok-end.end ≡ 44 = sym c.byte_at.ensures ∙ c.if-byte_at-ne44.false in
     let next : c.after-at.result ≡ c.in_ok-end.end + 1 = c.after-at.ensures.value in
-    let f = was_read (with_field c.loop.fields.items) (next_field c.args.line.now c.loop.at) c.put_next.new.fields.items c.in_ok-end.end c.in_ok-end.ensures.value in
+    let f = was_read (with_field c.loop.fields.items) (next_field c.args.line.now c.loop.at) c.insert_next.new.fields.items c.in_ok-end.end c.in_ok-end.ensures.value in
     record {
       boundary = c.after-at.ensures.boundary;
       marked = c.in_ok-end.ensures.marked;

@@ -12,7 +12,7 @@ returns g c =
     let high = rem_high (c.args.from -ℤ r.offset) r.interval c.requires in
     let z : pos 1 ≤ℤ c.offset_in_bucket-offset_in_bucket.result = omega (arith, ints) in
     let e : to_z w128 (of_z w128 (to_z w128 (of_z w128 c.from.result) -ℤ to_z w128 (of_z w128 c.offset_in_bucket-offset_in_bucket.result))) ≡ r.interval -ℤ c.offset_in_bucket-offset_in_bucket.result = omega (arith, ints) in
-    first_found r c.args.from _ c.args.end c.later-2.result (first_ahead r c.args.from c.offset_in_bucket-offset_in_bucket.result _ c.requires k z (ap (λ v. c.args.from +ℤ v) e)) c.later-2.ensures
+    first_found r c.args.from _ c.args.end c.checked_add-2.result (first_ahead r c.args.from c.offset_in_bucket-offset_in_bucket.result _ c.requires k z (ap (λ v. c.args.from +ℤ v) e)) c.checked_add-2.ensures
 
 pub returns-then-offset_in_bucket-eq0 : goal.returns-then-offset_in_bucket-eq0
 returns-then-offset_in_bucket-eq0 g c =
@@ -22,4 +22,4 @@ returns-then-offset_in_bucket-eq0 g c =
     let high = rem_high (c.args.from -ℤ r.offset) r.interval c.requires in
     let z : c.offset_in_bucket-offset_in_bucket.result ≡ pos 0 = omega (arith, ints) in
     let f : to_z w128 (of_z w128 c.offset_in_bucket-offset_in_bucket.result) ≡ c.offset_in_bucket-offset_in_bucket.result = omega (arith, ints) in
-    first_found r c.args.from _ c.args.end c.later.result (first_here r c.args.from c.offset_in_bucket-offset_in_bucket.result _ c.requires k z (ap (λ v. c.args.from +ℤ v) f)) c.later.ensures
+    first_found r c.args.from _ c.args.end c.checked_add.result (first_here r c.args.from c.offset_in_bucket-offset_in_bucket.result _ c.requires k z (ap (λ v. c.args.from +ℤ v) f)) c.checked_add.ensures

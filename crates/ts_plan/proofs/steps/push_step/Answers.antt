@@ -3,8 +3,8 @@ use Rattle.std.specs.Int.{w128}
 use Rattle.std.proofs.lemmas.Int.{ints}
 use Rattle.ts_plan.proofs.steps.push_step.Goals as goal
 
-pub later-requires-clause-forward : goal.later-requires-clause-forward
-later-requires-clause-forward g c =
+pub checked_add-requires-clause-forward : goal.checked_add-requires-clause-forward
+checked_add-requires-clause-forward g c =
     let e : to_z w128 (of_z w128 c.from-width.result) ≡ c.args.marked.now.rule.interval = search rules in
     let w = c.requires.rule in
     omega (arith, ints)

@@ -2,19 +2,19 @@ use Rattle.std.proofs.Common.{rules, ◌≡◌, ◌<◌, pos, ◌≤ℤ◌, ◌<
 use Rattle.ts_core.specs.settings.Settings.{Rule}
 use Rattle.ts_core.specs.plans.Pieces.{MarkedRule}
 use Rattle.ts_core.proofs.plans.GoodPlaces.{rule_wide}
-use Rattle.ts_plan.specs.Steps.{has_columns}
+use Rattle.ts_plan.specs.Steps.{matches_query}
 use Rattle.ts_plan.proofs.Scans.{Scanned, left_to, scan_begin, scan_more, scan_smaller, scan_stop, adds_none}
 use Rattle.ts_plan.proofs.steps.push_steps.Goals as goal
 
-pub returns-then-not-has_columns : goal.returns-then-not-has_columns
-returns-then-not-has_columns g c =
+pub returns-then-not-matches_query : goal.returns-then-not-matches_query
+returns-then-not-matches_query g c =
     let t = c.args.context.now in
     let r = c.args.marked.now in
-    let none : has_columns t.query r.rule ≡ false = search rules in
+    let none : matches_query t.query r.rule ≡ false = search rules in
     adds_none t c.args.number r c.args.steps.now.items c.requires.rule none
 
-pub divides-nests-requires : goal.divides-nests-requires
-divides-nests-requires g c =
+pub is_aligned-aligned-requires : goal.is_aligned-aligned-requires
+is_aligned-aligned-requires g c =
     let wide = rule_wide c.args.context.now.rules c.args.number c.args.marked.now c.requires.plannable.wide.rules c.requires.rule in
     subst (λ (r : Rule). pos 1 ≤ℤ r.interval) (sym (ap (λ (m : MarkedRule). m.rule) c.marked.view_is)) wide
 
@@ -45,7 +45,7 @@ loop-next-preserved g c =
     let r = c.args.marked.now in
     let k : Scanned t c.args.number r (Some c.in-Some.from) c.args.steps.now.items c.loop-next.steps.items = rw c.in-Some.is at c.loop-next.invariant in
     let m : c.in-Some.from <ℤ t.mark = search rules in
-    let columns : has_columns t.query r.rule ≡ true = search rules in
+    let columns : matches_query t.query r.rule ≡ true = search rules in
     scan_more t c.args.number r c.in-Some.from c.in_ok-next.next c.args.steps.now.items c.loop-next.steps.items c.push_step.new.steps.items c.requires.plannable c.requires.rule columns m c.in_ok-next.ensures.next c.in_ok-next.ensures.steps k
 
 pub returns-then-ge : goal.returns-then-ge

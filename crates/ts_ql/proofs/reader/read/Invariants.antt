@@ -3,7 +3,7 @@ use Rattle.ts_ql.specs.Reading.{read_on, progress, start_progress}
 use Rattle.ts_ql.proofs.SumBounds.{IsAfter}
 use Rattle.ts_ql.proofs.reader.read.Given as goal
 
-abbrev pub invariant-loop-turn : goal.invariant-loop-turn
-invariant-loop-turn g l =
-    IsCharBoundary l.text l.at × (read_on ((length l.text + 1) - l._turn) l.now l.text (progress l.reader) l.at ≡ read_on (length l.text + 1) l.now l.text start_progress 0)
-    × IsAfter l.now l._turn (progress l.reader)
+abbrev pub invariant-loop-round : goal.invariant-loop-round
+invariant-loop-round g l =
+    IsCharBoundary l.text l.at × (read_on ((length l.text + 1) - l._round) l.now l.text (progress l.reader) l.at ≡ read_on (length l.text + 1) l.now l.text start_progress 0)
+    × IsAfter l.now l._round (progress l.reader)

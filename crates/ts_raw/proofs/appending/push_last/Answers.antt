@@ -5,7 +5,7 @@ use Rattle.ts_core.specs.aggregates.Aggregates.{Aggregate, aggregate_of_one, mer
 use Rattle.ts_core.proofs.aggregates.AggregatesLemmas.{count_of_fold}
 use Rattle.ts_block.specs.Appending.{EndsInBlock}
 use Rattle.ts_raw.specs.declared.block_handle.BlockHandle.{BlockHandle}
-use Rattle.ts_raw.specs.CodedPoints.{points_at, coded_points, blocks_at, AreCountedBlocks, OthersEndBy}
+use Rattle.ts_raw.specs.CodedPoints.{block_points_at, coded_points, blocks_at, AreCountedBlocks, OthersEndBy}
 use Rattle.ts_raw.proofs.PushLemmas.{last_block, last_before, last_values, marks_split, others_from, extended}
 use Rattle.ts_raw.proofs.appending.push_last.Given.{Over}
 use Rattle.ts_raw.proofs.appending.push_last.Goals.{After-unwrap}
@@ -16,7 +16,7 @@ append-values-requires-clause-ends g c =
     let bytes : List ℕ = c.args.bytes.now.items in
     let m : BlockHandle = c.args.handle.now in
     let here : m.end ≡ length bytes = omega (arith, c.requires.ends, c.args.bytes.now.ok.0) in (
-      points_at bytes m,
+      block_points_at bytes m,
       last_block bytes bytes c.args.handles.now.items m m c.args.total c.args.point.now c.requires.counted c.requires.later here c.requires.apart,
       let f = c.requires.few in let n = (marks_split bytes m c.args.handles.now.items 0 c.requires.counted.coded.marked).1.count_is in omega arith,
     )
@@ -48,7 +48,7 @@ handle g c = record c.args.handle.now {
 
 both : (g : Over) (c : After-unwrap g) → AreCountedBlocks c.append-values.new.bytes.items (c.args.handles.now.items ++ handle g c ∷ []) (c.args.total + 1)
     × (coded_points c.append-values.new.bytes.items (c.args.handles.now.items ++ handle g c ∷ []) ≡ coded_points c.args.bytes.now.items (c.args.handles.now.items ++ c.args.handle.now ∷ []) ++ c.args.point.now ∷ [])
-    × (blocks_at c.append-values.new.bytes.items (c.args.handles.now.items ++ handle g c ∷ []) ≡ blocks_at c.args.bytes.now.items c.args.handles.now.items ++ ((points_at c.args.bytes.now.items c.args.handle.now ++ c.args.point.now ∷ []) ∷ []))
+    × (blocks_at c.append-values.new.bytes.items (c.args.handles.now.items ++ handle g c ∷ []) ≡ blocks_at c.args.bytes.now.items c.args.handles.now.items ++ ((block_points_at c.args.bytes.now.items c.args.handle.now ++ c.args.point.now ∷ []) ∷ []))
 unfolding handle
 both g c =
     let bytes : List ℕ = c.args.bytes.now.items in
@@ -57,12 +57,12 @@ both g c =
     let here : m.end ≡ length bytes = omega (arith, c.requires.ends, c.args.bytes.now.ok.0) in
     let end : c.len.result ≡ length new = omega (arith, c.len.ensures, c.append-values.new.bytes.ok.0) in
     let valid : IsTime c.args.point.now.0 = subst IsTime c.nanos-valid.ensures.value c.nanos-valid.ensures.valid in
-    let block = c.append-values.ensures.ends (points_at bytes m) (last_block bytes new c.args.handles.now.items m (handle g c) c.args.total c.args.point.now c.requires.counted c.requires.later here c.requires.apart) in
+    let block = c.append-values.ensures.ends (block_points_at bytes m) (last_block bytes new c.args.handles.now.items m (handle g c) c.args.total c.args.point.now c.requires.counted c.requires.later here c.requires.apart) in
     let index : c.append-values.result ≡ m.start + (c.append-values.result - m.start) = let v = block.values_at in omega arith in
     let fits : SFits w64 c.args.point.now.1 = search rules in
     let one = c.single.ensures ∙ ap (aggregate_of_one c.args.point.now.0) (to_z-of_z fits) in
     extended bytes new c.args.handles.now.items m (handle g c) c.args.total c.args.point.now c.requires.counted c.requires.later here c.requires.apart valid refl refl refl refl end (c.merge.ensures ∙ ap (merged m.summary) one) c.append-values.ensures.before
-    (subst (λ n. EndsInBlock new m.start n c.args.point.now.0 (points_at bytes m ++ c.args.point.now ∷ [])) index block)
+    (subst (λ n. EndsInBlock new m.start n c.args.point.now.0 (block_points_at bytes m ++ c.args.point.now ∷ [])) index block)
 
 items : (g : Over) (c : After-unwrap g) → c.push.new.self.items ≡ c.args.handles.now.items ++ handle g c ∷ []
 unfolding handle
@@ -73,7 +73,7 @@ overflow_sub-handle g c =
     let bytes : List ℕ = c.args.bytes.now.items in
     let m : BlockHandle = c.args.handle.now in
     let here : m.end ≡ length bytes = omega (arith, c.requires.ends, c.args.bytes.now.ok.0) in
-    let block = c.append-values.ensures.ends (points_at bytes m) (last_block bytes bytes c.args.handles.now.items m m c.args.total c.args.point.now c.requires.counted c.requires.later here c.requires.apart) in
+    let block = c.append-values.ensures.ends (block_points_at bytes m) (last_block bytes bytes c.args.handles.now.items m m c.args.total c.args.point.now c.requires.counted c.requires.later here c.requires.apart) in
     let v = block.values_at in
     omega arith
 
@@ -100,7 +100,7 @@ returns-clause-blocks g c =
 pub merge-requires : goal.merge-requires
 merge-requires g c =
     let m = (marks_split c.args.bytes.now.items c.args.handle.now c.args.handles.now.items 0 c.requires.counted.coded.marked).1 in
-    let a : c.args.handle.now.summary.count ≡ length (points_at c.args.bytes.now.items c.args.handle.now) = ap (λ (a : Aggregate). a.count) m.summary_is ∙ count_of_fold (points_at c.args.bytes.now.items c.args.handle.now) in
+    let a : c.args.handle.now.summary.count ≡ length (block_points_at c.args.bytes.now.items c.args.handle.now) = ap (λ (a : Aggregate). a.count) m.summary_is ∙ count_of_fold (block_points_at c.args.bytes.now.items c.args.handle.now) in
     let b : c.single.result.count ≡ 1 = ap (λ (a : Aggregate). a.count) c.single.ensures in
     let d = m.count_is in
     let few = c.requires.few in

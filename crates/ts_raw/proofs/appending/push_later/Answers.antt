@@ -1,5 +1,5 @@
 use Rattle.std.proofs.Common.{rules, ◌≡◌, ◌≤◌, [], ◌∷◌, ◌++◌, sym, ap, subst, ◌∙◌, arith, option_to_list}
-use Rattle.ts_raw.specs.CodedPoints.{AllEndBy, OthersEndBy, CutFits, points_at, blocks_at}
+use Rattle.ts_raw.specs.CodedPoints.{AllEndBy, OthersEndBy, CutFits, block_points_at, blocks_at}
 use Rattle.ts_raw.proofs.PushLemmas.{others_of, all_by, blocks_push, cut_longer, cut_more}
 use Rattle.ts_raw.proofs.appending.push_later.Given.{Over}
 use Rattle.ts_raw.proofs.appending.push_later.Goals.{After-unwrap-handle}
@@ -27,7 +27,7 @@ returns-in-Some-clause-cut g c = λ cut h.
     let bytes = c.args.bytes.now.items in
     let items : c.args.handles.now.items ≡ c.pop.new.self.items ++ (c.unwrap-handle.result ∷ []) = c.pop.ensures.items ∙ ap (λ r. c.pop.new.self.items ++ option_to_list r) c.unwrap-handle.ensures in
     let blocks = ap (blocks_at bytes) items ∙ blocks_push bytes c.pop.new.self.items c.unwrap-handle.result in
-    subst (CutFits cut) (sym c.push_last.ensures.blocks) (cut_longer cut (blocks_at bytes c.pop.new.self.items) (points_at bytes c.unwrap-handle.result) c.args.point.now (subst (CutFits cut) blocks h))
+    subst (CutFits cut) (sym c.push_last.ensures.blocks) (cut_longer cut (blocks_at bytes c.pop.new.self.items) (block_points_at bytes c.unwrap-handle.result) c.args.point.now (subst (CutFits cut) blocks h))
 
 pub returns-in_default-clause-cut : goal.returns-in_default-clause-cut
 returns-in_default-clause-cut g c = λ cut h.

@@ -1,6 +1,6 @@
 use Rattle.std.proofs.Common.{rules, ◌≡◌, ◌<◌, ℕ, List, [], ◌∷◌, ◌++◌, length, sym, ap, subst, ◌∙◌, arith}
 use Rattle.ts_raw.specs.declared.block_handle.BlockHandle.{BlockHandle}
-use Rattle.ts_raw.specs.CodedPoints.{text_at, IsBlockHandle, AreBlockHandles, blocks_at}
+use Rattle.ts_raw.specs.CodedPoints.{block_text_at, IsBlockHandle, AreBlockHandles, blocks_at}
 use Rattle.ts_raw.proofs.BlockLists.{mark_at, copied_more}
 use Rattle.ts_raw.proofs.relocating.copy_blocks.Goals as goal
 
@@ -19,10 +19,10 @@ loop-handle-preserved g c =
     let l : c.loop-handle.handle-index < length all = search rules in
     let start : c.len-start.result ≡ length old = omega (arith, c.len-start.ensures, c.loop-handle.new_bytes.ok.0) in
     let end : c.len.result ≡ length new = omega (arith, c.len.ensures, c.extend_from_slice.new.self.ok.0) in
-    let is : new ≡ old ++ text_at src m = c.in_ok-extend_from_slice.ensures.items ∙ ap (λ (x : List ℕ). old ++ x) c.text_of.ensures in
+    let is : new ≡ old ++ block_text_at src m = c.in_ok-extend_from_slice.ensures.items ∙ ap (λ (x : List ℕ). old ++ x) c.text_of.ensures in
     let items : c.push.new.self.items ≡ ms ++ (n ∷ []) = c.in_ok-push.ensures.items in
     let there = c.handle-item.is in
-    let both = copied_more src old new all ms c.loop-handle.handle-index n m c.requires l c.loop-handle.invariant.marked c.loop-handle.invariant.blocks (is ∙ ap (λ x. old ++ text_at src x) there) start end (ap (λ (x : BlockHandle). x.values) there) (ap (λ (x : BlockHandle). x.count) there) (ap (λ (x : BlockHandle). x.before) there) (ap (λ (x : BlockHandle). x.last) there) (ap (λ (x : BlockHandle). x.summary) there) in
+    let both = copied_more src old new all ms c.loop-handle.handle-index n m c.requires l c.loop-handle.invariant.marked c.loop-handle.invariant.blocks (is ∙ ap (λ x. old ++ block_text_at src x) there) start end (ap (λ (x : BlockHandle). x.values) there) (ap (λ (x : BlockHandle). x.count) there) (ap (λ (x : BlockHandle). x.before) there) (ap (λ (x : BlockHandle). x.last) there) (ap (λ (x : BlockHandle). x.summary) there) in
     record {
       marked = subst (AreBlockHandles new 0) (sym items) both.0;
       blocks = ap (blocks_at new) items ∙ both.1;

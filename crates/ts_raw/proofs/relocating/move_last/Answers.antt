@@ -1,7 +1,7 @@
 use Rattle.std.proofs.Common.{◌≡◌, ◌-◌, get_or, ℕ, List, [], ◌∷◌, ◌++◌, length, sym, ap, subst, refl, ◌∙◌, arith, is_ok, if◌then◌else◌, option_to_list}
 use Rattle.std.proofs.lemmas.Bool.{ltb-true}
 use Rattle.ts_raw.specs.declared.block_handle.BlockHandle.{BlockHandle}
-use Rattle.ts_raw.specs.CodedPoints.{text_at, IsBlockHandle, AreBlockHandles, OthersEndBy, blocks_at}
+use Rattle.ts_raw.specs.CodedPoints.{block_text_at, IsBlockHandle, AreBlockHandles, OthersEndBy, blocks_at}
 use Rattle.ts_raw.proofs.PushLemmas.{marks_split}
 use Rattle.ts_raw.proofs.BlockLists.{mark_at, moved_marked, moved_blocks, moved_others}
 use Rattle.ts_raw.proofs.relocating.move_last.Given.{Over}
@@ -40,11 +40,11 @@ extend_from_within-requires-clause-in_bounds g c =
 moved : (g : Over) (c : After-unwrap-2 g) → BlockHandle
 moved g c = record c.unwrap-handle.result { start = c.len-start.result; end = c.len.result }
 
-bytes_are : (g : Over) (c : After-unwrap-2 g) → c.extend_from_within.new.self.items ≡ c.args.bytes.now.items ++ text_at c.args.bytes.now.items c.unwrap-handle.result
+bytes_are : (g : Over) (c : After-unwrap-2 g) → c.extend_from_within.new.self.items ≡ c.args.bytes.now.items ++ block_text_at c.args.bytes.now.items c.unwrap-handle.result
 bytes_are g c =
     c.extend_from_within.ensures.items
-    ∙ ap (λ r. if is_ok r then c.reserve_eighth.new.list.items ++ text_at c.reserve_eighth.new.list.items c.unwrap-handle.result else c.reserve_eighth.new.list.items) c.unwrap.ensures
-    ∙ ap (λ (x : List ℕ). x ++ text_at x c.unwrap-handle.result) c.reserve_eighth.ensures.items
+    ∙ ap (λ r. if is_ok r then c.reserve_eighth.new.list.items ++ block_text_at c.reserve_eighth.new.list.items c.unwrap-handle.result else c.reserve_eighth.new.list.items) c.unwrap.ensures
+    ∙ ap (λ (x : List ℕ). x ++ block_text_at x c.unwrap-handle.result) c.reserve_eighth.ensures.items
 
 marks_are : (g : Over) (c : After-unwrap-2 g) → c.push.new.self.items ≡ c.pop.new.self.items ++ (moved g c ∷ [])
 unfolding moved

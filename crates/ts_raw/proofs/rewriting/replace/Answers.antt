@@ -8,7 +8,7 @@ use Rattle.ts_raw.proofs.rewriting.replace.Goals.{After-as_mut_slice}
 use Rattle.ts_raw.proofs.rewriting.replace.Goals as goal
 
 items : (g : Over) (c : After-as_mut_slice g) → c.as_mut_slice.result.now ≡ handles_replaced c.args.new.now c.args.handles.now.items
-items g c = c.as_mut_slice.ensures.value ∙ c.put_blocks.ensures
+items g c = c.as_mut_slice.ensures.value ∙ c.insert_blocks.ensures
 
 pub renumber-requires-clause-bound : goal.renumber-requires-clause-bound
 renumber-requires-clause-bound g c =

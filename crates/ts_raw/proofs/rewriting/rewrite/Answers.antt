@@ -2,7 +2,7 @@ use Rattle.std.proofs.Common.{◌<◌, ◌≤◌, ◌+◌, ◌≡◌, ◌/◌, �
 use Rattle.std.proofs.lemmas.List.{take-append-drop}
 use Rattle.std.specs.FinMap.{put}
 use Rattle.ts_block.specs.Blocks.{ArePoints}
-use Rattle.ts_raw.specs.CodedPoints.{AreBlocks, points_at, coded_points}
+use Rattle.ts_raw.specs.CodedPoints.{AreBlocks, block_points_at, coded_points}
 use Rattle.ts_raw.proofs.RewriteLemmas.{whole_points, front_points, back_points, two_blocks, coded_one}
 use Rattle.ts_raw.proofs.rewriting.rewrite.Given.{Over}
 use Rattle.ts_raw.proofs.rewriting.rewrite.Goals.{After-split_at, After-drop-points-2}
@@ -17,7 +17,7 @@ push_points-requires g c =
 pub returns-then-len-le-HALVED_POINTS-clause-points : goal.returns-then-len-le-HALVED_POINTS-clause-points
 returns-then-len-le-HALVED_POINTS-clause-points g c =
     coded_one c.push_points.new.bytes.items c.in_ok-first.first ∙ c.in_ok-first.ensures.block.points_are ∙ c.as_slice-then-len-le-HALVED_POINTS.ensures.value ∙ c.in_ok-points.ensures.points
-    ∙ ap (λ (x : List ℕ). put int_cmp c.args.point.now.0 c.args.point.now.1 (drop c.args.skip (points_at x c.args.handle.now))) c.as_slice.ensures.value
+    ∙ ap (λ (x : List ℕ). put int_cmp c.args.point.now.0 c.args.point.now.1 (drop c.args.skip (block_points_at x c.args.handle.now))) c.as_slice.ensures.value
 
 half : (n : ℕ) → 64 < n → n ≤ 257 → (0 < n / 2) × (n / 2 ≤ 256) × (n / 2 < n) × (n ≤ n / 2 + 256)
 half n l h = (omega arith, omega arith, omega arith, omega arith)
@@ -64,4 +64,4 @@ pub returns-clause-points : goal.returns-clause-points
 returns-clause-points g c =
     let a = goal.at.returns-clause-points g c in
     (both g a.After-drop-points-2).1 ∙ (λ i. front_is g a.After-split_at i ++ back_is g a.After-split_at i) ∙ take-append-drop (c.len-2.result / 2) c.in_ok-points.points.items ∙ c.in_ok-points.ensures.points
-    ∙ ap (λ (x : List ℕ). put int_cmp c.args.point.now.0 c.args.point.now.1 (drop c.args.skip (points_at x c.args.handle.now))) c.as_slice.ensures.value
+    ∙ ap (λ (x : List ℕ). put int_cmp c.args.point.now.0 c.args.point.now.1 (drop c.args.skip (block_points_at x c.args.handle.now))) c.as_slice.ensures.value

@@ -10,13 +10,13 @@ use Rattle.ts_script.proofs.engine.answer_all.Goals as goal
 pub loop-lines-init : goal.loop-lines-init
 loop-lines-init g c =
     let e = c.requires.lines in
-    let turns : c.args.lines.now.ahead.turns ≡ 0 = ap (λ (a : Ahead). a.turns) e in
+    let reads : c.args.lines.now.ahead.reads ≡ 0 = ap (λ (a : Ahead). a.reads) e in
     record {
       progress = begins c.args.source.now.remaining c.args.sink.now.contents c.args.lines.now.ahead.buffered c.args.lines.now.ahead.ended c.args.machine.now (ap (λ (a : Ahead). a.buffered) e) (ap (λ (a : Ahead). a.ended) e) c.requires.machine c.args.answers.now c.requires.answers;
       over = λ h. let x : c.args.lines.now.ahead.ended ≡ false = ap (λ (a : Ahead). a.ended) e in cc;
-      turns = omega (arith, turns);
+      reads = omega (arith, reads);
       allowed = refl;
-      within = omega (arith, turns);
+      within = omega (arith, reads);
       ends = omega (arith, ap (λ (a : Ahead). bit a.ended) e);
       reader = refl;
       writer = refl;
@@ -40,7 +40,7 @@ returns-in_err-send_before_wait g c =
       reader = omega (arith, i.reader);
       writer = omega (arith, i.writer, s.failures);
       end = tt;
-      within = omega (arith, i.turns, i.within, i.allowed);
+      within = omega (arith, i.reads, i.within, i.allowed);
       limit = λ e. absurd (writer_is_not_turns _ refl e);
     }
 
@@ -55,7 +55,7 @@ loop-lines-preserved g c =
           (sends c.args.source.now.remaining (lines_to_come c.loop-lines.lines c.loop-lines.source) c.loop-lines.lines.ahead.ended c.args.sink.now.contents c.loop-lines.sink.contents c.send_before_wait.new.sink.contents c.loop-lines.answers c.send_before_wait.new.answers c.loop-lines.machine i.progress c.in_ok-send_before_wait.ensures.sent.ok)
           n.next c.answer-reply.ensures s.sent.ok;
       over = n.source_calls.end;
-      turns = omega (arith, i.turns, n.source_calls.turns);
+      reads = omega (arith, i.reads, n.source_calls.reads);
       allowed = n.source_calls.allowed ∙ i.allowed;
       within = n.source_calls.within;
       ends = omega (arith, i.ends, n.source_calls.ends);
@@ -85,7 +85,7 @@ returns-in_err-send g c =
       reader = omega (arith, i.reader, n.source_calls.failures);
       writer = omega (arith, i.writer, b.failures, s.failures);
       end = tt;
-      within = omega (arith, i.turns, i.allowed, n.source_calls.turns, n.source_calls.within, n.source_calls.allowed);
+      within = omega (arith, i.reads, i.allowed, n.source_calls.reads, n.source_calls.within, n.source_calls.allowed);
       limit = λ e. absurd (writer_is_not_turns _ refl e);
     }
 
@@ -113,10 +113,10 @@ returns-in_err-next g c =
       reader = omega (arith, i.reader, n.failures, reader_told fault result c.next.result told c.in_err-next.was);
       writer = omega (arith, i.writer, b.sent.failures, writer_silent result fault told);
       end = rw told tt;
-      within = omega (arith, i.turns, i.allowed, n.turns, n.within, n.allowed);
+      within = omega (arith, i.reads, i.allowed, n.reads, n.within, n.allowed);
       limit = λ t.
           let at = n.limit (turns_told fault result c.next.result told c.in_err-next.was t) in
-          (omega (arith, i.turns, i.allowed, n.turns, n.allowed, at), omega (arith, i.ends, n.ends, ap bit going));
+          (omega (arith, i.reads, i.allowed, n.reads, n.allowed, at), omega (arith, i.ends, n.ends, ap bit going));
     }
 
 pub returns-in_err-flush : goal.returns-in_err-flush
@@ -140,7 +140,7 @@ returns-in_err-flush g c =
       reader = omega (arith, i.reader, n.source_calls.failures);
       writer = omega (arith, i.writer, b.failures, s.failures);
       end = tt;
-      within = omega (arith, i.turns, i.allowed, n.source_calls.turns, n.source_calls.within, n.source_calls.allowed);
+      within = omega (arith, i.reads, i.allowed, n.source_calls.reads, n.source_calls.within, n.source_calls.allowed);
       limit = λ e. absurd (writer_is_not_turns _ refl e);
     }
 
@@ -164,7 +164,7 @@ returns-in-End g c =
       reader = omega (arith, i.reader, n.source_calls.failures);
       writer = omega (arith, i.writer, b.failures, s.buffered.failures);
       end = omega (arith, i.ends, n.source_calls.ends, ap bit (n.goes_on.over c.in-End.is));
-      within = omega (arith, i.turns, i.allowed, n.source_calls.turns, n.source_calls.within, n.source_calls.allowed);
+      within = omega (arith, i.reads, i.allowed, n.source_calls.reads, n.source_calls.within, n.source_calls.allowed);
       limit = λ e. absurd (done_has_no_fault _ _ _ refl e);
     }
 

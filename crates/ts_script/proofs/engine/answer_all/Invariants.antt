@@ -9,9 +9,9 @@ abbrev pub invariant-loop-lines : goal.invariant-loop-lines
 invariant-loop-lines g l = record {
   progress : Progress l.initial.source.remaining (lines_to_come l.lines l.source) l.lines.ahead.ended l.initial.sink.contents l.sink.contents l.answers l.machine;
   over : EndIsOver l.lines.ahead l.source;
-  turns : l.source.turns ≡ l.initial.source.turns + l.lines.ahead.turns;
+  reads : l.source.reads ≡ l.initial.source.reads + l.lines.ahead.reads;
   allowed : l.lines.ahead.limit ≡ l.initial.lines.ahead.limit;
-  within : l.lines.ahead.turns ≤ l.lines.ahead.limit;
+  within : l.lines.ahead.reads ≤ l.lines.ahead.limit;
   ends : l.source.ends ≡ l.initial.source.ends + bit l.lines.ahead.ended;
   reader : l.source.failures ≡ l.initial.source.failures;
   writer : l.sink.failures ≡ l.initial.sink.failures;

@@ -9,8 +9,8 @@ use Rattle.ts_script.proofs.Progress.{none_answered}
 use Rattle.ts_script.proofs.engine.run_within.Goals as goal
 
 -- nothing is read or written where there is no memory
-without_memory : {T : Type 0} (turns : ℕ) (source : Input) (sink : Output) (result : Result T RunFault) → result ≡ Err OutOfMemory → IsReplay turns source sink result source sink
-without_memory turns source sink result none = rw none record {
+without_memory : {T : Type 0} (reads : ℕ) (source : Input) (sink : Output) (result : Result T RunFault) → result ≡ Err OutOfMemory → IsReplay reads source sink result source sink
+without_memory reads source sink result none = rw none record {
   came = [];
   ended = false;
   read = record { bytes = Consumes-nil source.remaining; end = λ h. absurd (true≢false (sym h)); ends = omega arith };
@@ -28,19 +28,19 @@ without_memory turns source sink result none = rw none record {
 pub returns-in_err-lines : goal.returns-in_err-lines
 returns-in_err-lines g c =
     let p = err_from_is_err_and c.from_residual.result c.from_residual.ensures.1 in
-    without_memory c.args.turns c.args.source.now c.args.sink.now c.from_residual.result (p.1 ∙ ap Err p.2)
+    without_memory c.args.reads c.args.source.now c.args.sink.now c.from_residual.result (p.1 ∙ ap Err p.2)
 
 pub returns-in_err-text : goal.returns-in_err-text
 returns-in_err-text g c =
     let p = err_from_is_err_and c.from_residual-in_err-text.result c.from_residual-in_err-text.ensures.1 in
-    without_memory c.args.turns c.args.source.now c.args.sink.now c.from_residual-in_err-text.result (p.1 ∙ ap Err p.2)
+    without_memory c.args.reads c.args.source.now c.args.sink.now c.from_residual-in_err-text.result (p.1 ∙ ap Err p.2)
 
 pub returns-in_err-answers : goal.returns-in_err-answers
 returns-in_err-answers g c =
     let p = err_from_is_err_and c.from_residual-in_err-answers.result c.from_residual-in_err-answers.ensures.1 in
-    without_memory c.args.turns c.args.source.now c.args.sink.now c.from_residual-in_err-answers.result (p.1 ∙ ap Err p.2)
+    without_memory c.args.reads c.args.source.now c.args.sink.now c.from_residual-in_err-answers.result (p.1 ∙ ap Err p.2)
 
 pub returns-in_err-machine : goal.returns-in_err-machine
 returns-in_err-machine g c =
     let p = err_from_is_err_and c.from_residual-in_err-machine.result c.from_residual-in_err-machine.ensures.1 in
-    without_memory c.args.turns c.args.source.now c.args.sink.now c.from_residual-in_err-machine.result (p.1 ∙ ap Err p.2)
+    without_memory c.args.reads c.args.source.now c.args.sink.now c.from_residual-in_err-machine.result (p.1 ∙ ap Err p.2)

@@ -15,4 +15,4 @@ returns g c =
     let start = c.write_digits-start.result in
     let buf = c.write_digits-start.new.buf in
     let len : length buf ≡ 21 = omega (arith, c.write_digits-start.auto.buf) in
-    record { sent = subst (λ (l : List ℕ). IsBuffered c.args.sink.now c.args.answers.now c.put.result l c.put.new.sink c.put.new.self) (whole_rest 21 start buf len ∙ c.write_digits-start.ensures.written) c.put.ensures }
+    record { sent = subst (λ (l : List ℕ). IsBuffered c.args.sink.now c.args.answers.now c.write_all.result l c.write_all.new.sink c.write_all.new.self) (whole_rest 21 start buf len ∙ c.write_digits-start.ensures.written) c.write_all.ensures }

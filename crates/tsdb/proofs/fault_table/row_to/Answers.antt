@@ -16,5 +16,5 @@ pub returns : goal.returns
 returns c =
     let digits : c.format-digits.result.now ≡ decimal (code_number c.args.code) = c.format-digits.ensures.text ∙ ap decimal c.number.ensures in
     let requested : is_listed (given_text c.args.requested) c.args.code ≡ c.is_wanted.result = sym (c.is_wanted.ensures ∙ ap (is_wanted (given_text c.args.requested)) digits) in
-    row_put c.push_all.result (is_listed (given_text c.args.requested)) c.args.code (string_bytes c.args.text.now) (string_bytes c.push_all.new.text) c.format-digits.result.now c.words.result.now
-    (requested ∙ c.if-not-is_wanted.false) digits c.words.ensures c.push_all.ensures.ok
+    row_put c.push_all.result (is_listed (given_text c.args.requested)) c.args.code (string_bytes c.args.text.now) (string_bytes c.push_all.new.text) c.format-digits.result.now c.message.result.now
+    (requested ∙ c.if-not-is_wanted.false) digits c.message.ensures c.push_all.ensures.ok

@@ -10,6 +10,6 @@ pub returns-in-Writer : goal.returns-in-Writer
 unfolding digits
 returns-in-Writer c = rw c.in-Writer.is refl
 
-pub returns-in-Turns : goal.returns-in-Turns
+pub returns-in-TooManyReads : goal.returns-in-TooManyReads
 unfolding digits
-returns-in-Turns c = rw c.in-Turns.is refl
+returns-in-TooManyReads c = rw c.in-TooManyReads.is refl

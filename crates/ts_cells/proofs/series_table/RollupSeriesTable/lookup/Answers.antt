@@ -19,14 +19,14 @@ index-series-requires g c =
     sought_within hash_of_rollup_series ls hashes c.self.invariant.table l c.in-Some.at (subst (Sought ls hashes l) c.in-Some.is c.loop-next.invariant) in
     search rules
 
-pub returns-then-is-clause-found : goal.returns-then-is-clause-found
-returns-then-is-clause-found g c =
+pub returns-then-matches-clause-found : goal.returns-then-matches-clause-found
+returns-then-matches-clause-found g c =
     let l : RollupSeries = rollup_series_named c.args.field.now c.args.group.now in
     let ls : List RollupSeries = c.self.inside.series_list.items in
     let hashes : List ℕ = c.self.inside.chains in
     let within : c.in-Some.at < length ls =
     sought_within hash_of_rollup_series ls hashes c.self.invariant.table l c.in-Some.at (subst (Sought ls hashes l) c.in-Some.is c.loop-next.invariant) in
-    let same : c.index-series.result.now ≡ l = c.is.ensures.0 c.if-is.true in
+    let same : c.index-series.result.now ≡ l = c.matches.ensures.0 c.if-matches.true in
     subst (λ (all : List RollupSeries). IsAt all c.in-Some.at l) c.self.view_is (found_at ls c.in-Some.at c.index-series.result.now l within c.index-series.ensures same)
 
 pub older-next-requires : goal.older-next-requires
@@ -48,7 +48,7 @@ loop-next-preserved g c =
     let ls : List RollupSeries = c.self.inside.series_list.items in
     let hashes : List ℕ = c.self.inside.chains in
     let other : c.index-series.result.now ≡ l → ⊥ =
-    λ e. true≢false (sym (c.is.ensures.1 e) ∙ c.if-is.false) in
+    λ e. true≢false (sym (c.matches.ensures.1 e) ∙ c.if-matches.false) in
     subst (Sought ls hashes l) (sym c.older-next.ensures)
     (sought_on hash_of_rollup_series ls hashes c.self.invariant.table l c.in-Some.at c.index-series.result.now c.index-series.ensures other
     (subst (Sought ls hashes l) c.in-Some.is c.loop-next.invariant))

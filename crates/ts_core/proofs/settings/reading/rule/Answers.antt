@@ -14,8 +14,8 @@ returns-then-not-has_keys-clause-err g c = let none : has_keys 6 (view c.args.va
 pub returns-in_default-clause-err : goal.returns-in_default-clause-err
 returns-in_default-clause-err g c = let none : name_in (view c.args.value.now) ≡ None = search rules in (refl, no_name _ none)
 
-pub returns-in_default-filled_text_at-clause-err : goal.returns-in_default-filled_text_at-clause-err
-returns-in_default-filled_text_at-clause-err g c = let none : measurement_in (view c.args.value.now) ≡ None = search rules in (refl, no_measurement _ none)
+pub returns-in_default-filled_string_at-clause-err : goal.returns-in_default-filled_string_at-clause-err
+returns-in_default-filled_string_at-clause-err g c = let none : measurement_in (view c.args.value.now) ≡ None = search rules in (refl, no_measurement _ none)
 
 pub returns-in_default-interval_at-clause-err : goal.returns-in_default-interval_at-clause-err
 returns-in_default-interval_at-clause-err g c = let none : interval_in (view c.args.value.now) ≡ None = search rules in (refl, no_interval _ none)
@@ -45,7 +45,7 @@ invariant_of-result g c =
     let lasting : pos 0 ≤ℤ c.in-Some-keeping_at.duration = c.in-Some-keeping_at.ensures.lasting in
     let lasts : unsigned_abs c.in-Some-keeping_at.duration ≡ c.unsigned_abs.result = search rules in
     record {
-      measured = subst (λ (t : Text). t ≢ []) (sym c.in_ok-from_str-2.ensures.ok) (filled (text_at (codes "measurement") d) _ (sym c.in-Some-filled_text_at.ensures));
+      measured = subst (λ (t : Text). t ≢ []) (sym c.in_ok-from_str-2.ensures.ok) (filled (text_at (codes "measurement") d) _ (sym c.in-Some-filled_string_at.ensures));
       tagged = all_filled (items_view c.in-Some-values_at.tags.now) _ c.in_ok-kept_tags.ensures.ok;
       interval = search rules;
       offset = search rules;
@@ -59,8 +59,8 @@ returns-clause-ok g c =
     let interval : c.in-Some-interval_at.interval ≡ to_z w64 (of_z w64 c.in-Some-interval_at.interval) = let fits : SFits w64 c.in-Some-interval_at.interval = search rules in sym (to_z-of_z fits) in
     let offset : c.in-Some-offset_at.offset ≡ to_z w64 (of_z w64 c.in-Some-offset_at.offset) = let fits : SFits w64 c.in-Some-offset_at.offset = search rules in sym (to_z-of_z fits) in
     let lasts : unsigned_abs c.in-Some-keeping_at.duration ≡ c.unsigned_abs.result = search rules in
-    rule_parts_read d (items_view c.in-Some-values_at.tags.now) c.in-Some.name.now c.in-Some-filled_text_at.measurement.now c.in-Some-interval_at.interval c.in-Some-offset_at.offset
+    rule_parts_read d (items_view c.in-Some-values_at.tags.now) c.in-Some.name.now c.in-Some-filled_string_at.measurement.now c.in-Some-interval_at.interval c.in-Some-offset_at.offset
     (map string_bytes c.in_ok-kept_tags.kept_tags.items) c.in-Some-keeping_at.duration
-    keys (sym c.in-Some.ensures) (sym c.in-Some-filled_text_at.ensures) (sym c.in-Some-interval_at.ensures) (sym c.in-Some-offset_at.ensures) (sym c.in-Some-values_at.ensures)
+    keys (sym c.in-Some.ensures) (sym c.in-Some-filled_string_at.ensures) (sym c.in-Some-interval_at.ensures) (sym c.in-Some-offset_at.ensures) (sym c.in-Some-values_at.ensures)
     c.in_ok-kept_tags.ensures.ok (sym c.in-Some-keeping_at.ensures.value)
     ∙ ap Some (same_rule (map string_bytes c.in_ok-kept_tags.kept_tags.items) (sym c.in_ok-from_str.ensures.ok) (sym c.in_ok-from_str-2.ensures.ok) interval offset lasts)

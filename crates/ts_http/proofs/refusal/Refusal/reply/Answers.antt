@@ -1,8 +1,8 @@
 use Rattle.std.proofs.Common.{◌≡◌, ◌∙◌, ap, Some}
-use Rattle.ts_http.specs.HttpReplies.{reply_text, error_json, refusal_words}
+use Rattle.ts_http.specs.HttpReplies.{reply_text, error_json, refusal_message}
 use Rattle.ts_http.proofs.refusal.Refusal.reply.Goals as goal
 
 pub returns : goal.returns
 returns c =
-    let note : c.deref.result.now ≡ error_json (refusal_words c.args.self) = c.deref.ensures.0 ∙ c.error_note.ensures.bytes ∙ ap error_json c.words.ensures.value in
+    let note : c.deref.result.now ≡ error_json (refusal_message c.args.self) = c.deref.ensures.0 ∙ c.error_note.ensures.bytes ∙ ap error_json c.words.ensures.value in
     rw c.if-to_head.false (c.letter.ensures ∙ (λ i. reply_text (c.status-2.ensures i) (c.allow-2.ensures.value i) (Some (note i))))

@@ -10,5 +10,5 @@ returns g c =
     let z = c.from_be_bytes.result in
     let fits : SFits w64 z = search rules in
     let e : to_z w64 (of_z w64 z) ≡ z = to_z-of_z fits in
-    subst (λ (x : ℤ). ReadsField (signed_number w64) (λ (n : ℤ). n) c.args.self.now c.args.source.now (fine x) c.take.new.self c.take.new.source) (sym (e ∙ c.from_be_bytes.ensures))
-    (signed_reads w64 c.args.self.now c.take.new.self c.args.source.now c.take.new.source c.take.new.buffer c.take.ensures.len c.in_ok-take.ensures.filled c.in_ok-take.ensures.calls)
+    subst (λ (x : ℤ). ReadsField (signed_number w64) (λ (n : ℤ). n) c.args.self.now c.args.source.now (fine x) c.read_exact.new.self c.read_exact.new.source) (sym (e ∙ c.from_be_bytes.ensures))
+    (signed_reads w64 c.args.self.now c.read_exact.new.self c.args.source.now c.read_exact.new.source c.read_exact.new.buffer c.read_exact.ensures.len c.in_ok-take.ensures.filled c.in_ok-take.ensures.calls)

@@ -28,5 +28,5 @@ returns-else-self-step g c =
     let s = c.args.step.now in
     let apart = nat_eq_false h.rule s.rule c.if-self-step.false in
     apart
-    ∙ sym (ap (λ a. a && (h.nests || is_in_one_bucket t.query h.from s.to)) apart)
+    ∙ sym (ap (λ a. a && (h.aligned || is_in_one_bucket t.query h.from s.to)) apart)
     ∙ join_is t h s c.requires.plannable c.requires.pending c.requires.step

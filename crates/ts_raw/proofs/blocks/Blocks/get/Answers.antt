@@ -4,12 +4,12 @@ use Rattle.std.proofs.lemmas.List.{length-map}
 use Rattle.std.proofs.lemmas.Option.{slice_get-get_or}
 use Rattle.ts_raw.specs.declared.block_handle.BlockHandle.{BlockHandle}
 use Rattle.ts_raw.specs.BlockColumns.{texts_at}
-use Rattle.ts_raw.specs.CodedPoints.{IsBlockHandle, text_at}
+use Rattle.ts_raw.specs.CodedPoints.{IsBlockHandle, block_text_at}
 use Rattle.ts_raw.proofs.ColumnBlocks.{mark_found}
 use Rattle.ts_raw.proofs.blocks.Blocks.get.Goals.{In_ok-handle}
 use Rattle.ts_raw.proofs.blocks.Blocks.get.Goals as goal
 
-found : (c : In_ok-handle) → IsBlockHandle c.self.inside.bytes.now c.in_ok-handle.handle.now × (slice_get (texts_at c.self.inside.bytes.now c.self.inside.handles.now) c.args.index ≡ Some (text_at c.self.inside.bytes.now c.in_ok-handle.handle.now))
+found : (c : In_ok-handle) → IsBlockHandle c.self.inside.bytes.now c.in_ok-handle.handle.now × (slice_get (texts_at c.self.inside.bytes.now c.self.inside.handles.now) c.args.index ≡ Some (block_text_at c.self.inside.bytes.now c.in_ok-handle.handle.now))
 found c =
     let ms : List BlockHandle = c.self.inside.handles.now in
     let m : BlockHandle = c.in_ok-handle.handle.now in
@@ -27,5 +27,5 @@ returns-clause-some c =
 
 pub returns-in_err-handle-clause-none : goal.returns-in_err-handle-clause-none
 returns-in_err-handle-clause-none c = λ none.
-    let same : length c.self.inside.handles.now ≡ length c.args.self.now = sym (length-map c.self.inside.handles.now (text_at c.self.inside.bytes.now)) ∙ ap length c.self.view_is in
+    let same : length c.self.inside.handles.now ≡ length c.args.self.now = sym (length-map c.self.inside.handles.now (block_text_at c.self.inside.bytes.now)) ∙ ap length c.self.view_is in
     subst (λ n. n ≤ c.args.index) same c.in_err-handle.ensures.lookup.3

@@ -5,28 +5,28 @@ use Rattle.ts_script.specs.LineReading.{lines_to_come}
 use Rattle.ts_script.proofs.LineScan.{next_is_some, found_told, last_told, more_told, after-whole, flipped, flipped_back}
 use Rattle.ts_script.proofs.line_reader.LineReader.gather.Goals as goal
 
-pub returns-then-take_chunk-clause-next : goal.returns-then-take_chunk-clause-next
-returns-then-take_chunk-clause-next g c =
-    let t = c.take_chunk.ensures.taken in
+pub returns-then-consume_chunk-clause-next : goal.returns-then-consume_chunk-clause-next
+returns-then-consume_chunk-clause-next g c =
+    let t = c.consume_chunk.ensures.taken in
     let i = c.loop-self.invariant in
     let so = i.so_far in
-    found_told c.args.self.now c.args.self.now c.loop-self.self c.take_chunk.new.self c.args.source.now c.loop-self.source c.found.result so.0 c.requires.going (t.ended ∙ i.going) refl so.1
-    (sym t.found ∙ c.if-take_chunk.true) c.take_chunk.ensures.line t.buffered c.found.ensures
+    found_told c.args.self.now c.args.self.now c.loop-self.self c.consume_chunk.new.self c.args.source.now c.loop-self.source c.found.result so.0 c.requires.going (t.ended ∙ i.going) refl so.1
+    (sym t.found ∙ c.if-consume_chunk.true) c.consume_chunk.ensures.line t.buffered c.found.ensures
 
-pub returns-then-take_chunk-clause-goes_on : goal.returns-then-take_chunk-clause-goes_on
-returns-then-take_chunk-clause-goes_on g c =
-    let t = c.take_chunk.ensures.taken in
+pub returns-then-consume_chunk-clause-goes_on : goal.returns-then-consume_chunk-clause-goes_on
+returns-then-consume_chunk-clause-goes_on g c =
+    let t = c.consume_chunk.ensures.taken in
     let i = c.loop-self.invariant in
     record {
       over = λ e. absurd (next_is_some _ (sym c.found.ensures ∙ e));
-      less = λ some. omega (arith, t.less, i.less, ap bit c.if-take_chunk.true);
+      less = λ some. omega (arith, t.less, i.less, ap bit c.if-consume_chunk.true);
     }
 
-pub returns-then-take_chunk-clause-source_calls : goal.returns-then-take_chunk-clause-source_calls
-returns-then-take_chunk-clause-source_calls g c =
-    let t = c.take_chunk.ensures.taken in
+pub returns-then-consume_chunk-clause-source_calls : goal.returns-then-consume_chunk-clause-source_calls
+returns-then-consume_chunk-clause-source_calls g c =
+    let t = c.consume_chunk.ensures.taken in
     let i = c.loop-self.invariant in
-    let going : c.take_chunk.new.self.ahead.ended ≡ false = t.ended ∙ i.going in
+    let going : c.consume_chunk.new.self.ahead.ended ≡ false = t.ended ∙ i.going in
     record {
       end = λ e. cc;
       stays = tt;
@@ -34,17 +34,17 @@ returns-then-take_chunk-clause-source_calls g c =
       within = t.within;
       limit = λ e. cc;
       failures = omega (arith, i.failures);
-      turns = omega (arith, i.turns, t.turns);
+      reads = omega (arith, i.reads, t.reads);
       ends = omega (arith, i.ends, ap bit going, ap bit c.requires.going);
     }
 
 pub read_on-requires-clause-empty : goal.read_on-requires-clause-empty
-read_on-requires-clause-empty g c = c.take_chunk.ensures.taken.buffered ∙ after-whole c.loop-self.self.ahead.buffered (sym c.take_chunk.ensures.taken.found ∙ c.if-take_chunk.false)
+read_on-requires-clause-empty g c = c.consume_chunk.ensures.taken.buffered ∙ after-whole c.loop-self.self.ahead.buffered (sym c.consume_chunk.ensures.taken.found ∙ c.if-consume_chunk.false)
 
 pub returns-in_err-read_on-clause-source_calls : goal.returns-in_err-read_on-clause-source_calls
 returns-in_err-read_on-clause-source_calls g c =
     let p = err_from_is_err_and c.from_residual.result c.from_residual.ensures.1 in
-    let t = c.take_chunk.ensures.taken in
+    let t = c.consume_chunk.ensures.taken in
     let s = c.in_err-read_on.ensures.source_calls in
     let i = c.loop-self.invariant in
     rw (p.1, p.2) record {
@@ -54,17 +54,17 @@ returns-in_err-read_on-clause-source_calls g c =
       within = s.within;
       limit = λ e. s.limit cc;
       failures = omega (arith, s.failures, i.failures);
-      turns = omega (arith, s.turns, i.turns, t.turns);
+      reads = omega (arith, s.reads, i.reads, t.reads);
       ends = omega (arith, s.ends, i.ends, ap bit c.requires.going, ap bit s.stays, ap bit t.ended, ap bit i.going);
     }
 
 pub returns-in_err-read_on-clause-cut : goal.returns-in_err-read_on-clause-cut
 returns-in_err-read_on-clause-cut g c =
     let p = err_from_is_err_and c.from_residual.result c.from_residual.ensures.1 in
-    let t = c.take_chunk.ensures.taken in
+    let t = c.consume_chunk.ensures.taken in
     let f = c.in_err-read_on.ensures.read in
     let so = c.loop-self.invariant.so_far in
-    let m = more_told (lines_to_come c.args.self.now c.args.source.now) c.loop-self.self c.take_chunk.new.self c.read_on.new.self c.loop-self.source c.read_on.new.source so.0 so.1 (sym t.found ∙ c.if-take_chunk.false) c.take_chunk.ensures.line t.buffered f.bytes f.line f.long in
+    let m = more_told (lines_to_come c.args.self.now c.args.source.now) c.loop-self.self c.consume_chunk.new.self c.read_on.new.self c.loop-self.source c.read_on.new.source so.0 so.1 (sym t.found ∙ c.if-consume_chunk.false) c.consume_chunk.ensures.line t.buffered f.bytes f.line f.long in
     rw p.1 record {
       going = c.requires.going;
       no_lf = c.requires.part;
@@ -76,15 +76,15 @@ returns-in_err-read_on-clause-cut g c =
 
 pub returns-then-not-branch-clause-next : goal.returns-then-not-branch-clause-next
 returns-then-not-branch-clause-next g c =
-    let t = c.take_chunk.ensures.taken in
+    let t = c.consume_chunk.ensures.taken in
     let f = c.in_ok-read_on.ensures.read in
     let so = c.loop-self.invariant.so_far in
-    let m = more_told (lines_to_come c.args.self.now c.args.source.now) c.loop-self.self c.take_chunk.new.self c.read_on.new.self c.loop-self.source c.read_on.new.source so.0 so.1 (sym t.found ∙ c.if-take_chunk.false) c.take_chunk.ensures.line t.buffered f.bytes f.line f.long in
+    let m = more_told (lines_to_come c.args.self.now c.args.source.now) c.loop-self.self c.consume_chunk.new.self c.read_on.new.self c.loop-self.source c.read_on.new.source so.0 so.1 (sym t.found ∙ c.if-consume_chunk.false) c.consume_chunk.ensures.line t.buffered f.bytes f.line f.long in
     last_told c.args.self.now c.args.self.now c.read_on.new.self c.args.source.now c.read_on.new.source c.last.result m.0 c.requires.going (flipped _ _ f.more c.if-not-branch.true) refl m.1 c.last.ensures
 
 pub returns-then-not-branch-clause-goes_on : goal.returns-then-not-branch-clause-goes_on
 returns-then-not-branch-clause-goes_on g c =
-    let t = c.take_chunk.ensures.taken in
+    let t = c.consume_chunk.ensures.taken in
     let f = c.in_ok-read_on.ensures.read in
     let i = c.loop-self.invariant in
     record {
@@ -94,10 +94,10 @@ returns-then-not-branch-clause-goes_on g c =
 
 pub returns-then-not-branch-clause-source_calls : goal.returns-then-not-branch-clause-source_calls
 returns-then-not-branch-clause-source_calls g c =
-    let t = c.take_chunk.ensures.taken in
+    let t = c.consume_chunk.ensures.taken in
     let s = c.in_ok-read_on.ensures.source_calls in
     let i = c.loop-self.invariant in
-    let going : c.take_chunk.new.self.ahead.ended ≡ false = t.ended ∙ i.going in
+    let going : c.consume_chunk.new.self.ahead.ended ≡ false = t.ended ∙ i.going in
     record {
       end = s.end;
       stays = tt;
@@ -105,29 +105,29 @@ returns-then-not-branch-clause-source_calls g c =
       within = s.within;
       limit = λ e. cc;
       failures = omega (arith, s.failures, i.failures);
-      turns = omega (arith, s.turns, i.turns, t.turns);
+      reads = omega (arith, s.reads, i.reads, t.reads);
       ends = omega (arith, s.ends, i.ends, ap bit going, ap bit c.requires.going);
     }
 
 pub loop-self-smaller : goal.loop-self-smaller
 loop-self-smaller g c =
     let s = c.in_ok-read_on.ensures.source_calls in
-    let t = c.take_chunk.ensures.taken in
-    omega (arith, c.in_ok-read_on.ensures.read.turn, t.turns, s.within, s.allowed, t.limit, c.loop-self.invariant.allowed)
+    let t = c.consume_chunk.ensures.taken in
+    omega (arith, c.in_ok-read_on.ensures.read.read_once, t.reads, s.within, s.allowed, t.limit, c.loop-self.invariant.allowed)
 
 pub loop-self-preserved : goal.loop-self-preserved
 loop-self-preserved g c =
-    let t = c.take_chunk.ensures.taken in
+    let t = c.consume_chunk.ensures.taken in
     let f = c.in_ok-read_on.ensures.read in
     let s = c.in_ok-read_on.ensures.source_calls in
     let i = c.loop-self.invariant in
     let going : c.read_on.new.self.ahead.ended ≡ false = flipped_back _ _ f.more c.if-not-branch.false in
     record {
-      so_far = more_told (lines_to_come c.args.self.now c.args.source.now) c.loop-self.self c.take_chunk.new.self c.read_on.new.self c.loop-self.source c.read_on.new.source i.so_far.0 i.so_far.1 (sym t.found ∙ c.if-take_chunk.false) c.take_chunk.ensures.line t.buffered f.bytes f.line f.long;
+      so_far = more_told (lines_to_come c.args.self.now c.args.source.now) c.loop-self.self c.consume_chunk.new.self c.read_on.new.self c.loop-self.source c.read_on.new.source i.so_far.0 i.so_far.1 (sym t.found ∙ c.if-consume_chunk.false) c.consume_chunk.ensures.line t.buffered f.bytes f.line f.long;
       going = going;
       allowed = s.allowed ∙ t.limit ∙ i.allowed;
       less = omega (arith, t.less, f.less, i.less);
       failures = omega (arith, s.failures, i.failures);
-      turns = omega (arith, s.turns, i.turns, t.turns);
+      reads = omega (arith, s.reads, i.reads, t.reads);
       ends = omega (arith, s.ends, i.ends, ap bit going, ap bit t.ended, ap bit i.going);
     }

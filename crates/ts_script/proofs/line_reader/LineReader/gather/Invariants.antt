@@ -11,9 +11,9 @@ invariant-loop-self g l = record {
   allowed : l.self.ahead.limit ≡ l.initial.self.ahead.limit;
   less : weight l.self.ahead ≤ weight l.initial.self.ahead;
   failures : l.source.failures ≡ l.initial.source.failures;
-  turns : l.source.turns + l.initial.self.ahead.turns ≡ l.initial.source.turns + l.self.ahead.turns;
+  reads : l.source.reads + l.initial.self.ahead.reads ≡ l.initial.source.reads + l.self.ahead.reads;
   ends : l.source.ends ≡ l.initial.source.ends;
 }
 
 abbrev pub decreases-loop-self : goal.decreases-loop-self
-decreases-loop-self g l = l.initial.self.ahead.limit - l.self.ahead.turns
+decreases-loop-self g l = l.initial.self.ahead.limit - l.self.ahead.reads

@@ -2,7 +2,7 @@ use Rattle.std.proofs.Common.{sym, subst, option_map, string_bytes}
 use Rattle.std.specs.Fmt.{decimal}
 use Rattle.ts_script.specs.Commands.{Live}
 use Rattle.ts_script.specs.ScriptReplies.{line}
-use Rattle.ts_script.specs.MachineState.{MachineState, IsMachineIn, Did}
+use Rattle.ts_script.specs.MachineState.{MachineState, IsMachineIn, TransitionTo}
 use Rattle.ts_script.proofs.MachineLemmas.{serving, moved, was_set, was_shown, told_live, count_refused, not_known}
 use Rattle.ts_script.proofs.machine.Machine.apply.Goals as goal
 
@@ -35,7 +35,7 @@ returns-in-Live c = λ s i.
     let m : MachineState = serving c.self-in-Live.inside.moment c.self-in-Live.inside.precision c.self-in-Live.inside.epoch c.self-in-Live.inside.fresh (option_map string_bytes c.self-in-Live.inside.certificate) c.self-in-Live.inside.store in
     let before = subst (λ (k : MachineState). IsMachineIn s k) (sym c.self-in-Live.view_is) i in
     let did = told_live c.raw_points.result s m before c.raw_points.ensures.raw in
-    rw c.in-Live.is (subst (λ (k : MachineState). Did Live s (line (decimal c.raw_points.result)) k) c.self-in-Live.view_is did)
+    rw c.in-Live.is (subst (λ (k : MachineState). TransitionTo Live s (line (decimal c.raw_points.result)) k) c.self-in-Live.view_is did)
 
 pub returns-in-Retain : goal.returns-in-Retain
 returns-in-Retain c = λ s i. rw c.in-Retain.is (c.retain.ensures s i)

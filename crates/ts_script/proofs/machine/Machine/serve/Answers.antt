@@ -2,7 +2,7 @@ use Rattle.std.proofs.Common.{◌≡◌, ◌∙◌, ap, sym, subst, option_map, 
 use Rattle.ts_script.specs.Commands.{Command, command_of}
 use Rattle.ts_script.specs.CommandParts.{command_view}
 use Rattle.ts_script.specs.ScriptReplies.{text_of}
-use Rattle.ts_script.specs.MachineState.{MachineState, Did}
+use Rattle.ts_script.specs.MachineState.{MachineState, TransitionTo}
 use Rattle.ts_script.proofs.MachineLemmas.{serving, did_it, was_skipped, was_no_text}
 use Rattle.ts_script.proofs.machine.Machine.serve.Goals as goal
 
@@ -13,11 +13,11 @@ returns-then-is_skipped c = λ s i.
 pub returns-else-is_skipped : goal.returns-else-is_skipped
 returns-else-is_skipped c = λ s i.
     let t = c.in-Ok.ensures.cases in
-    let e : command_view c.of.result ≡ command_of c.args.line.now = c.of.ensures ∙ ap command_of t.0 in
+    let e : command_view c.parse.result ≡ command_of c.args.line.now = c.parse.ensures ∙ ap command_of t.0 in
     let m : MachineState = serving c.self.inside.moment c.self.inside.precision c.self.inside.epoch c.self.inside.fresh (option_map string_bytes c.self.inside.certificate) c.self.inside.store in
-    let did = subst (λ (k : Command). Did k s (text_of c.apply-reply.result) c.apply-reply.new.self) e (c.apply-reply.ensures s i) in
+    let did = subst (λ (k : Command). TransitionTo k s (text_of c.apply-reply.result) c.apply-reply.new.self) e (c.apply-reply.ensures s i) in
     did_it c.args.line.now (text_of c.apply-reply.result) s m c.requires t.1 (sym c.is_skipped.ensures ∙ c.if-is_skipped.false)
-    (subst (λ (k : MachineState). Did (command_of c.args.line.now) s (text_of c.apply-reply.result) k) (sym c.self.view_is) did)
+    (subst (λ (k : MachineState). TransitionTo (command_of c.args.line.now) s (text_of c.apply-reply.result) k) (sym c.self.view_is) did)
 
 pub returns-in-Err : goal.returns-in-Err
 returns-in-Err c = λ s i. was_no_text c.args.line.now (text_of c.refuse.result) s c.refuse.new.self c.in-Err.ensures.cases.0 (c.refuse.ensures s i)

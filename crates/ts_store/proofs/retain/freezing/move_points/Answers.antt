@@ -16,7 +16,7 @@ use Rattle.ts_store.proofs.retain.freezing.move_points.Goals as goal
 pub freeze_points-requires-clause-few : goal.freeze_points-requires-clause-few
 freeze_points-requires-clause-few g c =
     let x : ColumnState = c.index-columns-column.result in
-    let is : length c.of.result ≡ length (points_below c.args.mark (finmap.entries x.points)) = ap length c.of.ensures in
+    let is : length c.new.result ≡ length (points_below c.args.mark (finmap.entries x.points)) = ap length c.new.ensures in
     let fewer : length (points_below c.args.mark (finmap.entries x.points)) ≤ length (finmap.entries x.points) = length-filter _ (finmap.entries x.points) in
     let all : finmap.len x.points ≡ length (finmap.entries x.points) = len-entries x.points in
     let one = one_of-points c.args.columns.now c.args.column x c.requires.column in
@@ -30,7 +30,7 @@ returns-then-rolls g c = λ cs d over at fit.
     let rolled : is_some (rollup_series_at s c.args.column) ≡ true = sym c.rolls.ensures ∙ c.if-rolls.true in
     let below : List (ℤ × ℤ) = points_below c.args.mark (finmap.entries (get_or c.args.columns.now c.args.column no_column).points) in
     let col = c.index-columns-column.is ∙ get_or_default c.args.columns.now c.args.column c.index-columns-column.result no_column c.requires.column in
-    let points = c.of.ensures ∙ ap (λ (x : ColumnState). points_below c.args.mark (finmap.entries x.points)) col in
+    let points = c.new.ensures ∙ ap (λ (x : ColumnState). points_below c.args.mark (finmap.entries x.points)) col in
     let kept = c.freeze_points.ensures.series_list in
     let over' : IsOver c.args.rule.now cs c.args.columns.now c.freeze_points.new.rollup = subst (λ (t : RollupState). IsOver c.args.rule.now cs c.args.columns.now t) (sym kept) (record { each = over.each; once = over.once; series_list = over.series_list }) in
     moved_rolled c.args.rule.now d below (facts_left c.args.mark d cs c.args.columns.now) c.args.column s c.freeze_points.new.rollup c.refold_points.new.rollup rolled (rollup_series_known c.args.rule.now s.grid.series_list cs s.series_list c.args.column d over.series_list at) kept c.refold_points.ensures.series_list

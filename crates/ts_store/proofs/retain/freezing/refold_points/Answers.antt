@@ -21,7 +21,7 @@ loop-time-init g c =
     let all : List (ℤ × ℤ) = points_below c.args.mark (finmap.entries (get_or c.args.columns.now c.args.column no_column).points) in
     let col = c.index-columns-column.is ∙ get_or_default c.args.columns.now c.args.column c.index-columns-column.result no_column c.requires.column in
     let points : c.into_iter-time-iterator.result ≡ all =
-    c.into_iter-time-iterator.ensures.into_iter_gives ∙ c.of-time-items.ensures ∙ ap (λ (x : ColumnState). points_below c.args.mark (finmap.entries x.points)) col in
+    c.into_iter-time-iterator.ensures.into_iter_gives ∙ c.new-time-items.ensures ∙ ap (λ (x : ColumnState). points_below c.args.mark (finmap.entries x.points)) col in
     record {
       series_list = refl;
       cells = λ cs d n at over here. refolded-none c.args.rule.now d (facts_left c.args.mark d cs c.args.columns.now) all c.args.rollup.now.grid.cells c.into_iter-time-iterator.result None points refl;

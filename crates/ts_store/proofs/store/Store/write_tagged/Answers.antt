@@ -21,32 +21,32 @@ refusal-requires g c =
     c.new-key.ensures
     ∙ series_from c.args.line.now c.text.result.now (borrowed_pairs c.args.tags.now) (c.text.ensures ∙ ap (λ (q : LinePart). q.text) c.measurement.ensures) c.requires.tags
 
-pub put_line-requires-clause-key : goal.put_line-requires-clause-key
-put_line-requires-clause-key g c =
+pub insert_line-requires-clause-key : goal.insert_line-requires-clause-key
+insert_line-requires-clause-key g c =
     c.new-key.ensures
     ∙ series_from c.args.line.now c.text.result.now (borrowed_pairs c.args.tags.now) (c.text.ensures ∙ ap (λ (q : LinePart). q.text) c.measurement.ensures) c.requires.tags
 
-pub put_line-requires-clause-few : goal.put_line-requires-clause-few
-put_line-requires-clause-few g c =
+pub insert_line-requires-clause-few : goal.insert_line-requires-clause-few
+insert_line-requires-clause-few g c =
     let before = c.self.inside in
     let line : Parts = c.args.line.now in
     let none : write_fault before.marks.raw before.facts.series before.accepted line ≡ None = ap (λ (k : StoreData). write_fault k.marks.raw k.series k.accepted line) c.self.view_is ∙ sym c.refusal.ensures ∙ c.in_default.is in
     let welcome = not_refused before.marks.raw before.facts.series before.accepted line none in
     welcome.registers
 
-pub put_line-requires-clause-rollups : goal.put_line-requires-clause-rollups
-put_line-requires-clause-rollups g c =
+pub insert_line-requires-clause-rollups : goal.insert_line-requires-clause-rollups
+insert_line-requires-clause-rollups g c =
     let facts = c.self.inside.facts in
     subst (λ (rs : List Rule). AreRollups rs (map column_of facts.columns) facts.rollups) (sym c.rules.ensures.value) c.self.invariant.rollups
 
-pub put_line-requires-clause-live : goal.put_line-requires-clause-live
-put_line-requires-clause-live g c =
+pub insert_line-requires-clause-live : goal.insert_line-requires-clause-live
+insert_line-requires-clause-live g c =
     let before = c.self.inside in
     subst (λ (rs : List Rule). StayLive rs c.lows.result.now before.facts.columns (cells_of before.facts.rollups)) (sym c.rules.ensures.value)
     (subst (λ (ls : List ℤ). StayLive before.settings.rules ls before.facts.columns (cells_of before.facts.rollups)) (sym c.lows.ensures) (stay_live before.settings before.marks before.accepted before.facts before.run c.self.invariant))
 
-pub put_line-requires-clause-fit : goal.put_line-requires-clause-fit
-put_line-requires-clause-fit g c =
+pub insert_line-requires-clause-fit : goal.insert_line-requires-clause-fit
+insert_line-requires-clause-fit g c =
     let before = c.self.inside in
     let line : Parts = c.args.line.now in
     let none : write_fault before.marks.raw before.facts.series before.accepted line ≡ None = ap (λ (k : StoreData). write_fault k.marks.raw k.series k.accepted line) c.self.view_is ∙ sym c.refusal.ensures ∙ c.in_default.is in
@@ -59,16 +59,16 @@ pub invariant_of-self : goal.invariant_of-self
 invariant_of-self g c =
     let before = c.self.inside in
     let line : Parts = c.args.line.now in
-    let grows : GrowsForLine before.settings.rules before.marks.lows before.facts c.put_line.new.self line = subst (λ (ls : List ℤ). GrowsForLine before.settings.rules ls before.facts c.put_line.new.self line) c.lows.ensures (subst (λ (rs : List Rule). GrowsForLine rs c.lows.result.now before.facts c.put_line.new.self line) c.rules.ensures.value c.in_err-put_line.ensures.err) in
+    let grows : GrowsForLine before.settings.rules before.marks.lows before.facts c.insert_line.new.self line = subst (λ (ls : List ℤ). GrowsForLine before.settings.rules ls before.facts c.insert_line.new.self line) c.lows.ensures (subst (λ (rs : List Rule). GrowsForLine rs c.lows.result.now before.facts c.insert_line.new.self line) c.rules.ensures.value c.in_err-insert_line.ensures.err) in
     let none : write_fault before.marks.raw before.facts.series before.accepted line ≡ None = ap (λ (k : StoreData). write_fault k.marks.raw k.series k.accepted line) c.self.view_is ∙ sym c.refusal.ensures ∙ c.in_default.is in
     let welcome = not_refused before.marks.raw before.facts.series before.accepted line none in
-    kept_left before.settings before.marks before.accepted before.facts c.put_line.new.self before.run line c.self.invariant welcome.registers c.requires.named (subst (λ (l : List (LinePart × ℤ)). AreKeys (map field_text l)) c.fields.ensures.value c.fields.ensures.named) grows
+    kept_left before.settings before.marks before.accepted before.facts c.insert_line.new.self before.run line c.self.invariant welcome.registers c.requires.named (subst (λ (l : List (LinePart × ℤ)). AreKeys (map field_text l)) c.fields.ensures.value c.fields.ensures.named) grows
 
-pub returns-in_err-put_line : goal.returns-in_err-put_line
-returns-in_err-put_line g c =
+pub returns-in_err-insert_line : goal.returns-in_err-insert_line
+returns-in_err-insert_line g c =
     let before = c.self.inside in
     let line : Parts = c.args.line.now in
-    let grows : GrowsForLine before.settings.rules before.marks.lows before.facts c.put_line.new.self line = subst (λ (ls : List ℤ). GrowsForLine before.settings.rules ls before.facts c.put_line.new.self line) c.lows.ensures (subst (λ (rs : List Rule). GrowsForLine rs c.lows.result.now before.facts c.put_line.new.self line) c.rules.ensures.value c.in_err-put_line.ensures.err) in
+    let grows : GrowsForLine before.settings.rules before.marks.lows before.facts c.insert_line.new.self line = subst (λ (ls : List ℤ). GrowsForLine before.settings.rules ls before.facts c.insert_line.new.self line) c.lows.ensures (subst (λ (rs : List Rule). GrowsForLine rs c.lows.result.now before.facts c.insert_line.new.self line) c.rules.ensures.value c.in_err-insert_line.ensures.err) in
     let p = err_from_is_err_and c.from_residual.result c.from_residual.ensures.1 in
     record {
       ok = search rules;
@@ -76,8 +76,8 @@ returns-in_err-put_line g c =
       taken = λ none.
           inr (
             p.1 ∙ ap Err p.2,
-            subst (λ (k : StoreData). Leaves k (data_of_parts before.settings before.marks before.accepted c.put_line.new.self before.run) line) c.self.view_is
-                (left_by before.settings before.marks before.accepted before.facts c.put_line.new.self before.run line c.self.invariant grows),
+            subst (λ (k : StoreData). Leaves k (data_of_parts before.settings before.marks before.accepted c.insert_line.new.self before.run) line) c.self.view_is
+                (left_by before.settings before.marks before.accepted before.facts c.insert_line.new.self before.run line c.self.invariant grows),
           );
     }
 
@@ -99,9 +99,9 @@ invariant_of-self-2 g c =
     let none : write_fault before.marks.raw before.facts.series before.accepted line ≡ None = ap (λ (k : StoreData). write_fault k.marks.raw k.series k.accepted line) c.self.view_is ∙ sym c.refusal.ensures ∙ c.in_default.is in
     let welcome = not_refused before.marks.raw before.facts.series before.accepted line none in
     let many : length c.fields.result.now ≡ length (line_facts line) = ap (λ (l : List (LinePart × ℤ)). length l) c.fields.ensures.value ∙ sym (length-map line.fields (fact_of line)) in
-    let put : PutsLine before.settings.rules before.marks.lows before.facts c.put_line.new.self line = subst (λ (ls : List ℤ). PutsLine before.settings.rules ls before.facts c.put_line.new.self line) c.lows.ensures (subst (λ (rs : List Rule). PutsLine rs c.lows.result.now before.facts c.put_line.new.self line) c.rules.ensures.value c.in_ok-put_line.ensures.ok) in
-    subst (λ (n : ℕ). IsSoundStore (data_of_parts before.settings before.marks (before.accepted + n) c.put_line.new.self before.run) c.put_line.new.self before.run) (sym many)
-    (kept_accepted before.settings before.marks before.accepted before.facts c.put_line.new.self before.run line c.self.invariant welcome.registers c.requires.named (subst (λ (l : List (LinePart × ℤ)). AreKeys (map field_text l)) c.fields.ensures.value c.fields.ensures.named) put welcome.few)
+    let put : PutsLine before.settings.rules before.marks.lows before.facts c.insert_line.new.self line = subst (λ (ls : List ℤ). PutsLine before.settings.rules ls before.facts c.insert_line.new.self line) c.lows.ensures (subst (λ (rs : List Rule). PutsLine rs c.lows.result.now before.facts c.insert_line.new.self line) c.rules.ensures.value c.in_ok-insert_line.ensures.ok) in
+    subst (λ (n : ℕ). IsSoundStore (data_of_parts before.settings before.marks (before.accepted + n) c.insert_line.new.self before.run) c.insert_line.new.self before.run) (sym many)
+    (kept_accepted before.settings before.marks before.accepted before.facts c.insert_line.new.self before.run line c.self.invariant welcome.registers c.requires.named (subst (λ (l : List (LinePart × ℤ)). AreKeys (map field_text l)) c.fields.ensures.value c.fields.ensures.named) put welcome.few)
 
 pub returns : goal.returns
 returns g c =
@@ -110,13 +110,13 @@ returns g c =
     let none : write_fault before.marks.raw before.facts.series before.accepted line ≡ None = ap (λ (k : StoreData). write_fault k.marks.raw k.series k.accepted line) c.self.view_is ∙ sym c.refusal.ensures ∙ c.in_default.is in
     let welcome = not_refused before.marks.raw before.facts.series before.accepted line none in
     let many : length c.fields.result.now ≡ length (line_facts line) = ap (λ (l : List (LinePart × ℤ)). length l) c.fields.ensures.value ∙ sym (length-map line.fields (fact_of line)) in
-    let put : PutsLine before.settings.rules before.marks.lows before.facts c.put_line.new.self line = subst (λ (ls : List ℤ). PutsLine before.settings.rules ls before.facts c.put_line.new.self line) c.lows.ensures (subst (λ (rs : List Rule). PutsLine rs c.lows.result.now before.facts c.put_line.new.self line) c.rules.ensures.value c.in_ok-put_line.ensures.ok) in
+    let put : PutsLine before.settings.rules before.marks.lows before.facts c.insert_line.new.self line = subst (λ (ls : List ℤ). PutsLine before.settings.rules ls before.facts c.insert_line.new.self line) c.lows.ensures (subst (λ (rs : List Rule). PutsLine rs c.lows.result.now before.facts c.insert_line.new.self line) c.rules.ensures.value c.in_ok-insert_line.ensures.ok) in
     let taken = taken_from before.marks.raw line welcome.late put.taken in
     record {
       ok =
-          subst (λ (n : ℕ). Accepts c.args.self.now (data_of_parts before.settings before.marks (before.accepted + n) c.put_line.new.self before.run) line) (sym many)
-          (subst (λ (k : StoreData). Accepts k (data_of_parts before.settings before.marks (before.accepted + length (line_facts line)) c.put_line.new.self before.run) line) c.self.view_is
-          (accepted_by before.settings before.marks before.accepted before.facts c.put_line.new.self before.run line c.self.invariant put taken welcome.few));
+          subst (λ (n : ℕ). Accepts c.args.self.now (data_of_parts before.settings before.marks (before.accepted + n) c.insert_line.new.self before.run) line) (sym many)
+          (subst (λ (k : StoreData). Accepts k (data_of_parts before.settings before.marks (before.accepted + length (line_facts line)) c.insert_line.new.self before.run) line) c.self.view_is
+          (accepted_by before.settings before.marks before.accepted before.facts c.insert_line.new.self before.run line c.self.invariant put taken welcome.few));
       refused = search rules;
       taken = search rules;
     }

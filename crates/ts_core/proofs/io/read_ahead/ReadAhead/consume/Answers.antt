@@ -31,8 +31,8 @@ none_left [] zero (Some xs) end = end
 none_left [] (suc k) (Some xs) end = end
 none_left (b ∷ bs) k (Some xs) end = absurd cc
 
-weighs_less : (old new : Ahead) (count : ℕ) → new.limit ≡ old.limit → new.turns ≡ old.turns → new.buffered ≡ drop count old.buffered → count ≤ length old.buffered → weight new + count ≡ weight old
-weighs_less old new count limit turns rest some = omega (arith, ap length rest, length-drop count old.buffered)
+weighs_less : (old new : Ahead) (count : ℕ) → new.limit ≡ old.limit → new.reads ≡ old.reads → new.buffered ≡ drop count old.buffered → count ≤ length old.buffered → weight new + count ≡ weight old
+weighs_less old new count limit reads rest some = omega (arith, ap length rest, length-drop count old.buffered)
 
 pub returns : goal.returns
 returns g c =
@@ -40,11 +40,11 @@ returns g c =
     let old = c.args.self.now in
     let rest : slice_range s.buffer.items (s.at + c.args.count) s.end ≡ drop c.args.count old.buffered =
     later s.buffer.items s.at s.end c.args.count old.buffered (ap (λ (a : Ahead). a.buffered) c.self.view_is) c.requires in
-    let new : Ahead = record { used = take (s.at + c.args.count) s.buffer.items; buffered = slice_range s.buffer.items (s.at + c.args.count) s.end; turns = s.turns; limit = s.limit; ended = s.ended } in
+    let new : Ahead = record { used = take (s.at + c.args.count) s.buffer.items; buffered = slice_range s.buffer.items (s.at + c.args.count) s.end; reads = s.reads; limit = s.limit; ended = s.ended } in
     record {
       used = used_more s.buffer.items s.at s.end c.args.count old.buffered (ap (λ (a : Ahead). a.buffered) c.self.view_is) c.requires ∙ ap (λ (a : Ahead). a.used ++ take c.args.count old.buffered) c.self.view_is;
       buffered = rest;
-      turns = search rules;
+      reads = search rules;
       limit = search rules;
       ended = search rules;
       within = search rules;

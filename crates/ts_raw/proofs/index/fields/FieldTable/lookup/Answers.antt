@@ -18,14 +18,14 @@ index-key-requires g c =
     sought_within hash_of_field keys hashes c.self.invariant key c.in-Some.at (subst (Sought keys hashes key) c.in-Some.is c.loop-next.invariant) in
     search rules
 
-pub returns-then-is-clause-found : goal.returns-then-is-clause-found
-returns-then-is-clause-found g c =
+pub returns-then-matches-clause-found : goal.returns-then-matches-clause-found
+returns-then-matches-clause-found g c =
     let key : FieldKey = field_key c.args.measurement.now c.args.field.now in
     let keys : List FieldKey = c.self.inside.keys.items in
     let hashes : List ℕ = c.self.inside.chains in
     let within : c.in-Some.at < length keys =
     sought_within hash_of_field keys hashes c.self.invariant key c.in-Some.at (subst (Sought keys hashes key) c.in-Some.is c.loop-next.invariant) in
-    let same : c.index-key.result.now ≡ key = c.is.ensures.0 c.if-is.true in
+    let same : c.index-key.result.now ≡ key = c.matches.ensures.0 c.if-matches.true in
     subst (λ (all : List FieldKey). IsAt all c.in-Some.at key) c.self.view_is (found_at keys c.in-Some.at c.index-key.result.now key within c.index-key.ensures same)
 
 pub older-next-requires : goal.older-next-requires
@@ -47,7 +47,7 @@ loop-next-preserved g c =
     let keys : List FieldKey = c.self.inside.keys.items in
     let hashes : List ℕ = c.self.inside.chains in
     let other : c.index-key.result.now ≡ key → ⊥ =
-    λ e. true≢false (sym (c.is.ensures.1 e) ∙ c.if-is.false) in
+    λ e. true≢false (sym (c.matches.ensures.1 e) ∙ c.if-matches.false) in
     subst (Sought keys hashes key) (sym c.older-next.ensures)
     (sought_on hash_of_field keys hashes c.self.invariant key c.in-Some.at c.index-key.result.now c.index-key.ensures other
     (subst (Sought keys hashes key) c.in-Some.is c.loop-next.invariant))

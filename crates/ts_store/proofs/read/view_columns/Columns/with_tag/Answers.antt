@@ -9,8 +9,8 @@ use Rattle.ts_store.specs.read.ViewResults.{column_ref_has}
 use Rattle.ts_store.proofs.read.ColumnRefLemmas.{numbers-below, tagged_column_refs}
 use Rattle.ts_store.proofs.read.view_columns.Columns.with_tag.Goals as goal
 
-pub seen_all-requires : goal.seen_all-requires
-seen_all-requires g c =
+pub view_columns_of-requires : goal.view_columns_of-requires
+view_columns_of-requires g c =
     let cs : List Column = c.self.inside.index.now.columns in
     let tagged : Column → Bool = is_tagged c.names.result.0.now c.names.result.1.now c.args.tag.now c.args.value.now in
     let ids : c.deref.result.now ≡ c.in_ok-found-in-Some.found.items = search rules in
@@ -28,8 +28,8 @@ returns-in_ok-found-in-Some g c =
     let found : List ℕ = c.deref.result.now in
     let ids : found ≡ c.in_ok-found-in-Some.found.items = search rules in
     let at : IsAt left 0 first = sym c.in-Some.ensures.value in
-    if_ok c.seen_all.result
+    if_ok c.view_columns_of.result
     (λ v e.
     e ∙ tagged_column_refs cs left found first m f tag value (c.self.invariant.all c.if-not-self.false) (at_among left 0 first at) c.names.ensures (ids ∙ c.in_ok-found-in-Some.ensures)
     ∙ ap (filter (column_ref_has tag value)) c.self.view_is)
-    c.seen_all.ensures
+    c.view_columns_of.ensures

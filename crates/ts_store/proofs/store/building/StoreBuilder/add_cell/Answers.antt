@@ -3,7 +3,7 @@ use Rattle.std.specs.FinMap as finmap
 use Rattle.ts_core.specs.store.Cells.{Cell}
 use Rattle.ts_core.specs.store.StoreStates.{column_of}
 use Rattle.ts_cells.specs.Grids.{cell_at, rollup_series_named}
-use Rattle.ts_store.specs.image.Building.{Built, cell_map_at, with_cell}
+use Rattle.ts_store.specs.image.Building.{Built, cell_map_at, with_built_cell}
 use Rattle.ts_store.specs.rollup.Rollups.{cells_of}
 use Rattle.ts_store.proofs.image.BuildersKept.{order_cell-either, built_cell, built_same, with_one}
 use Rattle.ts_store.proofs.image.PartsBuilt.{ok_then, err_then}
@@ -33,7 +33,7 @@ returns-clause-ok g c =
     let q : Cell = cell_at c.args.index.now (rollup_series_named c.args.field.now c.args.group.now) in
     ok_then c.add_cell.result c.add_cell.ensures.ok
     (λ (e : cells_of c.add_cell.new.self.rollups ≡ with_one (cells_of i.facts.rollups) c.args.rule q c.args.frozen).
-    built_cell i.settings i.marks i.running i.accepted i.facts c.add_cell.new.self i.passed.items c.args.rule q c.args.frozen c.add_cell.ensures.columns c.add_cell.ensures.series e ∙ ap (with_cell c.args.rule q c.args.frozen) c.self.view_is)
+    built_cell i.settings i.marks i.running i.accepted i.facts c.add_cell.new.self i.passed.items c.args.rule q c.args.frozen c.add_cell.ensures.columns c.add_cell.ensures.series e ∙ ap (with_built_cell c.args.rule q c.args.frozen) c.self.view_is)
 
 pub returns-clause-err : goal.returns-clause-err
 returns-clause-err g c =

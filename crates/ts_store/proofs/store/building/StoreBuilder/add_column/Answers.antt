@@ -5,7 +5,7 @@ use Rattle.ts_core.specs.lists.Numbered.{IsAt}
 use Rattle.ts_core.specs.settings.Settings.{Rule}
 use Rattle.ts_core.specs.store.StoreStates.{ColumnPoints, column_of}
 use Rattle.ts_raw.specs.Indexed.{no_series}
-use Rattle.ts_store.specs.image.Building.{Built, with_column}
+use Rattle.ts_store.specs.image.Building.{Built, with_built_column}
 use Rattle.ts_store.specs.image.BuildingParts.{IsInOrder}
 use Rattle.ts_store.specs.rollup.Rollups.{AreRollups}
 use Rattle.ts_store.proofs.image.BuildersKept.{order_column, order_same, built_column}
@@ -35,7 +35,7 @@ returns-clause-ok g c = λ s at.
     let flags : c.push.new.self.items ≡ i.passed.items ++ w ∷ [] =
     c.push.ensures.items ∙ ap (λ r. cond (is_ok r) (before ++ w ∷ []) before) c.unwrap.ensures ∙ ap (λ (bs : List Bool). bs ++ w ∷ []) c.in_ok-reserve.ensures.items in
     built_column i.settings i.marks i.running i.accepted i.facts c.add_column.new.self i.passed.items c.push.new.self.items x c.args.waits (c.in_ok-add_column.ensures.ok s at') c.in_ok-add_column.ensures.series c.in_ok-add_column.ensures.cells flags
-    ∙ ap (with_column x c.args.waits) c.self.view_is
+    ∙ ap (with_built_column x c.args.waits) c.self.view_is
 
 pub invariant_of-self-in_err-add_column : goal.invariant_of-self-in_err-add_column
 invariant_of-self-in_err-add_column g c =

@@ -1,6 +1,6 @@
 use Rattle.std.proofs.Common.{◌≡◌, ◌<◌, ◌∙◌, ◌++◌, [], ◌∷◌, length, ap, sym, subst}
 use Rattle.ts_core.specs.lists.Members.{Among}
-use Rattle.ts_store.specs.image.Building.{Built, with_series}
+use Rattle.ts_store.specs.image.Building.{Built, with_built_series}
 use Rattle.ts_store.specs.image.BuildingParts.{built_of}
 use Rattle.ts_store.specs.store.ColumnStates.{StoreContent}
 use Rattle.ts_store.proofs.image.BuildersKept.{order_series-either, built_series}
@@ -23,7 +23,7 @@ returns-clause-ok g c =
     let i = c.self.inside in
     ok_then c.add_series.result c.add_series.ensures.ok
     (λ (e : c.add_series.new.self ≡ record { series = i.facts.series ++ c.args.key.now ∷ []; columns = i.facts.columns; rollups = i.facts.rollups }).
-    built_series i.settings i.marks i.running i.accepted i.facts c.add_series.new.self i.passed.items c.args.key.now e ∙ ap (with_series c.args.key.now) c.self.view_is)
+    built_series i.settings i.marks i.running i.accepted i.facts c.add_series.new.self i.passed.items c.args.key.now e ∙ ap (with_built_series c.args.key.now) c.self.view_is)
 
 pub returns-clause-err : goal.returns-clause-err
 returns-clause-err g c =

@@ -1,9 +1,0 @@
-use Rattle.std.proofs.Common.{◌∙◌, sym, subst, drop}
-use Rattle.ts_plan.specs.Steps.{Ascends}
-use Rattle.ts_plan.proofs.Searches.{kept_ascends, drop_ascends}
-use Rattle.ts_plan.proofs.prune.keep_steps.Goals as goal
-
-pub leads_on-requires : goal.leads_on-requires
-leads_on-requires g c =
-    let old = c.args.steps.now in
-    subst Ascends (sym (c.steps_from.ensures ∙ c.loop-index.invariant.kept)) (kept_ascends c.args.context.now (drop c.loop-index.index old) (drop_ascends c.loop-index.index old c.requires))

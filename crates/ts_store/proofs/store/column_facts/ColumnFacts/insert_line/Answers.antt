@@ -1,0 +1,253 @@
+use Rattle.std.proofs.Common.{◌≡◌, ◌⊎◌, ◌∙◌, List, [], ℕ, ℤ, length, map, ap, sym, subst, inl, inr, refl, ◌<◌, arith}
+use Rattle.std.specs.Vec.{with_items}
+use Rattle.std.proofs.lemmas.List.{append-nil, with_items_is, length-map}
+use Rattle.ts_core.specs.lists.Members.{AllDistinct}
+use Rattle.ts_core.specs.facts.Facts.{Series, Column, Fact}
+use Rattle.ts_core.specs.settings.Settings.{Rule}
+use Rattle.ts_core.specs.facts.Times.{least_time}
+use Rattle.ts_core.specs.store.History.{MayBeTaken}
+use Rattle.ts_core.specs.store.StoreStates.{ColumnPoints, column_of, facts_of}
+use Rattle.ts_core.specs.moves.StoreMoves.{PutsFacts, GainEmptyCells}
+use Rattle.ts_line.specs.Parts.{LinePart, Parts, series_of, fact_of, line_facts}
+use Rattle.ts_raw.specs.Columns.{ColumnState}
+use Rattle.ts_raw.specs.Indexed.{Indexed, IsSoundIndex}
+use Rattle.ts_core.specs.lists.Numbered.{Gains}
+use Rattle.ts_core.proofs.lists.Results.{on_any_err}
+use Rattle.ts_store.specs.write.LinesInColumns.{GrowsForLine}
+use Rattle.ts_store.specs.write.Registered.{MayGain, MakesFirst, with_columns, new_columns}
+use Rattle.ts_store.specs.store.ColumnStates.{StoreContent, IsSoundContent, content_of, columns_in, with_points, point_maps, AreStaged}
+use Rattle.ts_store.proofs.write.StagedColumns.{ready_of, numbers_distinct, line_columns, all_committed-length, same_facts}
+use Rattle.std.specs.List.{AllByRecursion}
+use Rattle.ts_core.specs.store.StoreData.{CellMap, AreLive}
+use Rattle.ts_store.specs.rollup.Rollups.{RollupState, AreRollups, cells_of}
+use Rattle.ts_store.specs.write.LivePuts.{AreOfFields}
+use Rattle.ts_store.specs.retain.RollupSteps.{with_frozen_all}
+use Rattle.ts_store.specs.write.CellsCreated.{cells_created_under, AreCreatedInPart, KeepRollupSeries}
+use Rattle.ts_store.specs.write.LinesPut.{OfEachRule, GainsCells}
+use Rattle.ts_store.proofs.write.CellsMade.{gain_nothing, line_cells}
+use Rattle.ts_store.proofs.read.ColumnsReads.{facts-length}
+use Rattle.ts_store.proofs.write.PointsPut.{of_fields, staged_length, wide_of, live_same}
+use Rattle.ts_store.proofs.retain.RollupMoves.{rollups_with}
+use Rattle.ts_store.proofs.rollup.RollupsGrow.{numbers_inside}
+use Rattle.ts_store.proofs.write.CellsCreatedLemmas.{rooms_same, rollups_stay, part_rooms}
+use Rattle.ts_store.proofs.write.RollupsPut.{rollups_held, staged_inside, line_rooms, line_gains, all_gained}
+use Rattle.ts_store.proofs.store.ColumnsLemmas.{known_of, names_held}
+use Rattle.ts_store.proofs.store.column_facts.ColumnFacts.insert_line.Goals as goal
+
+-- no column is made
+none_made : (columns : List ColumnPoints) (facts : List Fact) → MakesFirst columns columns facts
+none_made columns facts = record { made = []; others = new_columns (map column_of columns) facts; order = refl; columns = sym (append-nil columns) }
+
+-- the index is still one of the columns when a series is registered
+still_held : (before after : Indexed) (states : List ColumnState) → IsSoundIndex after → after.columns ≡ before.columns → IsSoundContent before states → IsSoundContent after states
+still_held before after states sound same held = record { sound = sound; each = held.each ∙ sym (ap length same) }
+
+-- its columns still have their rollup series
+still_rollups : (rules : List Rule) (old : StoreContent) (before after : Indexed) (states : List ColumnState) (us : List RollupState) → content_of before states us ≡ old → after.columns ≡ before.columns → IsSoundContent before states
+    → AreRollups rules (map column_of old.columns) old.rollups → AreRollups rules after.columns us
+still_rollups rules old before after states us was same held have =
+    subst (λ (cs : List Column). AreRollups rules cs us) (names_held before states held.each ∙ sym same)
+    (subst (λ (h : StoreContent). AreRollups rules (map column_of h.columns) h.rollups) (sym was) have)
+
+-- the state after the call ran out of memory
+grown : (rules : List Rule) (lows : List ℤ) (p : Parts) (key : Series) (old : StoreContent) (before between after : Indexed) (states states' : List ColumnState) (us us' us'' : List RollupState) → key ≡ series_of p → content_of before states us ≡ old
+    → MayGain before.series between.series key → between.columns ≡ before.columns → after.series ≡ between.series → MakesFirst (columns_in between states) (columns_in after states') (line_facts p)
+    → IsSoundContent after states' → us'' ≡ us' → AreRollups rules after.columns us' → GainEmptyCells rules lows [] (cells_of us) (cells_of us')
+    → OfEachRule (GainsCells (line_facts p)) rules lows (cells_of us) (cells_of us') → (cells_of us' ≡ cells_of us) ⊎ AllByRecursion (MayBeTaken least_time) (line_facts p) → GrowsForLine rules lows old (content_of after states' us'') p
+grown rules lows p key old before between after states states' us us' us'' named was gains same series made held is rollups has_cells cells taken =
+    subst (λ (h : StoreContent). GrowsForLine rules lows h (content_of after states' us'') p) was
+    (subst (λ (vs : List RollupState). GrowsForLine rules lows (content_of before states us) (content_of after states' vs) p) (sym is) (record {
+      series = subst (λ (xs : List Series). MayGain before.series xs (series_of p)) (sym series) (subst (MayGain before.series between.series) named gains);
+      columns = subst (λ (cs : List Column). MakesFirst (with_points cs (point_maps states)) (columns_in after states') (line_facts p)) same made;
+      known = known_of after states' us' held;
+      rollups = rollups_held rules after states' us' held.each rollups;
+      has_cells = has_cells;
+      cells = cells;
+      taken = taken;
+    }))
+
+pub commit_points-requires-clause-ready : goal.commit_points-requires-clause-ready
+commit_points-requires-clause-ready g c =
+    let p : Parts = c.args.line.now in
+    let cs : List Column = c.prepare_line.new.index.columns in
+    let ss : List ColumnState = c.prepare_line.new.columns.items in
+    let ns : List ℕ = c.prepare_line.new.touched.items in
+    let staged = c.in_ok-prepare_line.ensures.line.staged in
+    let once : AllDistinct ns = numbers_distinct cs ss ns (line_facts p) staged (line_columns p p.fields (rw c.fields.ensures.value at c.fields.ensures.once)) in
+    rw c.as_slice-2.ensures.value (ready_of cs ss ns (line_facts p) c.prepare_line.ensures.line.held.each staged once)
+
+pub commit_points-requires-clause-fields : goal.commit_points-requires-clause-fields
+commit_points-requires-clause-fields g c =
+    let p : Parts = c.args.line.now in
+    let cs : List Column = c.prepare_line.new.index.columns in
+    let ss : List ColumnState = c.prepare_line.new.columns.items in
+    let ns : List ℕ = c.prepare_line.new.touched.items in
+    ap length c.fields-2.ensures.value ∙ sym (length-map p.fields (fact_of p)) ∙ sym (staged_length cs ss ns (line_facts p) c.in_ok-prepare_line.ensures.line.staged) ∙ sym (ap length c.as_slice-2.ensures.value)
+
+pub commit_points-requires-clause-each : goal.commit_points-requires-clause-each
+commit_points-requires-clause-each g c =
+    let cs : List Column = c.prepare_line.new.index.columns in
+    let ss : List ColumnState = c.prepare_line.new.columns.items in
+    let us : List RollupState = c.prepare_line.new.rollups in
+    let long : length us ≡ c.self.inside.rollups.len = omega (arith, c.prepare_line.auto.rollups, ap length c.as_mut_slice.ensures.value, c.self.inside.rollups.ok.0) in
+    let lent : c.as_mut_slice-2.result.now ≡ us = c.as_mut_slice-2.ensures.value ∙ with_items_is c.self.inside.rollups us long in
+    let still : length c.create_cells.new.rollups ≡ c.self.inside.rollups.len = omega (arith, c.create_cells.auto.rollups, ap length lent, long) in
+    let lent' : c.as_mut_slice-3.result.now ≡ c.create_cells.new.rollups = c.as_mut_slice-3.ensures.value ∙ with_items_is (with_items c.self.inside.rollups us) c.create_cells.new.rollups still in
+    let have : AreRollups c.args.rules.now cs c.create_cells.new.rollups = rollups_stay c.args.rules.now cs us c.create_cells.new.rollups c.prepare_line.ensures.rollups (subst (λ (xs : List RollupState). KeepRollupSeries xs c.create_cells.new.rollups) lent c.create_cells.ensures.series_list) in
+    subst (AllByRecursion (λ (s : RollupState). length s.series_list ≡ length ss)) (sym lent') (wide_of c.args.rules.now cs (length ss) c.create_cells.new.rollups have c.prepare_line.ensures.line.held.each)
+
+pub commit_points-requires-clause-few : goal.commit_points-requires-clause-few
+commit_points-requires-clause-few g c =
+    let p : Parts = c.args.line.now in
+    let cs : List Column = c.prepare_line.new.index.columns in
+    let ss : List ColumnState = c.prepare_line.new.columns.items in
+    let ns : List ℕ = c.prepare_line.new.touched.items in
+    let before : columns_in c.register.new.self c.self.inside.columns.items ≡ c.args.self.now.columns =
+    ap (λ (xs : List Column). with_points xs (point_maps c.self.inside.columns.items)) c.register.ensures.columns ∙ ap (λ (h : StoreContent). h.columns) c.self.view_is in
+    let made : with_points cs (point_maps ss) ≡ with_columns c.args.self.now.columns (new_columns (map column_of c.args.self.now.columns) (line_facts p)) =
+    c.in_ok-prepare_line.ensures.line.all ∙ ap (λ (b : List ColumnPoints). with_columns b (new_columns (map column_of b) (line_facts p))) before in
+    let same : facts_of (with_points cs (point_maps ss)) ≡ facts_of c.args.self.now.columns = ap facts_of made ∙ same_facts c.args.self.now.columns (new_columns (map column_of c.args.self.now.columns) (line_facts p)) in
+    let count = facts-length cs ss c.prepare_line.ensures.line.held.each in
+    let many = ap length same in
+    let wide = staged_length cs ss ns (line_facts p) c.in_ok-prepare_line.ensures.line.staged in
+    let lent = ap length c.as_slice-2.ensures.value in
+    let fit = c.requires.fit in
+    omega (arith, count, many, wide, lent, fit)
+
+pub invariant_of-self-2 : goal.invariant_of-self-2
+invariant_of-self-2 g c = record {
+  sound = c.prepare_line.ensures.line.held.sound;
+  each = ap length c.commit_points.ensures.columns ∙ all_committed-length c.prepare_line.new.columns.items c.as_slice-2.result.now ∙ c.prepare_line.ensures.line.held.each;
+}
+
+pub returns-clause-ok : goal.returns-clause-ok
+returns-clause-ok g c =
+    let p : Parts = c.args.line.now in
+    let rs : List Rule = c.args.rules.now in
+    let lows : List ℤ = c.args.lows.now in
+    let cs : List Column = c.prepare_line.new.index.columns in
+    let ss : List ColumnState = c.prepare_line.new.columns.items in
+    let ns : List ℕ = c.prepare_line.new.touched.items in
+    let old : List ColumnPoints = c.args.self.now.columns in
+    let gains : Gains c.self.inside.index.series c.register.new.self.series (series_of p) = subst (λ (s : Series). Gains c.self.inside.index.series c.register.new.self.series s) c.requires.key c.in-Ok.ensures.registered.gains in
+    let us : List RollupState = c.prepare_line.new.rollups in
+    let vs : List RollupState = c.create_cells.new.rollups in
+    let ws : List RollupState = c.commit_points.new.rollups in
+    let long : length us ≡ c.self.inside.rollups.len = omega (arith, c.prepare_line.auto.rollups, ap length c.as_mut_slice.ensures.value, c.self.inside.rollups.ok.0) in
+    let lent : c.as_mut_slice-2.result.now ≡ us = c.as_mut_slice-2.ensures.value ∙ with_items_is c.self.inside.rollups us long in
+    let still : length vs ≡ c.self.inside.rollups.len = omega (arith, c.create_cells.auto.rollups, ap length lent, long) in
+    let lent' : c.as_mut_slice-3.result.now ≡ vs = c.as_mut_slice-3.ensures.value ∙ with_items_is (with_items c.self.inside.rollups us) vs still in
+    let yet : length ws ≡ c.self.inside.rollups.len = omega (arith, c.commit_points.auto.rollups, ap length lent', still) in
+    let written : (with_items (with_items (with_items c.self.inside.rollups us) vs) ws).items ≡ ws = with_items_is (with_items (with_items c.self.inside.rollups us) vs) ws yet in
+    let staged = c.in_ok-prepare_line.ensures.line.staged in
+    let before : columns_in c.register.new.self c.self.inside.columns.items ≡ old =
+    ap (λ (xs : List Column). with_points xs (point_maps c.self.inside.columns.items)) c.register.ensures.columns ∙ ap (λ (h : StoreContent). h.columns) c.self.view_is in
+    let made : with_points cs (point_maps ss) ≡ with_columns old (new_columns (map column_of old) (line_facts p)) =
+    c.in_ok-prepare_line.ensures.line.all ∙ ap (λ (b : List ColumnPoints). with_columns b (new_columns (map column_of b) (line_facts p))) before in
+    let has_cells : GainEmptyCells rs lows (line_facts p) (cells_of c.args.self.now.rollups) (cells_of vs) = line_rooms rs lows cs ss p c.time.result ns (cells_of c.args.self.now.rollups) us vs c.prepare_line.ensures.rollups staged c.time.ensures
+    (c.prepare_line.ensures.cells ∙ ap cells_of (c.as_mut_slice.ensures.value ∙ ap (λ (h : StoreContent). h.rollups) c.self.view_is))
+    (c.in_ok-create_cells.ensures.ok ∙ (λ i. cells_created_under rs lows c.time.result (c.as_slice.ensures.value i) (lent i))) in
+    let gains' : OfEachRule (GainsCells (line_facts p)) rs lows (cells_of c.args.self.now.rollups) (cells_of vs) = line_gains rs lows cs ss p c.time.result ns (cells_of c.args.self.now.rollups) us vs c.prepare_line.ensures.rollups staged c.time.ensures
+    (c.prepare_line.ensures.cells ∙ ap cells_of (c.as_mut_slice.ensures.value ∙ ap (λ (h : StoreContent). h.rollups) c.self.view_is))
+    (all_gained rs lows c.time.result ns us vs (c.in_ok-create_cells.ensures.ok ∙ (λ i. cells_created_under rs lows c.time.result (c.as_slice.ensures.value i) (lent i)))) in
+    let have : AreRollups rs cs vs = rollups_stay rs cs us vs c.prepare_line.ensures.rollups (subst (λ (xs : List RollupState). KeepRollupSeries xs vs) lent c.create_cells.ensures.series_list) in
+    let live : AreLive (with_points cs (point_maps ss)) rs (cells_of vs) =
+    live_same old (with_points cs (point_maps ss)) (sym (ap facts_of made ∙ same_facts old (new_columns (map column_of old) (line_facts p)))) rs (cells_of vs) (c.requires.live (line_facts p) (cells_of vs) has_cells) in
+    let fields : AreOfFields c.time-2.result c.fields-2.result.now (line_facts p) = subst (λ (xs : List (LinePart × ℤ)). AreOfFields c.time-2.result xs (line_facts p)) (sym c.fields-2.ensures.value) (of_fields p c.time-2.result (sym c.time-2.ensures) p.fields) in
+    let puts : PutsFacts rs (with_points cs (point_maps ss)) (cells_of c.as_mut_slice-3.result.now) (with_points cs (point_maps c.commit_points.new.columns.items)) (cells_of ws) (line_facts p) =
+    c.commit_points.ensures.cells cs (line_facts p) fields c.prepare_line.ensures.line.held.each c.prepare_line.ensures.line.held.sound.columns_once (subst (AreRollups rs cs) (sym lent') have)
+    (subst (λ (ms : List ℕ). AreStaged cs ss ms (line_facts p)) (sym c.as_slice-2.ensures.value) staged) (subst (λ (xs : List RollupState). AreLive (with_points cs (point_maps ss)) rs (cells_of xs)) (sym lent') live) in
+    let series_list : ws ≡ with_frozen_all (cells_of ws) vs = c.commit_points.ensures.series_list ∙ ap (with_frozen_all (cells_of ws)) lent' in
+    let each : length c.commit_points.new.columns.items ≡ length cs = ap length c.commit_points.ensures.columns ∙ all_committed-length ss c.as_slice-2.result.now ∙ c.prepare_line.ensures.line.held.each in
+    let facts : PutsFacts rs (with_columns old (new_columns (map column_of old) (line_facts p))) (cells_of vs) (with_points cs (point_maps c.commit_points.new.columns.items)) (cells_of (with_items (with_items (with_items c.self.inside.rollups us) vs) ws).items) (line_facts p) =
+    subst (λ (xs : List RollupState). PutsFacts rs (with_columns old (new_columns (map column_of old) (line_facts p))) (cells_of vs) (with_points cs (point_maps c.commit_points.new.columns.items)) (cells_of xs) (line_facts p)) (sym written)
+    (subst (λ (b : List ColumnPoints). PutsFacts rs b (cells_of vs) (with_points cs (point_maps c.commit_points.new.columns.items)) (cells_of ws) (line_facts p)) made
+    (subst (λ (xs : List RollupState). PutsFacts rs (with_points cs (point_maps ss)) (cells_of xs) (with_points cs (point_maps c.commit_points.new.columns.items)) (cells_of ws) (line_facts p)) lent' puts)) in
+    record {
+      series = subst (λ (xs : List Series). Gains c.args.self.now.series xs (series_of p)) (sym c.prepare_line.ensures.line.series)
+          (subst (λ (xs : List Series). Gains xs c.register.new.self.series (series_of p)) (ap (λ (h : StoreContent). h.series) c.self.view_is) gains);
+      cells_between = cells_of vs;
+      facts = facts;
+      taken = c.in_ok-prepare_line.ensures.line.taken;
+      known = known_of c.prepare_line.new.index c.commit_points.new.columns.items _ (record { sound = c.prepare_line.ensures.line.held.sound; each = each });
+      rollups = subst (λ (xs : List RollupState). AreRollups rs (map column_of (columns_in c.prepare_line.new.index c.commit_points.new.columns.items)) xs) (sym written)
+          (rollups_held rs c.prepare_line.new.index c.commit_points.new.columns.items ws each (subst (AreRollups rs cs) (sym series_list) (rollups_with rs cs (cells_of ws) vs have)));
+      has_cells = has_cells;
+      cells = line_cells rs lows (line_facts p) (with_columns old (new_columns (map column_of old) (line_facts p))) (columns_in c.prepare_line.new.index c.commit_points.new.columns.items) (cells_of c.args.self.now.rollups) (cells_of vs)
+          _ gains' has_cells facts;
+    }
+
+pub create_cells-requires-clause-inside : goal.create_cells-requires-clause-inside
+create_cells-requires-clause-inside g c =
+    let cs : List Column = c.prepare_line.new.index.columns in
+    let ns : List ℕ = c.prepare_line.new.touched.items in
+    let long : length c.prepare_line.new.rollups ≡ c.self.inside.rollups.len = omega (arith, c.prepare_line.auto.rollups, ap length c.as_mut_slice.ensures.value, c.self.inside.rollups.ok.0) in
+    let written : (with_items c.self.inside.rollups c.prepare_line.new.rollups).items ≡ c.prepare_line.new.rollups = with_items_is c.self.inside.rollups c.prepare_line.new.rollups long in
+    let lent : c.as_mut_slice-2.result.now ≡ c.prepare_line.new.rollups = c.as_mut_slice-2.ensures.value ∙ written in
+    let inside = numbers_inside c.args.rules.now cs c.prepare_line.new.rollups ns c.prepare_line.ensures.rollups
+    (staged_inside cs c.prepare_line.new.columns.items ns (line_facts c.args.line.now) c.in_ok-prepare_line.ensures.line.staged) in
+    subst (λ (us : List RollupState). AllByRecursion (λ (s : RollupState). AllByRecursion (λ n. n < length s.series_list) c.as_slice.result.now) us) (sym lent)
+    (subst (λ (ks : List ℕ). AllByRecursion (λ (s : RollupState). AllByRecursion (λ n. n < length s.series_list) ks) c.prepare_line.new.rollups) (sym c.as_slice.ensures.value) inside)
+
+pub prepare_line-requires-clause-rollups : goal.prepare_line-requires-clause-rollups
+prepare_line-requires-clause-rollups g c =
+    subst (λ (us : List RollupState). AreRollups c.args.rules.now c.register.new.self.columns us) (sym c.as_mut_slice.ensures.value)
+    (still_rollups c.args.rules.now c.args.self.now c.self.inside.index c.register.new.self c.self.inside.columns.items c.self.inside.rollups.items c.self.view_is c.register.ensures.columns c.self.invariant c.requires.rollups)
+
+pub prepare_line-requires-clause-held : goal.prepare_line-requires-clause-held
+prepare_line-requires-clause-held g c = still_held c.self.inside.index c.register.new.self c.self.inside.columns.items c.register.ensures.sound c.register.ensures.columns c.self.invariant
+
+pub returns-in-Err-clause-err : goal.returns-in-Err-clause-err
+returns-in-Err-clause-err g c =
+    let before : Indexed = c.self.inside.index in
+    let after : Indexed = c.register.new.self in
+    let states : List ColumnState = c.self.inside.columns.items in
+    let us : List RollupState = c.self.inside.rollups.items in
+    grown c.args.rules.now c.args.lows.now c.args.line.now c.args.key.now c.args.self.now before after after states states us us us c.requires.key c.self.view_is (inl c.in-Err.ensures.registered.kept) c.register.ensures.columns refl
+    (none_made (columns_in after states) (line_facts c.args.line.now)) (still_held before after states c.register.ensures.sound c.register.ensures.columns c.self.invariant) refl
+    (still_rollups c.args.rules.now c.args.self.now before after states us c.self.view_is c.register.ensures.columns c.self.invariant c.requires.rollups) (rooms_same c.args.rules.now c.args.lows.now (cells_of us))
+    (gain_nothing (line_facts c.args.line.now) c.args.rules.now c.args.lows.now (cells_of us)) (inl refl)
+
+pub returns-in_err-reserve-clause-err : goal.returns-in_err-reserve-clause-err
+returns-in_err-reserve-clause-err g c =
+    let before : Indexed = c.self.inside.index in
+    let after : Indexed = c.register.new.self in
+    let states : List ColumnState = c.self.inside.columns.items in
+    let us : List RollupState = c.self.inside.rollups.items in
+    on_any_err c.from_residual.result
+    (grown c.args.rules.now c.args.lows.now c.args.line.now c.args.key.now c.args.self.now before after after states states us us us c.requires.key c.self.view_is (inr c.in-Ok.ensures.registered.gains) c.register.ensures.columns refl
+    (none_made (columns_in after states) (line_facts c.args.line.now)) (still_held before after states c.register.ensures.sound c.register.ensures.columns c.self.invariant) refl
+    (still_rollups c.args.rules.now c.args.self.now before after states us c.self.view_is c.register.ensures.columns c.self.invariant c.requires.rollups) (rooms_same c.args.rules.now c.args.lows.now (cells_of us))
+    (gain_nothing (line_facts c.args.line.now) c.args.rules.now c.args.lows.now (cells_of us)) (inl refl))
+
+pub returns-in_err-prepare_line-clause-err : goal.returns-in_err-prepare_line-clause-err
+returns-in_err-prepare_line-clause-err g c =
+    let us : List RollupState = c.prepare_line.new.rollups in
+    let long : length us ≡ c.self.inside.rollups.len = omega (arith, c.prepare_line.auto.rollups, ap length c.as_mut_slice.ensures.value, c.self.inside.rollups.ok.0) in
+    on_any_err c.from_residual-in_err-prepare_line.result
+    (grown c.args.rules.now c.args.lows.now c.args.line.now c.args.key.now c.args.self.now c.self.inside.index c.register.new.self c.prepare_line.new.index c.self.inside.columns.items c.prepare_line.new.columns.items c.self.inside.rollups.items us
+    (with_items c.self.inside.rollups us).items c.requires.key c.self.view_is (inr c.in-Ok.ensures.registered.gains) c.register.ensures.columns c.prepare_line.ensures.line.series c.prepare_line.ensures.line.made
+    c.prepare_line.ensures.line.held (with_items_is c.self.inside.rollups us long) c.prepare_line.ensures.rollups
+    (subst (λ (ms : List CellMap). GainEmptyCells c.args.rules.now c.args.lows.now [] ms (cells_of us)) (c.prepare_line.ensures.cells ∙ ap cells_of c.as_mut_slice.ensures.value) (rooms_same c.args.rules.now c.args.lows.now (cells_of us)))
+    (subst (λ (ms : List CellMap). OfEachRule (GainsCells (line_facts c.args.line.now)) c.args.rules.now c.args.lows.now ms (cells_of us)) (c.prepare_line.ensures.cells ∙ ap cells_of c.as_mut_slice.ensures.value)
+    (gain_nothing (line_facts c.args.line.now) c.args.rules.now c.args.lows.now (cells_of us))) (inl (c.prepare_line.ensures.cells ∙ ap cells_of c.as_mut_slice.ensures.value)))
+
+pub returns-in_err-create_cells-clause-err : goal.returns-in_err-create_cells-clause-err
+returns-in_err-create_cells-clause-err g c =
+    let us : List RollupState = c.create_cells.new.rollups in
+    let long : length c.prepare_line.new.rollups ≡ c.self.inside.rollups.len = omega (arith, c.prepare_line.auto.rollups, ap length c.as_mut_slice.ensures.value, c.self.inside.rollups.ok.0) in
+    let lent : c.as_mut_slice-2.result.now ≡ c.prepare_line.new.rollups = c.as_mut_slice-2.ensures.value ∙ with_items_is c.self.inside.rollups c.prepare_line.new.rollups long in
+    let still : length us ≡ c.self.inside.rollups.len = omega (arith, c.create_cells.auto.rollups, ap length lent, long) in
+    let ns : List ℕ = c.prepare_line.new.touched.items in
+    let part : AreCreatedInPart c.args.rules.now c.args.lows.now c.time.result ns c.prepare_line.new.rollups us =
+    subst (λ (vs : List RollupState). AreCreatedInPart c.args.rules.now c.args.lows.now c.time.result ns vs us) lent
+    (subst (λ (ks : List ℕ). AreCreatedInPart c.args.rules.now c.args.lows.now c.time.result ks c.as_mut_slice-2.result.now us) c.as_slice.ensures.value c.in_err-create_cells.ensures.err) in
+    let before : cells_of c.prepare_line.new.rollups ≡ cells_of c.self.inside.rollups.items = c.prepare_line.ensures.cells ∙ ap cells_of c.as_mut_slice.ensures.value in
+    on_any_err c.from_residual-in_err-create_cells.result
+    (grown c.args.rules.now c.args.lows.now c.args.line.now c.args.key.now c.args.self.now c.self.inside.index c.register.new.self c.prepare_line.new.index c.self.inside.columns.items c.prepare_line.new.columns.items c.self.inside.rollups.items us
+    (with_items (with_items c.self.inside.rollups c.prepare_line.new.rollups) us).items c.requires.key c.self.view_is (inr c.in-Ok.ensures.registered.gains) c.register.ensures.columns c.prepare_line.ensures.line.series c.prepare_line.ensures.line.made
+    c.prepare_line.ensures.line.held (with_items_is (with_items c.self.inside.rollups c.prepare_line.new.rollups) us still)
+    (rollups_stay c.args.rules.now c.prepare_line.new.index.columns c.prepare_line.new.rollups us c.prepare_line.ensures.rollups (subst (λ (xs : List RollupState). KeepRollupSeries xs us) lent c.create_cells.ensures.series_list))
+    (subst (λ (ms : List CellMap). GainEmptyCells c.args.rules.now c.args.lows.now [] ms (cells_of us)) before (part_rooms c.args.rules.now c.args.lows.now c.time.result ns c.prepare_line.new.rollups us part))
+    (line_gains c.args.rules.now c.args.lows.now c.prepare_line.new.index.columns c.prepare_line.new.columns.items c.args.line.now c.time.result ns (cells_of c.self.inside.rollups.items) c.prepare_line.new.rollups us c.prepare_line.ensures.rollups
+    c.in_ok-prepare_line.ensures.line.staged c.time.ensures before part) (inr c.in_ok-prepare_line.ensures.line.taken))

@@ -1,0 +1,48 @@
+use Rattle.std.proofs.Common.{rules, ◌≡◌, ◌∙◌, List, length, get_or, set, ap, sym, subst, arith, SFits, w64, to_z, of_z, to_z-of_z}
+use Rattle.std.specs.List.{AllByRecursion}
+use Rattle.std.proofs.lemmas.List.{length-set}
+use Rattle.ts_core.specs.store.StoreStates.{facts_of}
+use Rattle.ts_core.specs.moves.StoreMoves.{put_cells}
+use Rattle.ts_raw.specs.Columns.{ColumnState}
+use Rattle.ts_store.specs.store.ColumnStates.{no_column, committed, with_points, point_maps}
+use Rattle.ts_store.specs.write.LivePuts.{IsLivePut}
+use Rattle.ts_store.specs.read.PointsRead.{number_of_points}
+use Rattle.ts_store.specs.rollup.Rollups.{RollupState, cells_of}
+use Rattle.ts_store.proofs.write.PointsPut.{ready_staged, point_found, now_committed, committed-more, is_put}
+use Rattle.ts_store.proofs.write.committing.commit_rolled.Goals as goal
+
+pub commit-requires : goal.commit-requires
+commit-requires g c = ready_staged c.args.columns.now.items c.args.column c.number-2.result c.index_mut.result.now c.requires.ready c.number-2.ensures c.index_mut.ensures.value
+
+pub update_cells-requires-clause-each : goal.update_cells-requires-clause-each
+update_cells-requires-clause-each g c =
+    let long : length c.as_slice.result.now ≡ length c.args.columns.now.items = ap length c.as_slice.ensures.value ∙ length-set c.args.columns.now.items c.number-2.result c.commit.new.self in
+    subst (λ n. AllByRecursion (λ (s : RollupState). length s.series_list ≡ n) c.args.rollups.now) (sym long) c.requires.each
+
+pub update_cells-requires-clause-few : goal.update_cells-requires-clause-few
+update_cells-requires-clause-few g c =
+    let ss : List ColumnState = c.args.columns.now.items in
+    let is : c.as_slice.result.now ≡ set ss c.args.column (committed (get_or ss c.args.column no_column)) =
+    c.as_slice.ensures.value ∙ now_committed ss c.args.column c.number-2.result c.index_mut.result.now c.requires.ready c.number-2.ensures c.index_mut.ensures.value c.commit.new.self c.commit.ensures.put c.commit.ensures.none_staged in
+    let more = committed-more ss c.args.column in
+    let same = ap number_of_points is in
+    let few = c.requires.few in
+    omega (arith, more, same, few)
+
+pub returns-clause-columns : goal.returns-clause-columns
+returns-clause-columns g c =
+    now_committed c.args.columns.now.items c.args.column c.number-2.result c.index_mut.result.now c.requires.ready c.number-2.ensures c.index_mut.ensures.value c.commit.new.self c.commit.ensures.put c.commit.ensures.none_staged
+
+pub returns-clause-cells : goal.returns-clause-cells
+returns-clause-cells g c = λ cs f time value each once a staged live.
+    let ss : List ColumnState = c.args.columns.now.items in
+    let is : c.as_slice.result.now ≡ set ss c.args.column (committed (get_or ss c.args.column no_column)) =
+    c.as_slice.ensures.value ∙ now_committed ss c.args.column c.number-2.result c.index_mut.result.now c.requires.ready c.number-2.ensures c.index_mut.ensures.value c.commit.new.self c.commit.ensures.put c.commit.ensures.none_staged in
+    let long : length c.as_slice.result.now ≡ length cs = ap length c.as_slice.ensures.value ∙ length-set ss c.number-2.result c.commit.new.self ∙ each in
+    let fits : SFits w64 c.args.value = search rules in
+    let value' : f.value ≡ to_z w64 (of_z w64 c.args.value) = value ∙ sym (to_z-of_z fits) in
+    let was = point_found ss c.args.column c.number.result c.index.result.now c.requires.ready c.number.ensures c.index.ensures c.value_at-old.result c.args.time f.time (sym time) c.value_at-old.ensures in
+    let put : IsLivePut cs c.as_slice.result.now (with_points cs (point_maps ss)) c.args.column f c.value_at-old.result =
+    subst (λ (xs : List ColumnState). IsLivePut cs xs (with_points cs (point_maps ss)) c.args.column f c.value_at-old.result) (sym is) (is_put cs ss c.args.column f once each staged c.value_at-old.result c.requires.few was) in
+    c.update_cells.ensures.cells cs (with_points cs (point_maps ss)) f time value' long once a put live
+    ∙ ap (λ (xs : List ColumnState). put_cells c.args.rules.now f (facts_of (with_points cs (point_maps xs))) (cells_of c.args.rollups.now)) c.as_slice.ensures.value

@@ -1,0 +1,165 @@
+//! Commits the staged points of a line to their columns, and adds them to the cells of rules.
+ghost use Rattle.std.specs.Prelude.{◌≡◌, ◌+◌, ◌<◌, ◌≤◌, ◌^◌, pos, ◌≤ℤ◌, List, [], ◌∷◌, length, get_or, set};
+ghost use Rattle.std.specs.Bool.{OnFalse};
+ghost use Rattle.std.specs.List.{AllByRecursion};
+ghost use Rattle.ts_core.specs.facts.Facts.{Column, Fact};
+ghost use Rattle.ts_core.specs.lists.Members.{AllDistinct};
+ghost use Rattle.ts_core.specs.store.StoreData.{IsLive, AreLive};
+ghost use Rattle.ts_core.specs.moves.StoreMoves.{put_cell, put_cells, PutsFacts};
+ghost use Rattle.ts_core.specs.store.StoreStates.{ColumnPoints, facts_of};
+ghost use Rattle.ts_store.specs.store.ColumnStates.{no_column, with_points, point_maps, committed, all_committed, AreReady, AreStaged};
+ghost use Rattle.ts_store.specs.write.LivePuts.{IsOver, IsLivePut, AreOfFields};
+ghost use Rattle.ts_store.specs.read.PointsRead.{number_of_points};
+ghost use Rattle.ts_store.specs.rollup.Rollups.{AreRollups, rollup_series_at, with_frozen, cells_of};
+ghost use Rattle.ts_store.specs.retain.RollupSteps.{with_frozen_all};
+
+use crate::rollup::Rollup;
+use crate::rollup::live_parts::rollup_series_total;
+use crate::store::column_facts::StoredColumn;
+use std::alloc::Allocator;
+use ts_core::{Agg, Partial, Remainder, Rule, Time, index_of};
+use ts_line::Field;
+use ts_raw::{Column as _, ColumnId};
+
+/// Returns true if one of the rules rolls a column up.
+fn is_rolled<A: Allocator + Copy>(rollups: &[Rollup<A>], column: usize) -> bool
+    requires { AllByRecursion (λ s. column < length s.series_list) rollups.now }
+    ensures { OnFalse result (AllByRecursion (λ s. rollup_series_at s column ≡ None) rollups.now) }
+{
+    match rollups.split_first() {
+        Some((rollup, rollups)) => rollup.rolls(column) || is_rolled(rollups, column),
+        None => false,
+    }
+}
+
+/// Adds a fact, which is in its column already, to the cell of its bucket. Does nothing if the rule doesn't roll the
+/// column up, or if the cell doesn't exist. `old` is the value that the fact replaced.
+fn update_cell<A: Allocator + Copy>(
+    rule: &Rule<A>,
+    rollup: &mut Rollup<A>,
+    columns: &[StoredColumn<A>],
+    column: ColumnId,
+    time: Time,
+    value: i64,
+    old: Option<i64>,
+)
+    requires interval { pos 1 ≤ℤ rule.now.interval }
+    requires column { column < length columns.now }
+    requires each { length rollup.old.series_list ≡ length columns.now }
+    requires few { number_of_points columns.now ≤ 2 ^ 62 }
+    ensures series_list { rollup.new ≡ with_frozen rollup.new.grid.cells rollup.old }
+    ensures cells { (cs : List Column) (before : List ColumnPoints) (f : Fact) → f.time ≡ time → f.value ≡ value → IsOver rule.now cs columns.now rollup.old → IsLivePut cs columns.now before column f old → IsLive before rule.now rollup.old.grid.cells → rollup.new.grid.cells ≡ put_cell rule.now f (facts_of (with_points cs (point_maps columns.now))) rollup.old.grid.cells }
+{
+    let Some(series) = rollup.rollup_series_of(column.number()) else {
+        return;
+    };
+    let index = index_of(rule, i128::from(time.nanos()));
+    let Some(old) = old else {
+        rollup.add(&index, series, Agg::single(time, value));
+        return;
+    };
+    let Some(live) = rollup.live(&index, series) else {
+        return;
+    };
+    let live = match live.without(Agg::single(time, old)) {
+        Some(rest) => Agg::single(time, value).merge(rest),
+        None => rollup_series_total(rule, rollup, columns, series, &index),
+    };
+    rollup.correct(&index, series, live);
+}
+
+/// Does the same under each rule.
+fn update_cells<A: Allocator + Copy>(
+    rules: &[Rule<A>],
+    rollups: &mut [Rollup<A>],
+    columns: &[StoredColumn<A>],
+    column: ColumnId,
+    time: Time,
+    value: i64,
+    old: Option<i64>,
+)
+    requires intervals { AllByRecursion (λ r. pos 1 ≤ℤ r.interval) rules.now }
+    requires column { column < length columns.now }
+    requires each { AllByRecursion (λ s. length s.series_list ≡ length columns.now) rollups.old }
+    requires few { number_of_points columns.now ≤ 2 ^ 62 }
+    ensures series_list { rollups.new ≡ with_frozen_all (cells_of rollups.new) rollups.old }
+    ensures cells { (cs : List Column) (before : List ColumnPoints) (f : Fact) → f.time ≡ time → f.value ≡ value → length columns.now ≡ length cs → AllDistinct cs → AreRollups rules.now cs rollups.old → IsLivePut cs columns.now before column f old → AreLive before rules.now (cells_of rollups.old) → cells_of rollups.new ≡ put_cells rules.now f (facts_of (with_points cs (point_maps columns.now))) (cells_of rollups.old) }
+{
+    if let Some((rule, rules)) = rules.split_first() {
+        if let Some((rollup, rollups)) = rollups.split_first_mut() {
+            update_cell(rule, rollup, columns, column, time, value, old);
+            update_cells(rules, rollups, columns, column, time, value, old);
+        }
+    }
+}
+
+/// Commits the staged point of a column, which has this time and value, and corrects the cells of the rules.
+fn commit_rolled<A: Allocator + Copy>(
+    columns: &mut Vec<StoredColumn<A>, A>,
+    rules: &[Rule<A>],
+    rollups: &mut [Rollup<A>],
+    column: ColumnId,
+    time: Time,
+    value: i64,
+)
+    requires intervals { AllByRecursion (λ r. pos 1 ≤ℤ r.interval) rules.now }
+    requires ready { AreReady columns.old.items (column ∷ []) }
+    requires each { AllByRecursion (λ s. length s.series_list ≡ length columns.old.items) rollups.old }
+    requires few { number_of_points columns.old.items + 1 ≤ 2 ^ 62 }
+    ensures columns { columns.new.items ≡ set columns.old.items column (committed (get_or columns.old.items column no_column)) }
+    ensures series_list { rollups.new ≡ with_frozen_all (cells_of rollups.new) rollups.old }
+    ensures cells { (cs : List Column) (f : Fact) → f.time ≡ time → f.value ≡ value → length columns.old.items ≡ length cs → AllDistinct cs → AreRollups rules.now cs rollups.old → AreStaged cs columns.old.items (column ∷ []) (f ∷ []) → AreLive (with_points cs (point_maps columns.old.items)) rules.now (cells_of rollups.old) → cells_of rollups.new ≡ put_cells rules.now f (facts_of (with_points cs (point_maps columns.new.items))) (cells_of rollups.old) }
+{
+    let old = columns[column.number()].value_at(time);
+    columns[column.number()].commit();
+    update_cells(rules, rollups, columns.as_slice(), column, time, value, old);
+}
+
+/// Commits the staged point of a column, which has this time and value. Searches for the value that it replaces only if
+/// a rule rolls the column up.
+fn commit_point<A: Allocator + Copy>(
+    columns: &mut Vec<StoredColumn<A>, A>,
+    rules: &[Rule<A>],
+    rollups: &mut [Rollup<A>],
+    column: ColumnId,
+    time: Time,
+    value: i64,
+)
+    requires intervals { AllByRecursion (λ r. pos 1 ≤ℤ r.interval) rules.now }
+    requires ready { AreReady columns.old.items (column ∷ []) }
+    requires each { AllByRecursion (λ s. length s.series_list ≡ length columns.old.items) rollups.old }
+    requires few { number_of_points columns.old.items + 1 ≤ 2 ^ 62 }
+    ensures columns { columns.new.items ≡ set columns.old.items column (committed (get_or columns.old.items column no_column)) }
+    ensures series_list { rollups.new ≡ with_frozen_all (cells_of rollups.new) rollups.old }
+    ensures cells { (cs : List Column) (f : Fact) → f.time ≡ time → f.value ≡ value → length columns.old.items ≡ length cs → AllDistinct cs → AreRollups rules.now cs rollups.old → AreStaged cs columns.old.items (column ∷ []) (f ∷ []) → AreLive (with_points cs (point_maps columns.old.items)) rules.now (cells_of rollups.old) → cells_of rollups.new ≡ put_cells rules.now f (facts_of (with_points cs (point_maps columns.new.items))) (cells_of rollups.old) }
+{
+    if is_rolled(rollups, column.number()) {
+        commit_rolled(columns, rules, rollups, column, time, value);
+    } else {
+        columns[column.number()].commit();
+    }
+}
+
+/// Commits the staged points of the columns with these ids: points of this time with the values of fields. Does not
+/// allocate.
+pub(crate) fn commit_points<A: Allocator + Copy, L: Allocator>(
+    columns: &mut Vec<StoredColumn<A>, A>,
+    rules: &[Rule<A>],
+    rollups: &mut [Rollup<A>],
+    numbers: &[ColumnId],
+    fields: &[Field<'_, L>],
+    time: Time,
+)
+    requires intervals { AllByRecursion (λ r. pos 1 ≤ℤ r.interval) rules.now }
+    requires ready { AreReady columns.old.items numbers.now }
+    requires fields { length fields.now ≡ length numbers.now }
+    requires each { AllByRecursion (λ s. length s.series_list ≡ length columns.old.items) rollups.old }
+    requires few { number_of_points columns.old.items + length numbers.now ≤ 2 ^ 62 }
+    ensures columns { columns.new.items ≡ all_committed columns.old.items numbers.now }
+    ensures series_list { rollups.new ≡ with_frozen_all (cells_of rollups.new) rollups.old }
+    ensures cells { (cs : List Column) (fs : List Fact) → AreOfFields time fields.now fs → length columns.old.items ≡ length cs → AllDistinct cs → AreRollups rules.now cs rollups.old → AreStaged cs columns.old.items numbers.now fs → AreLive (with_points cs (point_maps columns.old.items)) rules.now (cells_of rollups.old) → PutsFacts rules.now (with_points cs (point_maps columns.old.items)) (cells_of rollups.old) (with_points cs (point_maps columns.new.items)) (cells_of rollups.new) fs }
+{
+    for (number, field) in numbers.iter().zip(fields) {
+        commit_point(columns, rules, rollups, *number, time, field.value());
+    }
+}
