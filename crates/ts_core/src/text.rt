@@ -10,4 +10,4 @@ pub use cursor::{after, byte_at};
 pub use decimal::{after_minus, are_digits, is_number, whole};
 pub use fault_code::FaultCode;
 pub use fault_text::{FaultDetail, push_all};
-pub use texts::is_among;
+pub use strings::is_among;

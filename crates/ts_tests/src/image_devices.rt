@@ -71,7 +71,7 @@ fn a_load_ends_within_its_reads(rt: HostRuntime) -> Result<(), Fail> {
     let image = worked_image(rt.alloc())?;
     for reads in 0..538 {
         let fault = fault_within(rt.alloc(), &image, reads);
-        assert!(rt; matches!(fault, Some(LoadFault::TooManyReads)), "{turns}");
+        assert!(rt; matches!(fault, Some(LoadFault::TooManyReads)), "{reads}");
     }
     assert!(rt; fault_within(rt.alloc(), &image, 538).is_none());
     let none = fault_within(rt.alloc(), b"TSIN", 3);

@@ -172,7 +172,7 @@ fn a_script_ends_within_its_reads(rt: HostRuntime) -> Result<(), Fail> {
     let alloc = rt.alloc();
     let script = script(alloc)?;
     for reads in 0..=script.len() {
-        assert!(rt; runs_out_of_reads(alloc, &script, reads)?, "{turns}");
+        assert!(rt; runs_out_of_reads(alloc, &script, reads)?, "{reads}");
     }
     let reader = PieceReader::new(&script, 1, NEVER);
     let reads = (script.len() as u64).saturating_add(1);

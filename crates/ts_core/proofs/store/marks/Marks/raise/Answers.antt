@@ -21,6 +21,6 @@ returns g c =
     let cast : to_z w128 (of_z w128 c.kept_since.result) ≡ c.kept_since.result = to_z-of_z fits in
     let viewed : marks c.self.inside.raw c.self.inside.lows.items ≡ c.args.self.now = c.self.view_is in
     let since = cast ∙ (c.kept_since.ensures.value ∙ ap (λ (d : ℕ). kept_since d now) c.raw_duration.ensures.value) in
-    let raw = c.later-self-inside.ensures ∙ ap₂ int_max (ap (λ (m : Marks). m.raw) viewed) since in
+    let raw = c.max_mark-self-inside.ensures ∙ ap₂ int_max (ap (λ (m : Marks). m.raw) viewed) since in
     let lows = c.raise_lows.ensures ∙ ap₂ (raised now) c.rules.ensures.value (c.as_mut_slice.ensures.value ∙ ap (λ (m : Marks). m.lows) viewed) in
     ap₂ marks raw (written ∙ lows)
