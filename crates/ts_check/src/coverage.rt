@@ -39,7 +39,7 @@ pub fn is_aligned<A: Allocator>(rule: &Rule<A>, query: &Query<A>) -> bool
 }
 
 /// Returns true if the range from `from`, inclusive, to `to`, exclusive, is within one bucket of the query.
-fn is_in_one_bucket<A: Allocator>(query: &Query<A>, from: i64, to: i64) -> bool
+pub fn is_in_one_bucket<A: Allocator>(query: &Query<A>, from: i64, to: i64) -> bool
     ensures { result ≡ is_in_one_bucket query.now.query from to }
 {
     let buckets = query.buckets();

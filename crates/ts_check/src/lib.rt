@@ -30,7 +30,7 @@ mod write;
 pub use certificate::{Certificate, Piece, PieceSource};
 pub use certificate_fault::{CertificateFault, ReadCertificateError};
 pub use checked::{Checked, check};
-pub use coverage::{is_aligned, keeps_tags};
+pub use coverage::{is_aligned, is_in_one_bucket, keeps_tags};
 pub use fault::{CheckError, CheckFault};
 pub use query_context::{MarkedRule, QueryContext};
 pub use read::read_certificate;

@@ -11,5 +11,5 @@ pub use aggregate::{Agg, Extremes, MAX_COUNT};
 pub use bucket::{Bucket, Buckets, first_index, index_of};
 pub use fold::{aggregate_points, fold_points};
 pub use means::{Frac, mean};
-pub use partial::Partial;
+pub use partial::{Partial, merge_within};
 pub use remainder::Remainder;

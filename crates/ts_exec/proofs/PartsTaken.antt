@@ -1,5 +1,5 @@
 -- Answers whose raw points keep the parts that the query's functions need: they have the functions' values.
-use Rattle.std.proofs.Common.{◌≡◌, ℕ, zero, suc, ℤ, pos, ◌+ℤ◌, ◌*ℤ◌, true, false, cond, not, List, [], ◌∷◌, map, filter, replicate, Option, Some, None, option_map, refl, sym, ◌∙◌, ap, ap₂, subst, true≢false, nat_le, ◌+◌, ◌^◌}
+use Rattle.std.proofs.Common.{◌≡◌, ℕ, zero, suc, ℤ, pos, ◌+ℤ◌, ◌*ℤ◌, true, false, cond, not, List, [], ◌∷◌, map, filter, replicate, Option, Some, None, option_map, refl, sym, ◌∙◌, ap, ap₂, subst, true≢false, nat_lt, ◌+◌, ◌^◌}
 use Rattle.std.proofs.lemmas.Bool.{and_parts}
 use Rattle.std.proofs.lemmas.List.{length-map}
 use Rattle.std.specs.List.{list_all, AllByRecursion}
@@ -14,7 +14,7 @@ use Rattle.ts_core.specs.declared.queries.value.Value.{Value}
 use Rattle.ts_core.specs.declared.queries.value.Value.TheVariants.{Number}
 use Rattle.ts_core.specs.declared.aggregates.aggregate.Extremes.{Extremes}
 use Rattle.ts_core.specs.facts.Facts.{Text, is_of}
-use Rattle.ts_core.specs.aggregates.Aggregates.{Aggregate, empty_aggregate, aggregate_of_one, merged}
+use Rattle.ts_core.specs.aggregates.Aggregates.{Aggregate, empty_aggregate, aggregate_of_one, merged, merged_within}
 use Rattle.ts_core.specs.facts.Tags.{tag_values}
 use Rattle.ts_core.specs.settings.Settings.{Rule}
 use Rattle.ts_core.specs.store.Marks.{index_of}
@@ -29,7 +29,7 @@ use Rattle.ts_store.specs.read.ViewResults.{ColumnRef, column_refs_where, points
 use Rattle.ts_exec.specs.declared.aggregate_parts.AggregateParts.{AggregateParts}
 use Rattle.ts_exec.specs.declared.aggregate_parts.AggregateParts.TheVariants.{CountAlone, CountAndSum, Bounds, Whole}
 use Rattle.ts_exec.specs.Answered.{HasRows}
-use Rattle.ts_exec.specs.RowParts.{BucketGrid, bucket_grid, added, row_index_at, with_part, bounds_of, part_of, part_of_point, with_point_parts}
+use Rattle.ts_exec.specs.RowParts.{BucketGrid, bucket_grid, row_index_at, with_part, bounds_of, part_of, part_of_point, with_point_parts}
 use Rattle.ts_exec.specs.GroupTables.{Table, rows_or, rows_for, width, with_cell_part, with_column_parts, with_column_ref, with_column_refs, is_cell_taken, with_rule_cell, with_cell_parts, with_rule_cells, with_source, with_pieces, rows_from, group_with, given}
 use Rattle.ts_exec.specs.Selections.{suffice, HaveSameValues}
 use Rattle.ts_exec.proofs.Given.{given-rows}
@@ -49,15 +49,15 @@ bounds_merged m n s t None e = refl
 bounds_merged m n s t (Some d) None = refl
 bounds_merged m n s t (Some d) (Some e) = refl
 
-kept_added : (parts : AggregateParts) (x a : Aggregate) → kept_part parts (added x a) ≡ added (kept_part parts x) (kept_part parts a)
-kept_added CountAlone x a = elim (nat_le (x.count + a.count) (2 ^ 62)) as (λ b. kept_part CountAlone (cond b (merged x a) x) ≡ cond b (merged (kept_part CountAlone x) (kept_part CountAlone a)) (kept_part CountAlone x)) [ true ↦ refl | false ↦ refl ]
-kept_added CountAndSum x a = elim (nat_le (x.count + a.count) (2 ^ 62)) as (λ b. kept_part CountAndSum (cond b (merged x a) x) ≡ cond b (merged (kept_part CountAndSum x) (kept_part CountAndSum a)) (kept_part CountAndSum x)) [ true ↦ refl | false ↦ refl ]
-kept_added Bounds x a =
-    elim (nat_le (x.count + a.count) (2 ^ 62)) as (λ b. kept_part Bounds (cond b (merged x a) x) ≡ cond b (merged (kept_part Bounds x) (kept_part Bounds a)) (kept_part Bounds x)) [
-      | true ↦ bounds_merged x.count a.count x.sum a.sum x.extremes a.extremes
-      | false ↦ refl
+kept_merged : (parts : AggregateParts) (x a : Aggregate) → kept_part parts (merged_within a x) ≡ merged_within (kept_part parts a) (kept_part parts x)
+kept_merged CountAlone x a = elim (nat_lt (2 ^ 62) (x.count + a.count)) as (λ b. kept_part CountAlone (cond b x (merged x a)) ≡ cond b (kept_part CountAlone x) (merged (kept_part CountAlone x) (kept_part CountAlone a))) [ true ↦ refl | false ↦ refl ]
+kept_merged CountAndSum x a = elim (nat_lt (2 ^ 62) (x.count + a.count)) as (λ b. kept_part CountAndSum (cond b x (merged x a)) ≡ cond b (kept_part CountAndSum x) (merged (kept_part CountAndSum x) (kept_part CountAndSum a))) [ true ↦ refl | false ↦ refl ]
+kept_merged Bounds x a =
+    elim (nat_lt (2 ^ 62) (x.count + a.count)) as (λ b. kept_part Bounds (cond b x (merged x a)) ≡ cond b (kept_part Bounds x) (merged (kept_part Bounds x) (kept_part Bounds a))) [
+      | true ↦ refl
+      | false ↦ bounds_merged x.count a.count x.sum a.sum x.extremes a.extremes
     ]
-kept_added Whole x a = refl
+kept_merged Whole x a = refl
 
 kept_point : (parts : AggregateParts) (t v : ℤ) → kept_part parts (aggregate_of_one t v) ≡ kept_part parts (part_of_point parts t v)
 kept_point CountAlone t v = refl
@@ -114,7 +114,7 @@ module _ (parts : AggregateParts) where
 
   kept_with_part : (i : ℕ) (a : Aggregate) (rows : List Aggregate) → kept_rows (with_part i a rows) ≡ with_part i (kept_part parts a) (kept_rows rows)
   kept_with_part i a [] = refl
-  kept_with_part zero a (x ∷ rows) = ap (λ (y : Aggregate). y ∷ kept_rows rows) (kept_added parts x a)
+  kept_with_part zero a (x ∷ rows) = ap (λ (y : Aggregate). y ∷ kept_rows rows) (kept_merged parts x a)
   kept_with_part (suc i) a (x ∷ rows) = ap (λ (ys : List Aggregate). kept_part parts x ∷ ys) (kept_with_part i a rows)
 
   same_part : (i : ℕ) (a b : Aggregate) (rows others : List Aggregate) → kept_part parts a ≡ kept_part parts b → kept_rows rows ≡ kept_rows others → kept_rows (with_part i a rows) ≡ kept_rows (with_part i b others)

@@ -2,24 +2,25 @@
 use Rattle.std.proofs.Common.{◌≡◌, ℕ, zero, suc, ◌+◌, ◌≤◌, ◌^◌, ℤ, ◌≤ℤ◌, ◌<ℤ◌, Bool, true, false, List, [], ◌∷◌, length, get_or, min, refl, sym, ◌∙◌, ap, ap₂, subst, cond, arith}
 use Rattle.std.proofs.lemmas.Int.{ints}
 use Rattle.std.proofs.lemmas.List.{length-set}
-use Rattle.ts_core.specs.aggregates.Aggregates.{Aggregate, empty_aggregate, merged}
+use Rattle.ts_core.specs.aggregates.Aggregates.{Aggregate, empty_aggregate, merged, merged_within}
 use Rattle.ts_core.specs.aggregates.MergeLaws.{aggregate_laws}
+use Rattle.ts_core.proofs.aggregates.AggregatesLemmas.{merged_within-fits}
 use Rattle.ts_exec.specs.declared.aggregate_parts.AggregateParts.{AggregateParts}
 use Rattle.ts_exec.specs.declared.aggregate_parts.AggregateParts.TheVariants.{CountAlone, CountAndSum, Bounds, Whole}
-use Rattle.ts_exec.specs.RowParts.{BucketGrid, IsRun, added, row_index_at, part_of_point, with_part}
-use Rattle.ts_exec.proofs.Shares.{added-fits, part-saturated}
+use Rattle.ts_exec.specs.RowParts.{BucketGrid, IsRun, row_index_at, part_of_point, with_part}
+use Rattle.ts_exec.proofs.Shares.{part-saturated}
 
 -- where both fit, they may be merged first
-added_joined : (x a b : Aggregate) → (x.count + a.count) + b.count ≤ 2 ^ 62 → added (added x a) b ≡ added x (merged a b)
-added_joined x a b h =
-    ap (λ (y : Aggregate). added y b) (added-fits x a (omega arith))
-    ∙ added-fits (merged x a) b (omega arith)
+merged_first : (x a b : Aggregate) → (x.count + a.count) + b.count ≤ 2 ^ 62 → merged_within b (merged_within a x) ≡ merged_within (merged a b) x
+merged_first x a b h =
+    ap (merged_within b) (merged_within-fits a x (omega arith))
+    ∙ merged_within-fits b (merged x a) (omega arith)
     ∙ aggregate_laws.assoc x a b
-    ∙ sym (added-fits x (merged a b) (omega arith))
+    ∙ sym (merged_within-fits (merged a b) x (omega arith))
 
 pub part-joined : (i : ℕ) (a b : Aggregate) (rows : List Aggregate) → ((get_or rows i empty_aggregate).count + a.count) + b.count ≤ 2 ^ 62 → with_part i b (with_part i a rows) ≡ with_part i (merged a b) rows
 part-joined i a b [] h = refl
-part-joined zero a b (x ∷ rows) h = ap (λ (y : Aggregate). y ∷ rows) (added_joined x a b h)
+part-joined zero a b (x ∷ rows) h = ap (λ (y : Aggregate). y ∷ rows) (merged_first x a b h)
 part-joined (suc i) a b (x ∷ rows) h = ap (λ (ys : List Aggregate). x ∷ ys) (part-joined i a b rows h)
 
 pub point_count : (parts : AggregateParts) (t v : ℤ) → (part_of_point parts t v).count ≡ 1

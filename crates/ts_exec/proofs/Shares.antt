@@ -1,18 +1,19 @@
 -- Shares merged into a table one after another, and the resulting rows.
 use Rattle.std.proofs.Common.{◌≡◌, ℕ, zero, suc, ◌+◌, ◌<◌, ◌≤◌, ◌^◌, ◌==◌, List, [], ◌∷◌, ◌++◌, map, filter, length, get_or, set, refl, sym, ◌∙◌, ap, subst, Option, Some, is_some, Bool, true, false, cond, ◌&&◌, ◌||◌, arith, eq-eqb, eqb-true, true≢false, ℤ, min, ⊎_elim}
-use Rattle.std.proofs.lemmas.Bool.{le-leb, cases_lt}
+use Rattle.std.proofs.lemmas.Bool.{cases_lt}
 use Rattle.std.proofs.lemmas.List.{length-set, get_or-set_same, get_or-set_other}
 use Rattle.std.specs.List.{list_any}
 use Rattle.std.specs.FinMap.{find, put}
 use Rattle.std.specs.FinMap.Entries.{is_sorted-put, find-put, same_entries}
 use Rattle.ts_core.specs.facts.Facts.{Text}
 use Rattle.ts_core.specs.aggregates.Partials.{fold_by}
-use Rattle.ts_core.specs.aggregates.Aggregates.{Aggregate, empty_aggregate, merged}
+use Rattle.ts_core.specs.aggregates.Aggregates.{Aggregate, empty_aggregate, merged, merged_within}
 use Rattle.ts_core.specs.aggregates.MergeLaws.{aggregate_laws}
 use Rattle.ts_core.specs.queries.Answers.{group_cmp, same_group}
+use Rattle.ts_core.proofs.aggregates.AggregatesLemmas.{merged_within-fits}
 use Rattle.ts_core.proofs.queries.GroupsInOrder.{groups_total, exact_groups, same_group-refl, same_group-eq}
 use Rattle.ts_exec.specs.declared.aggregate_parts.AggregateParts.TheVariants.{Whole}
-use Rattle.ts_exec.specs.RowParts.{BucketGrid, added, row_index_at, with_part, with_point_parts}
+use Rattle.ts_exec.specs.RowParts.{BucketGrid, row_index_at, with_part, with_point_parts}
 use Rattle.ts_exec.specs.GroupTables.{Table, IsGroupTable, rows_or, rows_for, with_cell_part, with_column_parts}
 use Rattle.ts_exec.specs.Shares.{Share, with_shares, is_share, total_at, point_share}
 
@@ -89,19 +90,19 @@ length-rows_after g (s ∷ ss) rows = length-rows_after g ss (cond (same_group g
 
 abbrev pub held_at : List Text → ℕ → List Share → Aggregate → Aggregate
 held_at g j [] x = x
-held_at g j (s ∷ ss) x = held_at g j ss (cond (is_share g j s) (added x s.part) x)
+held_at g j (s ∷ ss) x = held_at g j ss (cond (is_share g j s) (merged_within s.part x) x)
 
-part_at : (i j : ℕ) (a : Aggregate) (rows : List Aggregate) → j < length rows → get_or (with_part i a rows) j empty_aggregate ≡ cond (i == j) (added (get_or rows j empty_aggregate) a) (get_or rows j empty_aggregate)
+part_at : (i j : ℕ) (a : Aggregate) (rows : List Aggregate) → j < length rows → get_or (with_part i a rows) j empty_aggregate ≡ cond (i == j) (merged_within a (get_or rows j empty_aggregate)) (get_or rows j empty_aggregate)
 part_at i j a rows l =
-    elim (i == j) as (λ b. (i == j) ≡ b → get_or (with_part i a rows) j empty_aggregate ≡ cond b (added (get_or rows j empty_aggregate) a) (get_or rows j empty_aggregate)) [
-      | true ↦ λ e. let same : i ≡ j = eqb-true i j e in ap (λ k. get_or (set rows k (added (get_or rows k empty_aggregate) a)) j empty_aggregate) same ∙ get_or-set_same rows j _ empty_aggregate l
+    elim (i == j) as (λ b. (i == j) ≡ b → get_or (with_part i a rows) j empty_aggregate ≡ cond b (merged_within a (get_or rows j empty_aggregate)) (get_or rows j empty_aggregate)) [
+      | true ↦ λ e. let same : i ≡ j = eqb-true i j e in ap (λ k. get_or (set rows k (merged_within a (get_or rows k empty_aggregate))) j empty_aggregate) same ∙ get_or-set_same rows j _ empty_aggregate l
       | false ↦ λ e. get_or-set_other rows i j _ empty_aggregate (λ same. true≢false (sym (eq-eqb i j (sym same)) ∙ e))
     ] refl
 
 row_step : (g : List Text) (j : ℕ) (s : Share) (rows : List Aggregate) → j < length rows
-    → get_or (cond (same_group g s.group) (with_part s.row_index s.part rows) rows) j empty_aggregate ≡ cond (is_share g j s) (added (get_or rows j empty_aggregate) s.part) (get_or rows j empty_aggregate)
+    → get_or (cond (same_group g s.group) (with_part s.row_index s.part rows) rows) j empty_aggregate ≡ cond (is_share g j s) (merged_within s.part (get_or rows j empty_aggregate)) (get_or rows j empty_aggregate)
 row_step g j s rows l =
-    elim (same_group g s.group) as (λ b. get_or (cond b (with_part s.row_index s.part rows) rows) j empty_aggregate ≡ cond (b && (s.row_index == j)) (added (get_or rows j empty_aggregate) s.part) (get_or rows j empty_aggregate)) [
+    elim (same_group g s.group) as (λ b. get_or (cond b (with_part s.row_index s.part rows) rows) j empty_aggregate ≡ cond (b && (s.row_index == j)) (merged_within s.part (get_or rows j empty_aggregate)) (get_or rows j empty_aggregate)) [
       | true ↦ part_at s.row_index j s.part rows l
       | false ↦ refl
     ]
@@ -114,18 +115,15 @@ held-after g j (s ∷ ss) rows l =
 
 -- ---- where all fits, nothing is left out
 
-pub added-fits : (x y : Aggregate) → x.count + y.count ≤ 2 ^ 62 → added x y ≡ merged x y
-added-fits x y h = ap (λ b. cond b (merged x y) x) (le-leb (x.count + y.count) (2 ^ 62) h)
-
 pub held-fits : (g : List Text) (j : ℕ) (ss : List Share) (x : Aggregate) → x.count + (total_at g j ss).count ≤ 2 ^ 62 → held_at g j ss x ≡ merged x (total_at g j ss)
 held-fits g j [] x h = sym (aggregate_laws.comm x empty_aggregate ∙ aggregate_laws.unit x)
 held-fits g j (s ∷ ss) x h =
     elim (is_share g j s) as (λ b. x.count + (fold_by empty_aggregate merged (λ (z : Share). z.part) (cond b (s ∷ filter (is_share g j) ss) (filter (is_share g j) ss))).count ≤ 2 ^ 62
-    → held_at g j ss (cond b (added x s.part) x) ≡ merged x (fold_by empty_aggregate merged (λ (z : Share). z.part) (cond b (s ∷ filter (is_share g j) ss) (filter (is_share g j) ss)))) [
+    → held_at g j ss (cond b (merged_within s.part x) x) ≡ merged x (fold_by empty_aggregate merged (λ (z : Share). z.part) (cond b (s ∷ filter (is_share g j) ss) (filter (is_share g j) ss)))) [
       | true ↦ λ k.
           let t : Aggregate = total_at g j ss in
           let few : x.count + s.part.count ≤ 2 ^ 62 = omega arith in
-          ap (held_at g j ss) (added-fits x s.part few) ∙ held-fits g j ss (merged x s.part) (omega arith) ∙ aggregate_laws.assoc x s.part t
+          ap (held_at g j ss) (merged_within-fits s.part x few) ∙ held-fits g j ss (merged x s.part) (omega arith) ∙ aggregate_laws.assoc x s.part t
       | false ↦ λ k. held-fits g j ss x k
     ] h
 

@@ -1,18 +1,14 @@
 -- Merging parts into rows, up to 2^62 points each. (Own rules.)
-use Rattle.std.specs.Prelude.{◌≡◌, ℕ, zero, suc, ◌+◌, ◌^◌, ◌≤◌, min, nat_le, ℤ, pos, neg_ℤ, ◌+ℤ◌, ◌-ℤ◌, ◌≤ℤ◌, ◌<ℤ◌, true, List, [], ◌∷◌, ◌++◌, fold, set, get_or, Some, option_map, if◌then◌else◌}
+use Rattle.std.specs.Prelude.{◌≡◌, ℕ, zero, suc, ◌+◌, ◌^◌, ◌≤◌, min, ℤ, pos, neg_ℤ, ◌+ℤ◌, ◌-ℤ◌, ◌≤ℤ◌, ◌<ℤ◌, true, List, [], ◌∷◌, ◌++◌, fold, set, get_or, Some, option_map}
 use Rattle.std.specs.List.{AllByRecursion}
 use Rattle.ts_core.specs.facts.Facts.{is_within}
 use Rattle.ts_core.specs.declared.aggregates.aggregate.Extremes.{Extremes}
-use Rattle.ts_core.specs.aggregates.Aggregates.{Aggregate, empty_aggregate, aggregate_of_one, merged}
+use Rattle.ts_core.specs.aggregates.Aggregates.{Aggregate, empty_aggregate, aggregate_of_one, merged, merged_within}
 use Rattle.ts_core.specs.aggregates.Buckets.{bucket_of}
 use Rattle.ts_core.specs.queries.Queries.{Query}
 use Rattle.ts_core.specs.queries.Answers.{at_least_none}
 use Rattle.ts_exec.specs.declared.aggregate_parts.AggregateParts.{AggregateParts}
 use Rattle.ts_exec.specs.declared.aggregate_parts.AggregateParts.TheVariants.{CountAlone, CountAndSum, Bounds, Whole}
-
--- x and y merged, or x alone if they have more than 2^62 points together
-abbrev pub added : Aggregate → Aggregate → Aggregate
-added x y = if nat_le (x.count + y.count) (2 ^ 62) then merged x y else x
 
 -- a bucket grid whose bucket 0 contains the time `from`
 pub record BucketGrid : Type 0 where
@@ -29,7 +25,7 @@ row_index_at g t = at_least_none (bucket_of t g.interval g.offset -ℤ bucket_of
 
 -- merges a part into row i
 abbrev pub with_part : ℕ → Aggregate → List Aggregate → List Aggregate
-with_part i a rows = set rows i (added (get_or rows i empty_aggregate) a)
+with_part i a rows = set rows i (merged_within a (get_or rows i empty_aggregate))
 
 -- extremes of which only the least and the greatest value depend on the points
 abbrev pub bounds : ℤ → ℤ → Extremes

@@ -1,30 +1,19 @@
 //! Adds points and parts to the rows of a group.
 ghost use Rattle.std.specs.Prelude.{◌≡◌, ◌+◌, ◌^◌, ◌≤◌, ◌<ℤ◌, true, [], length, IfSome, IfNone, get_or, min, if◌then◌else◌};
 ghost use Rattle.ts_core.specs.aggregates.Aggregates.{empty_aggregate};
-ghost use Rattle.ts_exec.specs.RowParts.{AreMerged, IsRun, added, part_of_point, row_index_at, with_part, with_point_parts};
+ghost use Rattle.ts_exec.specs.RowParts.{AreMerged, IsRun, part_of_point, row_index_at, with_part, with_point_parts};
 
 use crate::buckets::{Buckets, Span};
 use crate::fold::Fold;
-use ts_core::{Agg, MAX_COUNT, Partial, Time};
+use ts_core::{Agg, MAX_COUNT, Partial, Time, merge_within};
 use ts_raw::Points;
-
-/// Merges both, or returns the row alone if they have more than 2^62 points together.
-fn added(row: Agg, part: Agg) -> Agg
-    ensures { result ≡ added row part }
-{
-    if row.count() + part.count() <= MAX_COUNT {
-        row.merge(part)
-    } else {
-        row
-    }
-}
 
 /// Merges a part into the row with this index, if there is one.
 pub(crate) fn add_part(rows: &mut [Agg], row_index: usize, part: Agg)
     ensures { rows.new ≡ with_part row_index part rows.old }
 {
     if row_index < rows.len() {
-        rows[row_index] = added(rows[row_index], part);
+        rows[row_index] = merge_within(rows[row_index], part);
     }
 }
 

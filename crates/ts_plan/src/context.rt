@@ -7,7 +7,7 @@ ghost use Rattle.ts_plan.specs.Steps.{IsPlannable};
 use crate::instant::Instant;
 use std::alloc::Allocator;
 use std::marker::Model;
-use ts_check::{MarkedRule, QueryContext};
+use ts_check::{MarkedRule, QueryContext, is_in_one_bucket};
 use ts_core::{Marks, Settings};
 use ts_ql::Query;
 
@@ -93,9 +93,6 @@ impl<'a, A: Allocator> PlanContext<'a, A> {
     pub(crate) fn is_in_one_bucket(&self, from: Instant, to: Instant) -> bool
         ensures { result ≡ is_in_one_bucket self.now.query from to }
     {
-        let buckets = self.query.buckets();
-        let first = buckets.index(i128::from(from.nanos()));
-        let last = buckets.index(i128::from(to.nanos()) - 1);
-        first == last
+        is_in_one_bucket(self.query, from.nanos(), to.nanos())
     }
 }

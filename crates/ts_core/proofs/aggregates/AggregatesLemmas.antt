@@ -1,7 +1,8 @@
 -- The fold of points as their only aggregate, by the definition in the field's words.
-use Rattle.std.proofs.Common.{◌≡◌, ◌⊎◌, ◌+◌, ℤ, ◌+ℤ◌, ◌≤ℤ◌, ◌<ℤ◌, List, [], ◌∷◌, length, map, refl, sym, ◌∙◌, ap, subst, inl, inr, ⊎_elim, arith, one-add, Option, Some, None, MatchOption, Ordering, int_cmp}
+use Rattle.std.proofs.Common.{◌≡◌, ◌⊎◌, ◌+◌, ◌≤◌, ◌^◌, cond, ℤ, ◌+ℤ◌, ◌≤ℤ◌, ◌<ℤ◌, List, [], ◌∷◌, length, map, refl, sym, ◌∙◌, ap, subst, inl, inr, ⊎_elim, arith, one-add, Option, Some, None, MatchOption, Ordering, int_cmp}
 use Rattle.std.specs.List.{AllByRecursion}
 use Rattle.std.specs.Cmp.{IsTotalOrder, int_cmp_total}
+use Rattle.std.proofs.lemmas.Bool.{le-ltb}
 use Rattle.std.proofs.lemmas.Cmp.{upto}
 use Rattle.std.proofs.lemmas.Int.{ints}
 use Rattle.std.proofs.lemmas.Map.Lookups.{CmpEqualImpliesEq, exact_signed}
@@ -9,7 +10,7 @@ use Rattle.ts_core.specs.declared.aggregates.aggregate.Extremes.{Extremes}
 use Rattle.ts_core.specs.facts.Facts.{Fact}
 use Rattle.ts_core.specs.lists.Members.{Among}
 use Rattle.ts_core.specs.aggregates.Orders.{lesser, down_cmp, early_cmp, late_cmp}
-use Rattle.ts_core.specs.aggregates.Aggregates.{Aggregate, extremes_of_one, aggregate_of_one, merged_extremes, merged, aggregate_of_points, aggregate_of, points_of, sum_of_points, AreExtremesOf, IsAggregateOfPoints, IsAggregateOf}
+use Rattle.ts_core.specs.aggregates.Aggregates.{Aggregate, extremes_of_one, aggregate_of_one, merged_extremes, merged, merged_within, aggregate_of_points, aggregate_of, points_of, sum_of_points, AreExtremesOf, IsAggregateOfPoints, IsAggregateOf}
 use Rattle.ts_core.specs.aggregates.OrderLaws.{IsUpto, IsUpto-refl, lesser-left, lesser-right, lesser_one, exact_down, down_total, early_total, late_total, exact_early, exact_late, le_from_IsUpto, words_from_early, words_from_late}
 
 -- ---- an extreme of one more
@@ -95,6 +96,10 @@ in_words ps e f = record {
 words_of : (ps : List (ℤ × ℤ)) (e : Option Extremes) → MatchOption e (ps ≡ []) (AreFirst ps) → MatchOption e (ps ≡ []) (AreExtremesOf ps)
 words_of ps None h = h
 words_of ps (Some e) h = in_words ps e h
+
+-- where both fit, nothing is left out
+pub merged_within-fits : (part a : Aggregate) → a.count + part.count ≤ 2 ^ 62 → merged_within part a ≡ merged a part
+merged_within-fits part a h = ap (λ b. cond b a (merged a part)) (le-ltb (2 ^ 62) (a.count + part.count) h)
 
 pub count_of_fold : (ps : List (ℤ × ℤ)) → (aggregate_of_points ps).count ≡ length ps
 count_of_fold [] = refl

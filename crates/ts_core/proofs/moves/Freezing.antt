@@ -1,17 +1,17 @@
 -- The effect of freezing a column's points on each cell.
 use Rattle.std.proofs.Common.{◌≡◌, ℤ, ◌+◌, ◌≤◌, ◌^◌, Bool, true, false, cond, not, ◌&&◌, ◌||◌, List, [], ◌∷◌, ◌++◌, length, filter, map, refl, sym, ◌∙◌, ap, ap₂, subst, inl, inr, ⊎_elim, int_le, int_lt, arith, Option, Some, None, is_some, is_eq, T, Less, Equal, Greater}
 use Rattle.std.proofs.lemmas.Int.{ints}
-use Rattle.std.proofs.lemmas.Bool.{le-ltb}
 use Rattle.std.specs.FinMap as finmap
 use Rattle.std.specs.FinMap.{find, put, is_sorted, get-insert, entries-insert, get-entries}
 use Rattle.std.proofs.lemmas.Option.{none-some}
+use Rattle.ts_core.proofs.aggregates.AggregatesLemmas.{merged_within-fits}
 use Rattle.ts_core.proofs.lists.Places.{both_of, less_of}
 use Rattle.std.specs.FinMap.Entries.{by_order, below_all}
 use Rattle.std.proofs.lemmas.List.{append-nil}
 use Rattle.ts_core.specs.lists.Members.{Among, AllDistinct}
 use Rattle.ts_core.specs.facts.Facts.{Column, Fact}
 use Rattle.ts_core.specs.settings.Settings.{Rule}
-use Rattle.ts_core.specs.aggregates.Aggregates.{Aggregate, empty_aggregate, merged, aggregate_of_one, aggregate_of_points}
+use Rattle.ts_core.specs.aggregates.Aggregates.{Aggregate, empty_aggregate, merged, aggregate_of_one, aggregate_of_points, merged_within}
 use Rattle.ts_core.specs.aggregates.MergeLaws.{aggregate_laws}
 use Rattle.ts_core.specs.store.RawFacts.{same_column}
 use Rattle.ts_core.specs.store.Cells.{Cell, cell_cmp, same_cell, cell_of, total_of}
@@ -25,7 +25,7 @@ use Rattle.std.specs.List.{list_any}
 use Rattle.ts_core.specs.store.TwoParts.{in_frozen, with_live}
 use Rattle.ts_core.specs.lists.Changes.{changed, with_change, or_else}
 use Rattle.ts_core.specs.store.StoreData.{CellMap, no_parts}
-use Rattle.ts_core.specs.moves.StoreMoves.{frozen_with, frozen_points, refolded, refolded_points, points_below}
+use Rattle.ts_core.specs.moves.StoreMoves.{frozen_points, refolded, refolded_points, points_below}
 
 -- ---- maps
 
@@ -71,9 +71,6 @@ keys_changed m q f =
       | Some x ↦ λ e. ap (map (λ (y : Cell × CellParts). y.0)) (entries-insert cells_total m q (f x)) ∙ put_keys q (f x) (finmap.entries m) x (sym (get-entries m q) ∙ e) (finmap.entries_sorted m)
     ] refl
 
-pub frozen_with-fits : (part a : Aggregate) → a.count + part.count ≤ 2 ^ 62 → frozen_with part a ≡ merged a part
-frozen_with-fits part a h = ap (λ b. cond b a (merged a part)) (le-ltb (2 ^ 62) (a.count + part.count) h)
-
 -- ---- points
 
 abbrev pub in_points : Rule → Column → Cell → ℤ × ℤ → Bool
@@ -87,13 +84,13 @@ frozen_gives r c k [] m a g h =
 frozen_gives r c k (p ∷ ps) m a g h =
     let q : Cell = cell_of r (fact_at c p) in
     let part : Aggregate = aggregate_of_one p.0 p.1 in
-    let f : CellParts → CellParts = in_frozen (frozen_with part) in
+    let f : CellParts → CellParts = in_frozen (merged_within part) in
     let m' : CellMap = changed m q f in
     let rest : List (ℤ × ℤ) = filter (in_points r c k) ps in
     elim (same_cell k q) as (λ b. same_cell k q ≡ b → a.frozen.count + length (cond b (p ∷ rest) rest) ≤ 2 ^ 62
     → finmap.get (frozen_points r c ps m') k ≡ Some (record { frozen = merged a.frozen (aggregate_of_points (cond b (p ∷ rest) rest)); live = a.live })) [
       | true ↦ λ e few.
-          let fits : frozen_with part a.frozen ≡ merged a.frozen part = frozen_with-fits part a.frozen (omega arith) in
+          let fits : merged_within part a.frozen ≡ merged a.frozen part = merged_within-fits part a.frozen (omega arith) in
           let here : finmap.get m' k ≡ Some (record { frozen = merged a.frozen part; live = a.live }) = changed_here m q k f a e g ∙ ap Some (λ i. record { frozen = fits i; live = a.live }) in
           let together = aggregate_laws.assoc a.frozen part (aggregate_of_points rest) in
           frozen_gives r c k ps m' (record { frozen = merged a.frozen part; live = a.live }) here (omega arith)
@@ -104,13 +101,13 @@ frozen_gives r c k (p ∷ ps) m a g h =
 pub frozen_none : (r : Rule) (c : Column) (k : Cell) (ps : List (ℤ × ℤ)) (m : CellMap) → finmap.get m k ≡ None → finmap.get (frozen_points r c ps m) k ≡ None
 frozen_none r c k [] m g = g
 frozen_none r c k (p ∷ ps) m g =
-    let f : CellParts → CellParts = in_frozen (frozen_with (aggregate_of_one p.0 p.1)) in
+    let f : CellParts → CellParts = in_frozen (merged_within (aggregate_of_one p.0 p.1)) in
     frozen_none r c k ps (changed m (cell_of r (fact_at c p)) f) (changed_none m (cell_of r (fact_at c p)) k f g)
 
 pub keys_frozen : (r : Rule) (c : Column) (ps : List (ℤ × ℤ)) (m : CellMap) → finmap.keys (frozen_points r c ps m) ≡ finmap.keys m
 keys_frozen r c [] m = refl
 keys_frozen r c (p ∷ ps) m =
-    let f : CellParts → CellParts = in_frozen (frozen_with (aggregate_of_one p.0 p.1)) in
+    let f : CellParts → CellParts = in_frozen (merged_within (aggregate_of_one p.0 p.1)) in
     keys_frozen r c ps (changed m (cell_of r (fact_at c p)) f) ∙ keys_changed m (cell_of r (fact_at c p)) f
 
 -- ---- live parts
@@ -142,7 +139,7 @@ pub frozen_live : (r : Rule) (c : Column) (k : Cell) (ps : List (ℤ × ℤ)) (m
 frozen_live r c k [] m = refl
 frozen_live r c k (p ∷ ps) m =
     let q : Cell = cell_of r (fact_at c p) in
-    let f : CellParts → CellParts = in_frozen (frozen_with (aggregate_of_one p.0 p.1)) in
+    let f : CellParts → CellParts = in_frozen (merged_within (aggregate_of_one p.0 p.1)) in
     frozen_live r c k ps (changed m q f) ∙ changed_as live_in f (λ a. refl) m q k
 
 -- and each cell is there or not, as it was
@@ -150,7 +147,7 @@ pub frozen_some : (r : Rule) (c : Column) (k : Cell) (ps : List (ℤ × ℤ)) (m
 frozen_some r c k [] m = refl
 frozen_some r c k (p ∷ ps) m =
     let q : Cell = cell_of r (fact_at c p) in
-    let f : CellParts → CellParts = in_frozen (frozen_with (aggregate_of_one p.0 p.1)) in
+    let f : CellParts → CellParts = in_frozen (merged_within (aggregate_of_one p.0 p.1)) in
     frozen_some r c k ps (changed m q f) ∙ changed_as is_some f (λ a. refl) m q k
 
 -- a refolding leaves the frozen parts, and which cells there are

@@ -6,7 +6,7 @@ use Rattle.std.specs.FinMap.{FinMap}
 use Rattle.ts_core.specs.lists.Members.{Among, AllDistinct}
 use Rattle.ts_core.specs.facts.Facts.{Fact, id_of, same_id}
 use Rattle.ts_core.specs.settings.Settings.{Rule}
-use Rattle.ts_core.specs.aggregates.Aggregates.{Aggregate, merged, IsSound}
+use Rattle.ts_core.specs.aggregates.Aggregates.{Aggregate, merged, IsSound, count_in}
 use Rattle.ts_core.specs.aggregates.MergeLaws.{aggregate_laws}
 use Rattle.ts_core.specs.aggregates.Remainders.{IsOnlyRest}
 use Rattle.ts_core.specs.store.Cells.{cell_of, is_rolled, is_in_cell, total_of}
@@ -15,9 +15,9 @@ use Rattle.ts_core.specs.store.TwoParts.{in_live, with_live}
 use Rattle.ts_core.specs.store.StoreStates.{ColumnPoints, CellParts, facts_of}
 use Rattle.ts_core.specs.store.StoreData.{CellMap, IsLive}
 use Rattle.ts_core.specs.moves.StoreLaws.{IsOldOf}
-use Rattle.ts_core.specs.moves.StoreMoves.{count_in, refolded, put_cell, PutsFact}
+use Rattle.ts_core.specs.moves.StoreMoves.{refolded, put_cell, PutsFact}
 use Rattle.ts_core.proofs.store.Cuts.{one_fact}
-use Rattle.ts_core.proofs.moves.Freezing.{frozen_with-fits}
+use Rattle.ts_core.proofs.aggregates.AggregatesLemmas.{merged_within-fits}
 use Rattle.ts_core.proofs.moves.LiveWays.{new_total, replaced_total}
 use Rattle.ts_core.proofs.plans.PieceCells.{same_cell-refl}
 
@@ -44,7 +44,7 @@ module _ (before after : List ColumnPoints) (f : Fact) (once : AllDistinct (fact
       let total = new_total before after f once put r (cell_of r f) its_cell new in
       changed_agree m (cell_of r f) (in_live (joined_within count_in merged (one_fact f))) (with_live (total_of r (cell_of r f) (facts_of after)))
       (λ p e.
-      let fits : joined_within count_in merged (one_fact f) p.live ≡ merged p.live (one_fact f) = frozen_with-fits (one_fact f) p.live (few p e) in
+      let fits : joined_within count_in merged (one_fact f) p.live ≡ merged p.live (one_fact f) = merged_within-fits (one_fact f) p.live (few p e) in
       let now : joined_within count_in merged (one_fact f) p.live ≡ total_of r (cell_of r f) (facts_of after) =
       fits ∙ aggregate_laws.comm p.live (one_fact f) ∙ ap (merged (one_fact f)) (live (cell_of r f) p e) ∙ sym total in
       λ i. record { frozen = p.frozen; live = now i })

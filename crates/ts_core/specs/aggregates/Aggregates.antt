@@ -5,6 +5,7 @@ use Rattle.std.specs.Prelude.{◌≡◌, ◌⊎◌, ℕ, ◌+◌, ◌<◌, ◌�
 use Rattle.std.specs.Ordering.{int_cmp}
 use Rattle.ts_core.specs.declared.aggregates.aggregate.Extremes.{Extremes}
 use Rattle.ts_core.specs.lists.Members.{Among}
+use Rattle.ts_core.specs.lists.Changes.{joined_within}
 use Rattle.ts_core.specs.facts.Facts.{Fact}
 use Rattle.ts_core.specs.aggregates.Partials.{fold_by}
 use Rattle.ts_core.specs.aggregates.Orders.{lesser, down_cmp, early_cmp, late_cmp}
@@ -38,6 +39,13 @@ merged_extremes (Some x) (Some y) = Some (extremes_of_both x y)
 
 abbrev pub merged : Aggregate → Aggregate → Aggregate
 merged x y = record { count = x.count + y.count; sum = x.sum +ℤ y.sum; extremes = merged_extremes x.extremes y.extremes }
+
+abbrev pub count_in : Aggregate → ℕ
+count_in a = a.count
+
+-- merges a part, if the counts add up to at most 2^62; else changes nothing
+abbrev pub merged_within : Aggregate → Aggregate → Aggregate
+merged_within = joined_within count_in merged
 
 -- the aggregate of points; a point is a time with a value
 abbrev pub aggregate_of_points : List (ℤ × ℤ) → Aggregate

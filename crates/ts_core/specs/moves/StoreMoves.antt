@@ -8,27 +8,20 @@ use Rattle.ts_core.specs.store.History.{kept_since}
 use Rattle.ts_core.specs.store.Marks.{index_of}
 use Rattle.ts_core.specs.facts.Facts.{Series, Column, Fact, same_text, id_of, same_id}
 use Rattle.ts_core.specs.settings.Settings.{Rule}
-use Rattle.ts_core.specs.aggregates.Aggregates.{Aggregate, aggregate_of_one, merged}
+use Rattle.ts_core.specs.aggregates.Aggregates.{Aggregate, aggregate_of_one, merged_within}
 use Rattle.ts_core.specs.store.Cells.{Cell, cell_of, is_rolled, total_of}
 use Rattle.ts_core.specs.store.StoreStates.{ColumnPoints, CellParts, column_of, fact_at, facts_of}
 use Rattle.ts_core.specs.store.RawFacts.{same_column}
 use Rattle.ts_core.specs.store.TwoParts.{in_frozen, with_live}
-use Rattle.ts_core.specs.lists.Changes.{changed, joined_within, or_else}
+use Rattle.ts_core.specs.lists.Changes.{changed, or_else}
 use Rattle.ts_core.specs.store.StoreData.{CellMap, no_parts, StoreData}
 
 -- ---- a step moves a column: points below the raw mark are frozen, and the live parts of their cells are folded anew
 
-abbrev pub count_in : Aggregate → ℕ
-count_in a = a.count
-
--- merges a part, if the counts add up to at most 2^62
-abbrev pub frozen_with : Aggregate → Aggregate → Aggregate
-frozen_with = joined_within count_in merged
-
 -- merges each point into its cell, if that exists
 abbrev pub frozen_points : Rule → Column → List (ℤ × ℤ) → CellMap → CellMap
 frozen_points r c [] m = m
-frozen_points r c (p ∷ ps) m = frozen_points r c ps (changed m (cell_of r (fact_at c p)) (in_frozen (frozen_with (aggregate_of_one p.0 p.1))))
+frozen_points r c (p ∷ ps) m = frozen_points r c ps (changed m (cell_of r (fact_at c p)) (in_frozen (merged_within (aggregate_of_one p.0 p.1))))
 
 -- folds the live part of a cell anew from the raw facts, if the cell exists
 abbrev pub refolded : Rule → Cell → List Fact → CellMap → CellMap

@@ -1,7 +1,9 @@
 //! Mergeable aggregates.
 ghost use Rattle.std.specs.Prelude.{◌≡◌, ℕ, ◌+◌, ◌^◌, ◌≤◌, ℤ};
 ghost use Rattle.ts_core.specs.aggregates.Partials.{PartialLaws};
+ghost use Rattle.ts_core.specs.lists.Changes.{joined_within};
 
+use crate::aggregates::aggregate::MAX_COUNT;
 use crate::facts::Time;
 
 /// A partial aggregate of points. Merging is associative and commutative, and adds up counts.
@@ -32,4 +34,17 @@ pub trait Partial: Copy {
         ensures { result ≡ join self other };
 
     ghost laws: { PartialLaws nil one join size };
+}
+
+/// Merges `part` into `kept`, if their counts add up to at most 2^62; else returns `kept`.
+pub fn merge_within<P: Partial>(kept: P, part: P) -> P
+    ensures { result ≡ joined_within P.size P.join part kept }
+{
+    let count = kept.count();
+    let more = part.count();
+    if count <= MAX_COUNT && more <= MAX_COUNT - count {
+        kept.merge(part)
+    } else {
+        kept
+    }
 }

@@ -8,15 +8,14 @@ use Rattle.ts_core.specs.facts.Facts.{Text, Series, Column}
 use Rattle.ts_core.specs.lists.Members.{Among}
 use Rattle.ts_core.specs.lists.Numbered.{IsAt, Gains}
 use Rattle.ts_core.specs.settings.Settings.{Rule}
-use Rattle.ts_core.specs.aggregates.Aggregates.{Aggregate, empty_aggregate}
+use Rattle.ts_core.specs.aggregates.Aggregates.{Aggregate, empty_aggregate, merged_within}
 use Rattle.ts_core.specs.aggregates.MergeLaws.{aggregate_laws}
 use Rattle.ts_core.specs.store.Cells.{Cell, cell_cmp, same_cell}
 use Rattle.ts_core.specs.lists.Changes.{changed, or_else}
 use Rattle.ts_core.specs.store.StoreStates.{CellParts, column_of}
 use Rattle.ts_core.specs.store.TwoParts.{in_frozen}
 use Rattle.ts_core.specs.store.StoreData.{CellMap, no_parts}
-use Rattle.ts_core.specs.moves.StoreMoves.{frozen_with}
-use Rattle.ts_core.proofs.moves.Freezing.{frozen_with-fits}
+use Rattle.ts_core.proofs.aggregates.AggregatesLemmas.{merged_within-fits}
 use Rattle.ts_core.proofs.plans.PieceCells.{cells_total, exact_cells, same_cell-refl}
 use Rattle.ts_cells.specs.CellChanges.{inserted_if_absent}
 use Rattle.ts_cells.proofs.GridMoves.{get-changed, get-inserted_if_absent}
@@ -33,17 +32,17 @@ use Rattle.ts_store.proofs.rollup.RollupsGrow.{rollups_kept, made_behind}
 
 -- it is created, and a part is frozen into it
 pub cell_made : (m : CellMap) (q : Cell) (part : Aggregate) → part.count ≤ 2 ^ 62 → finmap.get m q ≡ None
-    → changed (inserted_if_absent m q no_parts) q (in_frozen (frozen_with part)) ≡ finmap.insert m q (record { frozen = part; live = empty_aggregate })
+    → changed (inserted_if_absent m q no_parts) q (in_frozen (merged_within part)) ≡ finmap.insert m q (record { frozen = part; live = empty_aggregate })
 cell_made m q part few none =
     let n : CellMap = inserted_if_absent m q no_parts in
     let x : CellParts = record { frozen = part; live = empty_aggregate } in
-    let fits : frozen_with part empty_aggregate ≡ part = frozen_with-fits part empty_aggregate (omega (arith, few)) ∙ aggregate_laws.unit part in
-    let made : in_frozen (frozen_with part) no_parts ≡ x = λ i. record { frozen = fits i; live = empty_aggregate } in
-    same_map cells_total exact_cells (changed n q (in_frozen (frozen_with part))) (finmap.insert m q x) (λ k.
-    get-changed n q (in_frozen (frozen_with part)) k
-    ∙ elim (same_cell k q) as (λ b. same_cell k q ≡ b → cond b (option_map (in_frozen (frozen_with part)) (finmap.get n q)) (finmap.get n k) ≡ cond b (Some x) (finmap.get m k)) [
+    let fits : merged_within part empty_aggregate ≡ part = merged_within-fits part empty_aggregate (omega (arith, few)) ∙ aggregate_laws.unit part in
+    let made : in_frozen (merged_within part) no_parts ≡ x = λ i. record { frozen = fits i; live = empty_aggregate } in
+    same_map cells_total exact_cells (changed n q (in_frozen (merged_within part))) (finmap.insert m q x) (λ k.
+    get-changed n q (in_frozen (merged_within part)) k
+    ∙ elim (same_cell k q) as (λ b. same_cell k q ≡ b → cond b (option_map (in_frozen (merged_within part)) (finmap.get n q)) (finmap.get n k) ≡ cond b (Some x) (finmap.get m k)) [
       | true ↦ λ e.
-          ap (option_map (in_frozen (frozen_with part)))
+          ap (option_map (in_frozen (merged_within part)))
           (get-inserted_if_absent m q no_parts q ∙ ap (λ b. cond b (Some (or_else no_parts (finmap.get m q))) (finmap.get m q)) (same_cell-refl q) ∙ ap (λ o. Some (or_else no_parts o)) none)
           ∙ ap Some made
       | false ↦ λ e. get-inserted_if_absent m q no_parts k ∙ ap (λ b. cond b (Some (or_else no_parts (finmap.get m q))) (finmap.get m k)) e

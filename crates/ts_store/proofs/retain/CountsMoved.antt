@@ -4,12 +4,12 @@ use Rattle.std.proofs.Common.{◌≡◌, ℕ, ℤ, ◌+◌, ◌≤◌, ◌^◌, 
 use Rattle.ts_core.specs.lists.Members.{Among, AllDistinct}
 use Rattle.ts_core.specs.facts.Facts.{Column, Fact, same_text}
 use Rattle.ts_core.specs.settings.Settings.{Rule}
-use Rattle.ts_core.specs.aggregates.Aggregates.{Aggregate, aggregate_of_one}
+use Rattle.ts_core.specs.aggregates.Aggregates.{Aggregate, aggregate_of_one, merged_within}
 use Rattle.ts_core.specs.store.Cells.{Cell, same_cell, cell_of, is_in_cell}
 use Rattle.ts_core.specs.lists.Changes.{changed}
 use Rattle.ts_core.specs.store.StoreStates.{ColumnPoints, column_of, fact_at, facts_at, facts_of}
 use Rattle.ts_core.specs.store.StoreData.{CellMap}
-use Rattle.ts_core.specs.moves.StoreMoves.{frozen_with, frozen_points, refolded_points, moved_cells, all_moved, points_below, kept_points}
+use Rattle.ts_core.specs.moves.StoreMoves.{frozen_points, refolded_points, moved_cells, all_moved, points_below, kept_points}
 use Rattle.ts_core.specs.store.TwoParts.{in_frozen}
 use Rattle.ts_core.proofs.moves.Freezing.{gone_held, refolded_frozen}
 use Rattle.ts_core.proofs.store.Moves.{is_left}
@@ -24,7 +24,7 @@ points_most : (r : Rule) (c : Column) (ps : List (ℤ × ℤ)) (m : CellMap) (k 
 points_most r c [] m k t = omega arith
 points_most r c (p ∷ ps) m k t =
     let q : Cell = cell_of r (fact_at c p) in
-    let n : CellMap = changed m q (in_frozen (frozen_with (aggregate_of_one p.0 p.1))) in
+    let n : CellMap = changed m q (in_frozen (merged_within (aggregate_of_one p.0 p.1))) in
     let rest : frozen_count (frozen_points r c ps n) k ≤ frozen_count n k + points_in_cell r c k ps = points_most r c ps n k t in
     let one : frozen_count n k ≤ frozen_count m k + cond {A = ℕ} (same_cell k q) 1 0 = frozen_most m q (aggregate_of_one p.0 p.1) k in
     let first : points_in_cell r c k (p ∷ ps) ≡ cond {A = ℕ} (same_cell k q) 1 0 + points_in_cell r c k ps = first_in r c k p ps t in

@@ -5,18 +5,17 @@ use Rattle.ts_core.proofs.lists.ListSteps.{length-filter}
 use Rattle.std.specs.FinMap as finmap
 use Rattle.ts_core.specs.facts.Facts.{Column, Fact, same_text}
 use Rattle.ts_core.specs.settings.Settings.{Rule}
-use Rattle.ts_core.specs.aggregates.Aggregates.{Aggregate, empty_aggregate, merged, aggregate_of}
+use Rattle.ts_core.specs.aggregates.Aggregates.{Aggregate, empty_aggregate, merged, aggregate_of, merged_within}
 use Rattle.ts_core.specs.aggregates.MergeLaws.{aggregate_laws}
 use Rattle.ts_core.specs.store.Cells.{Cell, same_cell, cell_of, is_rolled, is_in_cell, total_of}
 use Rattle.ts_core.specs.lists.Changes.{changed}
 use Rattle.ts_core.specs.store.StoreStates.{CellParts, fact_at, facts_at}
 use Rattle.ts_core.specs.store.TwoParts.{in_live}
 use Rattle.ts_core.specs.store.StoreData.{CellMap}
-use Rattle.ts_core.specs.moves.StoreMoves.{frozen_with}
 use Rattle.ts_core.proofs.lists.Comparisons.{same_bool}
 use Rattle.ts_core.proofs.store.Cuts.{one_fact}
 use Rattle.ts_core.proofs.aggregates.Folds.{fold-count}
-use Rattle.ts_core.proofs.moves.Freezing.{frozen_with-fits}
+use Rattle.ts_core.proofs.aggregates.AggregatesLemmas.{merged_within-fits}
 use Rattle.ts_core.proofs.plans.PieceCells.{same_cell-eq, same_cell-refl}
 use Rattle.ts_cells.proofs.GridMoves.{get-changed}
 use Rattle.ts_cells.specs.Grids.{no_rollup_series, cell_at}
@@ -86,41 +85,41 @@ pending-more f left all r m q part rolled is h = record {
 }
 
 -- the part is added
-pub pending-added : (left all : List Fact) (r : Rule) (m : CellMap) (q : Cell) (part : Aggregate) → length all ≤ 2 ^ 62 → IsPending left all r m q part → IsFilledBut left all r (changed m q (in_live (frozen_with part)))
+pub pending-added : (left all : List Fact) (r : Rule) (m : CellMap) (q : Cell) (part : Aggregate) → length all ≤ 2 ^ 62 → IsPending left all r m q part → IsFilledBut left all r (changed m q (in_live (merged_within part)))
 pending-added left all r m q part few h = λ k x e.
-    elim (same_cell k q) as (λ b. same_cell k q ≡ b → cond b (option_map (in_live (frozen_with part)) (finmap.get m q)) (finmap.get m k) ≡ Some x → merged x.live (total_of r k left) ≡ total_of r k all) [
+    elim (same_cell k q) as (λ b. same_cell k q ≡ b → cond b (option_map (in_live (merged_within part)) (finmap.get m q)) (finmap.get m k) ≡ Some x → merged x.live (total_of r k left) ≡ total_of r k all) [
       | true ↦ λ s e'.
           let here : k ≡ q = same_cell-eq k q s in
-          elim (finmap.get m q) as (λ o. finmap.get m q ≡ o → option_map (in_live (frozen_with part)) o ≡ Some x → merged x.live (total_of r k left) ≡ total_of r k all) [
+          elim (finmap.get m q) as (λ o. finmap.get m q ≡ o → option_map (in_live (merged_within part)) o ≡ Some x → merged x.live (total_of r k left) ≡ total_of r k all) [
             | None ↦ λ g n. absurd (none-some x n)
             | Some p ↦ λ g n.
                 let sum : merged (merged p.live part) (total_of r k left) ≡ total_of r k all =
                 ap (λ b. merged (merged p.live (cond b part empty_aggregate)) (total_of r k left)) (sym s) ∙ h.each k p (ap (finmap.get m) here ∙ g) in
                 let counts : p.live.count + part.count + (total_of r k left).count ≡ (total_of r k all).count = ap (λ (a : Aggregate). a.count) sum in
                 let most = total-count r k all in
-                let fits : frozen_with part p.live ≡ merged p.live part = frozen_with-fits part p.live (omega (arith, counts, most, few)) in
-                let live : x.live ≡ merged p.live part = ap (λ (y : CellParts). y.live) (sym (same_Some (in_live (frozen_with part) p) x n)) ∙ fits in
+                let fits : merged_within part p.live ≡ merged p.live part = merged_within-fits part p.live (omega (arith, counts, most, few)) in
+                let live : x.live ≡ merged p.live part = ap (λ (y : CellParts). y.live) (sym (same_Some (in_live (merged_within part) p) x n)) ∙ fits in
                 ap (λ a. merged a (total_of r k left)) live ∙ sum
           ] refl e'
       | false ↦ λ s e'.
           ap (λ a. merged a (total_of r k left)) (sym (empty_behind x.live)) ∙ ap (λ b. merged (merged x.live (cond b part empty_aggregate)) (total_of r k left)) (sym s) ∙ h.each k x e'
-    ] refl (sym (get-changed m q (in_live (frozen_with part)) k) ∙ e)
+    ] refl (sym (get-changed m q (in_live (merged_within part)) k) ∙ e)
 
 -- the first fact of another cell
 pub pending-next : (f : Fact) (left all : List Fact) (r : Rule) (m : CellMap) (q : Cell) (part : Aggregate) → length all ≤ 2 ^ 62 → is_rolled r f ≡ true → IsPending (f ∷ left) all r m q part
-    → IsPending left all r (changed m q (in_live (frozen_with part))) (cell_of r f) (merged empty_aggregate (one_fact f))
+    → IsPending left all r (changed m q (in_live (merged_within part))) (cell_of r f) (merged empty_aggregate (one_fact f))
 pending-next f left all r m q part few rolled h =
-    let n : CellMap = changed m q (in_live (frozen_with part)) in
+    let n : CellMap = changed m q (in_live (merged_within part)) in
     pending-more f left all r n (cell_of r f) empty_aggregate rolled refl (pending-none (f ∷ left) all r n (cell_of r f) (pending-added (f ∷ left) all r m q part few h))
 
 -- ---- frozen parts stay
 
-pub frozen-stays : (m : CellMap) (q : Cell) (part : Aggregate) → KeepsFrozen m (changed m q (in_live (frozen_with part)))
+pub frozen-stays : (m : CellMap) (q : Cell) (part : Aggregate) → KeepsFrozen m (changed m q (in_live (merged_within part)))
 frozen-stays m q part = λ k.
-    ap (option_map (λ (p : CellParts). p.frozen)) (get-changed m q (in_live (frozen_with part)) k)
-    ∙ elim (same_cell k q) as (λ b. same_cell k q ≡ b → option_map (λ (p : CellParts). p.frozen) (cond b (option_map (in_live (frozen_with part)) (finmap.get m q)) (finmap.get m k)) ≡ option_map (λ (p : CellParts). p.frozen) (finmap.get m k)) [
+    ap (option_map (λ (p : CellParts). p.frozen)) (get-changed m q (in_live (merged_within part)) k)
+    ∙ elim (same_cell k q) as (λ b. same_cell k q ≡ b → option_map (λ (p : CellParts). p.frozen) (cond b (option_map (in_live (merged_within part)) (finmap.get m q)) (finmap.get m k)) ≡ option_map (λ (p : CellParts). p.frozen) (finmap.get m k)) [
       | true ↦ λ s.
-          elim (finmap.get m q) as (λ o. option_map (λ (p : CellParts). p.frozen) (option_map (in_live (frozen_with part)) o) ≡ option_map (λ (p : CellParts). p.frozen) o) [ None ↦ refl | Some p ↦ refl ]
+          elim (finmap.get m q) as (λ o. option_map (λ (p : CellParts). p.frozen) (option_map (in_live (merged_within part)) o) ≡ option_map (λ (p : CellParts). p.frozen) o) [ None ↦ refl | Some p ↦ refl ]
           ∙ ap (λ z. option_map (λ (p : CellParts). p.frozen) (finmap.get m z)) (sym (same_cell-eq k q s))
       | false ↦ λ s. refl
     ] refl
@@ -131,7 +130,7 @@ frozen-then m n o a b = λ k. b k ∙ a k
 -- ---- under the rollup series of a rule, which stay
 
 pub added_in-series : (before s : RollupState) (l : ℕ) (r : Rule) (c : Column) (index : ℤ) (part : Aggregate) → s ≡ with_frozen s.grid.cells before → IsRollupSeriesOf r c before.grid.series_list (Some l)
-    → added_in s l index part ≡ changed s.grid.cells (cell_at index (rollup_series_under r c)) (in_live (frozen_with part))
+    → added_in s l index part ≡ changed s.grid.cells (cell_at index (rollup_series_under r c)) (in_live (merged_within part))
 added_in-series before s l r c index part e is =
     let key : get_or s.grid.series_list l no_rollup_series ≡ rollup_series_under r c = ap (λ (x : RollupState). get_or x.grid.series_list l no_rollup_series) e ∙ get_or_from_slice_get before.grid.series_list l (rollup_series_under r c) no_rollup_series is.1 in
-    ap (λ k. changed s.grid.cells (cell_at index k) (in_live (frozen_with part))) key
+    ap (λ k. changed s.grid.cells (cell_at index k) (in_live (merged_within part))) key

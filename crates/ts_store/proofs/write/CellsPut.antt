@@ -6,7 +6,7 @@ use Rattle.ts_core.specs.lists.Members.{AllDistinct}
 use Rattle.ts_core.specs.facts.Facts.{Column, Fact}
 use Rattle.ts_core.specs.settings.Settings.{Rule}
 use Rattle.ts_core.specs.store.Marks.{index_of}
-use Rattle.ts_core.specs.aggregates.Aggregates.{Aggregate, aggregate_of_one, merged, IsSound}
+use Rattle.ts_core.specs.aggregates.Aggregates.{Aggregate, aggregate_of_one, merged, IsSound, merged_within}
 use Rattle.ts_core.specs.aggregates.MergeLaws.{aggregate_laws}
 use Rattle.ts_core.specs.aggregates.Remainders.{IsOnlyRest}
 use Rattle.ts_core.specs.store.Cells.{cell_of, is_rolled, is_in_cell, total_of}
@@ -14,7 +14,7 @@ use Rattle.ts_core.specs.lists.Changes.{changed, with_change}
 use Rattle.ts_core.specs.store.TwoParts.{in_live, with_live}
 use Rattle.ts_core.specs.store.StoreStates.{ColumnPoints, facts_of}
 use Rattle.ts_core.specs.store.StoreData.{IsLive}
-use Rattle.ts_core.specs.moves.StoreMoves.{frozen_with, refolded, put_cell}
+use Rattle.ts_core.specs.moves.StoreMoves.{refolded, put_cell}
 use Rattle.ts_core.proofs.store.Cuts.{one_fact}
 use Rattle.ts_core.proofs.aggregates.Folds.{fold-count}
 use Rattle.ts_core.proofs.lists.ListSteps.{length-filter}
@@ -56,8 +56,8 @@ module _ (r : Rule) (cs : List Column) (states : List ColumnState) (before : Lis
     -- of a new id
     pub put_added : (part : Aggregate) → old ≡ None → part ≡ aggregate_of_one f.time f.value → added_in s l index part ≡ put_cell r f (facts_of after) s.grid.cells
     put_added part none one =
-        ap (λ k. changed s.grid.cells k (in_live (frozen_with part))) key
-        ∙ ap (λ a. changed s.grid.cells (cell_of r f) (in_live (frozen_with a))) one
+        ap (λ k. changed s.grid.cells k (in_live (merged_within part))) key
+        ∙ ap (λ a. changed s.grid.cells (cell_of r f) (in_live (merged_within a))) one
         ∙ add_puts before after f put.distinct put.put r s.grid.cells live is.0 (subst (WasThere before f) none put.was)
         (λ p e.
         let inside : List Fact = filter (is_in_cell r (cell_of r f)) (facts_of before) in

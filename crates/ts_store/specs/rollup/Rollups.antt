@@ -7,11 +7,10 @@ use Rattle.ts_core.specs.lists.Members.{AllDistinct}
 use Rattle.ts_core.specs.facts.Facts.{Column, same_text}
 use Rattle.ts_core.specs.facts.Tags.{tag_values}
 use Rattle.ts_core.specs.settings.Settings.{Rule}
-use Rattle.ts_core.specs.aggregates.Aggregates.{Aggregate}
+use Rattle.ts_core.specs.aggregates.Aggregates.{Aggregate, merged_within}
 use Rattle.ts_core.specs.lists.Changes.{changed}
 use Rattle.ts_core.specs.store.TwoParts.{coded_parts, in_frozen, in_live, with_live}
 use Rattle.ts_core.specs.store.StoreStates.{CellParts}
-use Rattle.ts_core.specs.moves.StoreMoves.{frozen_with}
 use Rattle.ts_core.specs.store.StoreCodes.{coded_aggregate}
 use Rattle.ts_core.specs.store.StoreData.{CellMap, no_parts}
 use Rattle.ts_cells.specs.CellChanges.{inserted_if_absent}
@@ -148,11 +147,11 @@ cell_created_in s (Some l) index = inserted_if_absent s.grid.cells (cell_in s.gr
 -- merges a part into the frozen part of the cell of a bucket in a rollup series; does nothing without a rollup series
 abbrev pub frozen_in : RollupState → Option ℕ → ℤ → Aggregate → CellMap
 frozen_in s None index part = s.grid.cells
-frozen_in s (Some l) index part = changed s.grid.cells (cell_in s.grid.series_list index l) (in_frozen (frozen_with part))
+frozen_in s (Some l) index part = changed s.grid.cells (cell_in s.grid.series_list index l) (in_frozen (merged_within part))
 
 -- merges a part into the live part of a cell
 abbrev pub added_in : RollupState → ℕ → ℤ → Aggregate → CellMap
-added_in s l index part = changed s.grid.cells (cell_in s.grid.series_list index l) (in_live (frozen_with part))
+added_in s l index part = changed s.grid.cells (cell_in s.grid.series_list index l) (in_live (merged_within part))
 
 -- replaces the live part of a cell
 abbrev pub corrected_in : RollupState → ℕ → ℤ → Aggregate → CellMap

@@ -1,12 +1,11 @@
 use Rattle.std.proofs.Common.{rules, ◌≡◌, ◌+◌, ◌≤◌, ◌^◌, ℤ, pos, List, [], ◌∷◌, length, refl, sym, ◌∙◌, ap, subst, arith, to_z, of_z, SFits, to_z-of_z}
 use Rattle.std.specs.Int.{w128}
 use Rattle.ts_core.specs.store.Marks.{index_of}
-use Rattle.ts_core.specs.aggregates.Aggregates.{Aggregate, empty_aggregate, merged, aggregate_of_one}
+use Rattle.ts_core.specs.aggregates.Aggregates.{Aggregate, empty_aggregate, merged, aggregate_of_one, merged_within}
 use Rattle.ts_core.specs.store.Cells.{Cell, cell_of}
 use Rattle.ts_core.specs.lists.Changes.{changed}
 use Rattle.ts_core.specs.settings.Settings.{Rule}
 use Rattle.ts_core.specs.store.StoreData.{CellMap}
-use Rattle.ts_core.specs.moves.StoreMoves.{frozen_with}
 use Rattle.ts_core.specs.store.StoreStates.{fact_at}
 use Rattle.ts_core.specs.store.TwoParts.{in_frozen}
 use Rattle.ts_cells.specs.Grids.{cell_at}
@@ -73,9 +72,9 @@ loop-time-preserved g c =
                 let q : Cell = cell_at bucket (rollup_series_under r d) in
                 let h : IsFolded r d all before (p ∷ rest) old.grid.cells q folded =
                 subst (λ (ps : List (ℤ × ℤ)). IsFolded r d all before ps old.grid.cells q folded) left (c.loop-time.invariant.cells d n at series fit) in
-                let frozen : c.if-index-bucket.rollup.grid.cells ≡ changed old.grid.cells q (in_frozen (frozen_with folded)) =
+                let frozen : c.if-index-bucket.rollup.grid.cells ≡ changed old.grid.cells q (in_frozen (merged_within folded)) =
                 ap (λ (s : RollupState). s.grid.cells) next ∙ frozen_in-series c.args.rollup.now old c.args.column n r d bucket folded c.loop-time.invariant.series_list at series in
-                folded-as r d all before rest (changed old.grid.cells q (in_frozen (frozen_with folded))) c.if-index-bucket.rollup.grid.cells (cell_of r (fact_at d p)) (cell_at (to_z w128 c.if-index-bucket.bucket-bits) (rollup_series_under r d))
+                folded-as r d all before rest (changed old.grid.cells q (in_frozen (merged_within folded))) c.if-index-bucket.rollup.grid.cells (cell_of r (fact_at d p)) (cell_at (to_z w128 c.if-index-bucket.bucket-bits) (rollup_series_under r d))
                 (merged empty_aggregate one) c.merge-folded.result frozen (ap (λ i. cell_at i (rollup_series_under r d)) (w.bucket-is ∙ index)) (merge ∙ ap (λ a. merged a one) nothing)
                 (folded-next r d all before p rest old.grid.cells q folded series.0 h);
           }

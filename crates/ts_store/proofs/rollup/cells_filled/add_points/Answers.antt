@@ -1,12 +1,11 @@
 use Rattle.std.proofs.Common.{rules, ◌≡◌, ◌+◌, ◌≤◌, ◌^◌, ◌++◌, ℤ, pos, List, [], ◌∷◌, length, Some, None, refl, sym, ◌∙◌, ap, subst, arith, to_z, of_z, SFits, to_z-of_z}
 use Rattle.std.specs.Int.{w128}
 use Rattle.ts_core.specs.store.Marks.{index_of}
-use Rattle.ts_core.specs.aggregates.Aggregates.{Aggregate, empty_aggregate, merged, aggregate_of_one}
+use Rattle.ts_core.specs.aggregates.Aggregates.{Aggregate, empty_aggregate, merged, aggregate_of_one, merged_within}
 use Rattle.ts_core.specs.store.Cells.{Cell, cell_of}
 use Rattle.ts_core.specs.lists.Changes.{changed}
 use Rattle.ts_core.specs.settings.Settings.{Rule}
 use Rattle.ts_core.specs.store.StoreData.{CellMap}
-use Rattle.ts_core.specs.moves.StoreMoves.{frozen_with}
 use Rattle.ts_core.specs.store.StoreStates.{fact_at, facts_at}
 use Rattle.ts_core.specs.store.TwoParts.{in_live}
 use Rattle.ts_cells.specs.Grids.{cell_at}
@@ -65,9 +64,9 @@ loop-time-preserved g c =
                 let q : Cell = cell_at bucket (rollup_series_under r d) in
                 let h : IsPending (facts_at d (p ∷ rest) ++ others) all r old.grid.cells q folded =
                 subst (λ (ps : List (ℤ × ℤ)). IsPending (facts_at d ps ++ others) all r old.grid.cells q folded) left (c.loop-time.invariant.live d others all series most filled) in
-                let added : c.if-index-bucket.rollup.grid.cells ≡ changed old.grid.cells q (in_live (frozen_with folded)) =
+                let added : c.if-index-bucket.rollup.grid.cells ≡ changed old.grid.cells q (in_live (merged_within folded)) =
                 ap (λ (s : RollupState). s.grid.cells) next ∙ added_in-series c.args.rollup.now old c.in-Some.series r d bucket folded c.loop-time.invariant.series_list series in
-                pending-as (facts_at d rest ++ others) all r (changed old.grid.cells q (in_live (frozen_with folded))) c.if-index-bucket.rollup.grid.cells (cell_of r (fact_at d p)) (cell_at (to_z w128 c.if-index-bucket.bucket-bits) (rollup_series_under r d))
+                pending-as (facts_at d rest ++ others) all r (changed old.grid.cells q (in_live (merged_within folded))) c.if-index-bucket.rollup.grid.cells (cell_of r (fact_at d p)) (cell_at (to_z w128 c.if-index-bucket.bucket-bits) (rollup_series_under r d))
                 (merged empty_aggregate one) c.merge-folded.result added (ap (λ i. cell_at i (rollup_series_under r d)) (w.bucket-is ∙ index)) (merge ∙ ap (λ a. merged a one) nothing)
                 (pending-next (fact_at d p) (facts_at d rest ++ others) all r old.grid.cells q folded most series.0 h);
           }
@@ -106,7 +105,7 @@ returns-clause-live g c = λ d others all is most filled.
     let left : c.loop-time.time-iterator ≡ [] = search rules in
     let h : IsPending others all r old.grid.cells q folded =
     subst (λ (ps : List (ℤ × ℤ)). IsPending (facts_at d ps ++ others) all r old.grid.cells q folded) left (c.loop-time.invariant.live d others all series most filled) in
-    let end : c.add-2.new.self.grid.cells ≡ changed old.grid.cells q (in_live (frozen_with folded)) =
+    let end : c.add-2.new.self.grid.cells ≡ changed old.grid.cells q (in_live (merged_within folded)) =
     ap (λ (s : RollupState). s.grid.cells) c.add-2.ensures ∙ added_in-series c.args.rollup.now old c.in-Some.series r d bucket folded c.loop-time.invariant.series_list series in
     subst (λ (n : CellMap). IsFilledBut others all r n) (sym end) (pending-added others all r old.grid.cells q folded most h)
 
