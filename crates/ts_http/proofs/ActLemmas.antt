@@ -12,7 +12,7 @@ use Rattle.ts_reply.specs.Explaining.{IsExplanation}
 use Rattle.ts_reply.specs.declared.answering.Reply.{Reply}
 use Rattle.ts_reply.specs.declared.epoch.Epoch.{Epoch}
 use Rattle.ts_http.specs.Acts.{Replied, refusing, batch_reply, precision_in, epoch_parameter, explain_parameter, value_in, Writes, Queries}
-use Rattle.ts_store.specs.write.LineTexts.{LineState, IsIn, refusal_text}
+use Rattle.ts_store.specs.write.LineTexts.{LineState, IsStateOf, refusal_text}
 use Rattle.ts_store.specs.declared.write.write_text.LineOutcome.{LineOutcome}
 use Rattle.ts_http.specs.Batches.{refusals_of}
 use Rattle.ts_http.specs.OutcomeReplies.{reply_of, WritesAs, QueriesAs, answered_reply}
@@ -68,13 +68,13 @@ module _ (now : ℤ) (query body : Text) (k : StoreData) where
   pub write_no_text : (IsUtf8 body → ⊥) → WritesAs now query body k (outcomes.Refused refusals.BodyNotText) k
   write_no_text none = λ s i. (s, Writes.not_text none, i)
 
-  pub lines_written : (E : Type 0) (precision : TimeUnit) (new : StoreData) (tally : Tally) (o : Outcome) → IsUtf8 body → precision_in query ≡ Some precision → ((s : LineState) → IsIn s k → WritesLines precision now s body {E = E} (Ok tally) new)
+  pub lines_written : (E : Type 0) (precision : TimeUnit) (new : StoreData) (tally : Tally) (o : Outcome) → IsUtf8 body → precision_in query ≡ Some precision → ((s : LineState) → IsStateOf s k → WritesLines precision now s body {E = E} (Ok tally) new)
       → ((os : List LineOutcome) → TallyIs (map refusal_text os) tally → reply_of false o ≡ batch_reply (refusals_of os)) → WritesAs now query body k o new
   lines_written E precision new tally o utf8 p did told = λ s i.
       let d = did s i in
       (d.1, subst (λ (r : Replied). Writes now s query body r d.1) (sym (told d.0 d.3)) (Writes.writes precision d.0 d.1 utf8 p d.2), d.4)
 
-  pub lines_stopped : (E : Type 0) (precision : TimeUnit) (new : StoreData) (e : E) → IsUtf8 body → precision_in query ≡ Some precision → ((s : LineState) → IsIn s k → WritesLines precision now s body {E = E} (Err e) new) → WritesAs now query body k (outcomes.Refused refusals.OutOfMemory) new
+  pub lines_stopped : (E : Type 0) (precision : TimeUnit) (new : StoreData) (e : E) → IsUtf8 body → precision_in query ≡ Some precision → ((s : LineState) → IsStateOf s k → WritesLines precision now s body {E = E} (Err e) new) → WritesAs now query body k (outcomes.Refused refusals.OutOfMemory) new
   lines_stopped E precision new e utf8 p did = λ s i.
       let d = did s i in
       (d.0, Writes.stops precision d.0 utf8 p d.1, d.2)

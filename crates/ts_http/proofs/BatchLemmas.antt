@@ -5,7 +5,7 @@ use Rattle.std.proofs.lemmas.List.{map-append}
 use Rattle.ts_core.specs.facts.Facts.{Text}
 use Rattle.ts_core.specs.store.StoreData.{StoreData}
 use Rattle.ts_core.specs.declared.facts.time_unit.TimeUnit.{TimeUnit}
-use Rattle.ts_store.specs.write.LineTexts.{LineState, IsIn, WritesText, WritesFrom, refusal_of, refusal_text, line_refusal_text}
+use Rattle.ts_store.specs.write.LineTexts.{LineState, IsStateOf, WritesText, WritesFrom, refusal_of, refusal_text, line_refusal_text}
 use Rattle.ts_store.specs.declared.write.write_text.LineOutcome.{LineOutcome}
 use Rattle.ts_store.specs.declared.write.write_text.LineRefusal.{LineRefusal}
 use Rattle.ts_http.specs.Batches.{TakesLines, body_lines, onto_first_reply, refusals_from}
@@ -110,13 +110,13 @@ pub record SoFar (precision : TimeUnit) (now : ℤ) (s : LineState) (lines : Lis
   pub lines_are : lines ≡ done ++ left
   pub took : TakesLines precision now s done outcomes mid
   pub tally : TallyIs (map refusal_text outcomes) t
-  pub here : IsIn mid new
+  pub here : IsStateOf mid new
 
-pub begins : (precision : TimeUnit) (now : ℤ) (s : LineState) (lines : List Text) (t : Tally) (k : StoreData) → TallyIs [] t → IsIn s k → SoFar precision now s lines t lines k
+pub begins : (precision : TimeUnit) (now : ℤ) (s : LineState) (lines : List Text) (t : Tally) (k : StoreData) → TallyIs [] t → IsStateOf s k → SoFar precision now s lines t lines k
 begins precision now s lines t k tally i = record { done = []; outcomes = []; mid = s; lines_are = refl; took = refl; tally = tally; here = i }
 
 module _ (E : Type 0) (precision : TimeUnit) (now : ℤ) (s : LineState) (lines : List Text) (t t' : Tally) (text : Text) (left rest : List Text) (k k' : StoreData) (o : LineOutcome) (refusal : Option LineRefusal)
-    (so : SoFar precision now s lines t left k) (is : left ≡ text ∷ rest) (did : (m : LineState) → IsIn m k → WritesFrom precision now m text {E = E} (Ok o) k') (of : refusal ≡ refusal_of o)
+    (so : SoFar precision now s lines t left k) (is : left ≡ text ∷ rest) (did : (m : LineState) → IsStateOf m k → WritesFrom precision now m text {E = E} (Ok o) k') (of : refusal ≡ refusal_of o)
     (counts : (os : List (Option Text)) → TallyIs os t → TallyIs (os ++ option_map line_refusal_text refusal ∷ []) t') where
   pub goes_on : SoFar precision now s lines t' rest k'
   goes_on =
@@ -136,7 +136,7 @@ all_done E precision now s body t k so =
     (so.outcomes, so.mid, subst (λ (l : List Text). TakesLines precision now s l so.outcomes so.mid) (sym (so.lines_are ∙ append-nil so.done)) so.took, so.tally, so.here)
 
 pub stopped : (E : Type 0) (precision : TimeUnit) (now : ℤ) (s : LineState) (body : Text) (t : Tally) (text : Text) (left rest : List Text) (k k' : StoreData) (e : E) → SoFar precision now s (body_lines body) t left k → left ≡ text ∷ rest
-    → ((m : LineState) → IsIn m k → WritesFrom precision now m text {E = E} (Err e) k') → WritesLines precision now s body {E = E} (Err e) k'
+    → ((m : LineState) → IsStateOf m k → WritesFrom precision now m text {E = E} (Err e) k') → WritesLines precision now s body {E = E} (Err e) k'
 stopped E precision now s body t text left rest k k' e so is did =
     let d = did so.mid so.here in
     (d.0, record { done = so.done; line = text; others = rest; lines_are = so.lines_are ∙ ap (λ (l : List Text). so.done ++ l) is; outcomes = so.outcomes; mid = so.mid; took = so.took; wanted = d.1 }, d.2)

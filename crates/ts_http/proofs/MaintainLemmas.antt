@@ -11,7 +11,7 @@ use Rattle.ts_core.specs.store.StoreData.{StoreData, state_of, OfEachHistory, Go
 use Rattle.ts_core.specs.moves.StoreMoves.{run_begun}
 use Rattle.ts_store.specs.retain.WholeRuns.{steps_taken}
 use Rattle.ts_http.specs.Acts.{Replied, refusing, answer_reply, Maintains}
-use Rattle.ts_store.specs.write.LineTexts.{LineState, IsIn}
+use Rattle.ts_store.specs.write.LineTexts.{LineState, IsStateOf}
 use Rattle.ts_http.specs.Maintaining.{steps_of_parameter, OpensRun, run_opened, left_in, stepped, with_steps, progress_text, run_text}
 use Rattle.ts_http.specs.MaintainSteps.{HasStepped}
 use Rattle.ts_http.specs.OutcomeReplies.{reply_of, MaintainsAs}
@@ -28,8 +28,8 @@ run_goes_on now k e = ap (λ b. cond b k (run_begun now k)) e
 pub run_begins_now : (now : ℤ) (k : StoreData) → k.running ≡ false → run_opened now k ≡ run_begun now k
 run_begins_now now k e = ap (λ b. cond b k (run_begun now k)) e
 
-opens_by : (now : ℤ) (s : LineState) (k : StoreData) (b : Bool) → k.running ≡ b → (k.running ≡ false → GoesOn k (Begin now) (run_begun now k)) → IsIn s k
-    → (opened : LineState) × OpensRun now s opened × IsIn opened (cond b k (run_begun now k))
+opens_by : (now : ℤ) (s : LineState) (k : StoreData) (b : Bool) → k.running ≡ b → (k.running ≡ false → GoesOn k (Begin now) (run_begun now k)) → IsStateOf s k
+    → (opened : LineState) × OpensRun now s opened × IsStateOf opened (cond b k (run_begun now k))
 opens_by now s k true e begins i = (s, OpensRun.goes_on (i.stands.running.0 e), i)
 opens_by now s k false e begins i = (
   record s { history = Begin now ∷ s.history },
@@ -37,7 +37,7 @@ opens_by now s k false e begins i = (
   record { stands = begins e s.opening s.history i.stands; series = i.series },
 )
 
-pub opens : (now : ℤ) (s : LineState) (k : StoreData) → (k.running ≡ false → GoesOn k (Begin now) (run_begun now k)) → IsIn s k → (opened : LineState) × OpensRun now s opened × IsIn opened (run_opened now k)
+pub opens : (now : ℤ) (s : LineState) (k : StoreData) → (k.running ≡ false → GoesOn k (Begin now) (run_begun now k)) → IsStateOf s k → (opened : LineState) × OpensRun now s opened × IsStateOf opened (run_opened now k)
 opens now s k begins i = opens_by now s k k.running refl begins i
 
 -- ---- steps

@@ -13,7 +13,7 @@ use Rattle.ts_http.specs.OutcomeReplies.{AddsAs, DropsAs, DropsNamed, reply_of}
 use Rattle.ts_http.specs.declared.outcome.Outcome.{Outcome}
 use Rattle.ts_http.specs.declared.outcome.Outcome.TheVariants as outcomes
 use Rattle.ts_http.specs.declared.refusal.Refusal.TheVariants as refusals
-use Rattle.ts_store.specs.write.LineTexts.{IsIn}
+use Rattle.ts_store.specs.write.LineTexts.{IsStateOf}
 use Rattle.ts_store.specs.rules.RuleTexts.{rule_for, settings_in, low_in, with_rule_added, with_rule_dropped, TextComes}
 use Rattle.ts_store.specs.rules.RulesChanged.{RuleGoes}
 use Rattle.ts_store.specs.declared.rules.rule_text.AddedRule.{AddedRule}
@@ -57,7 +57,7 @@ spelled = sym (ap (λ (t : Text). codes "fault " ++ (t ++ [])) (decimal_digit 8 
 pub drop_refused : (name : Text) (k new : StoreData) (o : Outcome) → is_named k.settings.rules name ≡ false → new ≡ k → reply_of false o ≡ bad_reply (error_json (codes "fault 8")) → DropsNamed name k o new
 drop_refused name k new o none same told = λ query n. λ s i.
     let reply : reply_of false o ≡ bad_reply (error_json unknown_rule_text) = told ∙ ap (λ (t : Text). bad_reply (error_json t)) spelled in
-    (s, subst (λ (r : Replied). DeletesRule s query r s) (sym reply) (DeletesRule.refuses name n (subst (λ (z : Settings). is_named z.rules name ≡ false) i.stands.settings none)), subst (IsIn s) (sym same) i)
+    (s, subst (λ (r : Replied). DeletesRule s query r s) (sym reply) (DeletesRule.refuses name n (subst (λ (z : Settings). is_named z.rules name ≡ false) i.stands.settings none)), subst (IsStateOf s) (sym same) i)
 
 pub was_dropped : (name : Text) (k new : StoreData) (o : Outcome) → IsTrue (is_named k.settings.rules name) → RuleGoes k new name → reply_of false o ≡ answer_reply true (dropped_body name) → DropsNamed name k o new
 was_dropped name k new o named goes told = λ query n. λ s i.

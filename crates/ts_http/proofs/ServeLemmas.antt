@@ -27,7 +27,7 @@ use Rattle.ts_http.specs.declared.serve.IoFault.{IoFault}
 use Rattle.ts_http.specs.declared.serve.IoFault.TheVariants.{Reader, Writer}
 use Rattle.ts_http.specs.declared.serve.Served.{Served}
 use Rattle.ts_http.specs.declared.serve.Served.TheVariants as served
-use Rattle.ts_store.specs.write.LineTexts.{LineState, IsIn}
+use Rattle.ts_store.specs.write.LineTexts.{LineState, IsStateOf}
 use Rattle.ts_http.specs.Maintaining.{left_in}
 use Rattle.ts_http.specs.OutcomeReplies.{WritesAs, QueriesAs, MaintainsAs, AddsAs, DropsAs, ActsAs, reply_of}
 use Rattle.ts_http.specs.declared.outcome.Outcome.{Outcome}
@@ -74,9 +74,9 @@ spans_within came spans found w = spans_by_parts found.len (length came) (take f
 
 -- ---- the parts of a head
 
-refusal_served : (now : ℤ) (s : LineState) (bytes : Text) (route : Route) (old new : StoreData) (o : Outcome) (r : Refusal) → IsIn s old → o ≡ outcomes.Refused r → new ≡ old → Asks bytes (Refuses r route false)
-    → (s' : LineState) × Serves now (left_in now old) s bytes (served.Reply (reply_of false o).0 route) (reply_of false o).1 s' × IsIn s' new
-refusal_served now s bytes route old new o r i oe ne asks = (s, subst (λ (p : Outcome). Serves now (left_in now old) s bytes (served.Reply (reply_of false p).0 route) (reply_of false p).1 s) (sym oe) (Serves.refuses r route false asks), subst (IsIn s) (sym ne) i)
+refusal_served : (now : ℤ) (s : LineState) (bytes : Text) (route : Route) (old new : StoreData) (o : Outcome) (r : Refusal) → IsStateOf s old → o ≡ outcomes.Refused r → new ≡ old → Asks bytes (Refuses r route false)
+    → (s' : LineState) × Serves now (left_in now old) s bytes (served.Reply (reply_of false o).0 route) (reply_of false o).1 s' × IsStateOf s' new
+refusal_served now s bytes route old new o r i oe ne asks = (s, subst (λ (p : Outcome). Serves now (left_in now old) s bytes (served.Reply (reply_of false p).0 route) (reply_of false p).1 s) (sym oe) (Serves.refuses r route false asks), subst (IsStateOf s) (sym ne) i)
 
 module _ (came : Text) (spans : List HeaderSpan) (found : RequestSpans) (head : RequestHead) (at : IsRequestAt came spans found head) where
   -- a head that is refused
@@ -93,21 +93,21 @@ module _ (came : Text) (spans : List HeaderSpan) (found : RequestSpans) (head : 
   pub asks_taken : (bytes rest : Text) (now : ℤ) (route : Route) (method : Method) (query : Text) (len : ℕ) (old new : StoreData) (o : Outcome) (s : LineState) → IsWholeHead bytes head rest
       → route ≡ route_of (path_of (span_bytes came found.path)) → method ≡ method_of (span_bytes came found.method) → query ≡ target_query (span_bytes came found.path)
       → refused route method (map (header_bytes came) (take found.headers spans)) ≡ None → len ≡ body_length method (map (header_bytes came) (take found.headers spans))
-      → ActedOn now route method query rest len old o new → IsIn s old
-      → (s' : LineState) × Serves now (left_in now old) s bytes (served.Reply (reply_of false o).0 route) (reply_of false o).1 s' × IsIn s' new
+      → ActedOn now route method query rest len old o new → IsStateOf s old
+      → (s' : LineState) × Serves now (left_in now old) s bytes (served.Reply (reply_of false o).0 route) (reply_of false o).1 s' × IsStateOf s' new
   asks_taken bytes rest now route method query len old new o s whole er em eq e size acted i =
       let route_is : route ≡ route_in head = er ∙ ap (λ t. route_of (path_of t)) at.path in
       let method_is : method ≡ method_in head = em ∙ ap method_of at.method in
       let query_is : query ≡ target_query head.target = eq ∙ ap target_query at.path in
       let taken : is_taken head = sym (λ j. refused (route_is j) (method_is j) (at.fields j)) ∙ e in
       let len_is : len ≡ body_length (method_in head) (fields_of head) = size ∙ (λ j. body_length (method_is j) (at.fields j)) in
-      ⊎_elim {C = (s' : LineState) × Serves now (left_in now old) s bytes (served.Reply (reply_of false o).0 route) (reply_of false o).1 s' × IsIn s' new}
+      ⊎_elim {C = (s' : LineState) × Serves now (left_in now old) s bytes (served.Reply (reply_of false o).0 route) (reply_of false o).1 s' × IsStateOf s' new}
       (λ w.
       let d = w.4 s i in
       let asks : Asks bytes (Wants route method query w.0) = subst (λ q. Asks bytes (Wants q method query w.0)) (sym route_is)
       (subst (λ m. Asks bytes (Wants (route_in head) m query w.0)) (sym method_is) (subst (λ q. Asks bytes (Wants (route_in head) (method_in head) q w.0)) (sym query_is) (Asks.wants head rest w.0 w.1 whole taken w.2 (w.3 ∙ len_is)))) in
       (d.0, Serves.acts route method query w.0 (reply_of false o) d.0 asks d.1, d.2))
-      (λ w. ⊎_elim {C = (s' : LineState) × Serves now (left_in now old) s bytes (served.Reply (reply_of false o).0 route) (reply_of false o).1 s' × IsIn s' new}
+      (λ w. ⊎_elim {C = (s' : LineState) × Serves now (left_in now old) s bytes (served.Reply (reply_of false o).0 route) (reply_of false o).1 s' × IsStateOf s' new}
       (λ cut.
       let asks : Asks bytes (Refuses refusals.BodyEndsEarly route false) = subst (λ q. Asks bytes (Refuses refusals.BodyEndsEarly q false)) (sym route_is) (Asks.cut head rest whole taken (omega (arith, cut.0, len_is))) in
       refusal_served now s bytes route old new o refusals.BodyEndsEarly i cut.1 cut.2 asks)
@@ -160,7 +160,7 @@ nothing_served now old source source' sink came c h f t = record {
 }
 
 pub sent_told : (now : ℤ) (old new : StoreData) (source source' : Input) (sink sink' : Output) (o : Outcome) (route : Route) (to_head : Bool) (came : Text) (result : Result Served IoFault) → IsSent o route to_head sink result sink' → Consumes source.remaining source'.remaining came
-    → ((s : LineState) → IsIn s old → (s' : LineState) × Serves now (left_in now old) s (request_of came source') (served.Reply (reply_of to_head o).0 route) (reply_of to_head o).1 s' × IsIn s' new)
+    → ((s : LineState) → IsStateOf s old → (s' : LineState) × Serves now (left_in now old) s (request_of came source') (served.Reply (reply_of to_head o).0 route) (reply_of to_head o).1 s' × IsStateOf s' new)
     → source'.failures ≡ source.failures → source'.reads ≤ source.reads + request_reads → IsServed now old source sink result new source' sink'
 sent_told now old new source source' sink sink' o route to_head came (Ok x) sent c did f t = record {
   answered = (came, c, λ s i. let d = did s i in ((reply_of to_head o).1, d.0, subst (λ (v : Served). Serves now (left_in now old) s (request_of came source') v (reply_of to_head o).1 d.0) (sym sent.ok.0) d.1, d.2, sent.ok.1));

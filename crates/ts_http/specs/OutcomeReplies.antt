@@ -5,7 +5,7 @@ use Rattle.ts_core.specs.store.StoreData.{StoreData}
 use Rattle.ts_reply.specs.declared.answering.Reply.{Reply}
 use Rattle.ts_http.specs.Acts.{Replied, refusing, done_reply, answer_reply, Writes, Queries, Maintains, PostsRule, name_in, DeletesRule, Acts}
 use Rattle.ts_http.specs.Maintaining.{left_in}
-use Rattle.ts_store.specs.write.LineTexts.{LineState, IsIn}
+use Rattle.ts_store.specs.write.LineTexts.{LineState, IsStateOf}
 use Rattle.ts_http.specs.HttpReplies.{reply_text, refusal_status, refusal_reply}
 use Rattle.ts_http.specs.declared.outcome.Outcome.{Outcome}
 use Rattle.ts_http.specs.declared.outcome.Outcome.TheVariants.{Refused, Done, Brief, Answered}
@@ -27,23 +27,23 @@ IsValueOr value refusal (Err r) = (r ≡ OutOfMemory) ⊎ ((value ≡ None) × (
 
 -- a /write in each state that its store was in
 abbrev pub WritesAs : ℤ → Text → Text → StoreData → Outcome → StoreData → Type 0
-WritesAs now query body old outcome new = (s : LineState) → IsIn s old → (s' : LineState) × Writes now s query body (reply_of false outcome) s' × IsIn s' new
+WritesAs now query body old outcome new = (s : LineState) → IsStateOf s old → (s' : LineState) × Writes now s query body (reply_of false outcome) s' × IsStateOf s' new
 
 -- a /query in each state that its store is in
 abbrev pub QueriesAs : ℤ → Text → Text → StoreData → Outcome → Type 0
-QueriesAs now query body k outcome = (s : LineState) → IsIn s k → Queries now s query body (reply_of false outcome)
+QueriesAs now query body k outcome = (s : LineState) → IsStateOf s k → Queries now s query body (reply_of false outcome)
 
 -- a /maintain in each state that its store was in
 abbrev pub MaintainsAs : ℤ → Text → StoreData → Outcome → StoreData → Type 0
-MaintainsAs now query old outcome new = (s : LineState) → IsIn s old → (s' : LineState) × Maintains now (left_in now old) s query (reply_of false outcome) s' × IsIn s' new
+MaintainsAs now query old outcome new = (s : LineState) → IsStateOf s old → (s' : LineState) × Maintains now (left_in now old) s query (reply_of false outcome) s' × IsStateOf s' new
 
 -- a POST of /rules in each state that its store was in
 abbrev pub AddsAs : Text → StoreData → Outcome → StoreData → Type 0
-AddsAs body old outcome new = (s : LineState) → IsIn s old → (s' : LineState) × PostsRule s body (reply_of false outcome) s' × IsIn s' new
+AddsAs body old outcome new = (s : LineState) → IsStateOf s old → (s' : LineState) × PostsRule s body (reply_of false outcome) s' × IsStateOf s' new
 
 -- a DELETE of /rules in each state that its store was in
 abbrev pub DropsAs : Text → StoreData → Outcome → StoreData → Type 0
-DropsAs query old outcome new = (s : LineState) → IsIn s old → (s' : LineState) × DeletesRule s query (reply_of false outcome) s' × IsIn s' new
+DropsAs query old outcome new = (s : LineState) → IsStateOf s old → (s' : LineState) × DeletesRule s query (reply_of false outcome) s' × IsStateOf s' new
 
 -- dropping the rule with a name, in each state that the store was in
 abbrev pub DropsNamed : Text → StoreData → Outcome → StoreData → Type 0
@@ -52,7 +52,7 @@ DropsNamed name old outcome new = (query : Text) → name_in query ≡ Some name
 -- a request in each state that its store was in
 abbrev pub ActsAs : ℤ → Route → Method → Text → Text → StoreData → Outcome → StoreData → Type 0
 ActsAs now route method query body old outcome new =
-    (s : LineState) → IsIn s old → (s' : LineState) × Acts now (left_in now old) s query body route method (reply_of false outcome) s' × IsIn s' new
+    (s : LineState) → IsStateOf s old → (s' : LineState) × Acts now (left_in now old) s query body route method (reply_of false outcome) s' × IsStateOf s' new
 
 -- the reply to queries, or out of memory
 abbrev pub answered_reply : {E : Type 0} → Result Reply E → Replied

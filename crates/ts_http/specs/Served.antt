@@ -9,7 +9,7 @@ use Rattle.ts_core.specs.declared.text.fault_code.FaultCode.{FaultCode}
 use Rattle.ts_core.specs.declared.text.fault_code.FaultCode.TheVariants as code
 use Rattle.ts_core.specs.declared.text.fault_text.FaultDetail.TheVariants.{Alone}
 use Rattle.ts_http.specs.Acts.{Replied, Acts}
-use Rattle.ts_store.specs.write.LineTexts.{LineState, IsIn}
+use Rattle.ts_store.specs.write.LineTexts.{LineState, IsStateOf}
 use Rattle.ts_http.specs.HttpReplies.{refusal_status, refusal_reply}
 use Rattle.ts_http.specs.Maintaining.{left_in}
 use Rattle.ts_http.specs.HeadsRead.{request_of}
@@ -35,7 +35,7 @@ pub data Serves (now : ℤ) (left : ℕ) (old : LineState) (bytes : Text) : Serv
 
 -- In each state that the store was in, the request was served so, and its whole reply or a prefix of it was sent.
 abbrev pub ServedAs : ℤ → Text → StoreData → Served → StoreData → (Text → Type 0) → Type 0
-ServedAs now bytes old served new Sent = (s : LineState) → IsIn s old → (text : Text) × (s' : LineState) × Serves now (left_in now old) s bytes served text s' × IsIn s' new × Sent text
+ServedAs now bytes old served new Sent = (s : LineState) → IsStateOf s old → (text : Text) × (s' : LineState) × Serves now (left_in now old) s bytes served text s' × IsStateOf s' new × Sent text
 
 -- the code of each in the table of all faults
 abbrev pub io_fault_code : IoFault → FaultCode

@@ -3,7 +3,7 @@ use Rattle.std.specs.Prelude.{◌≡◌, ℕ, ℤ, List, [], ◌∷◌, length, 
 use Rattle.ts_core.specs.facts.Facts.{Text}
 use Rattle.ts_core.specs.store.StoreData.{StoreData}
 use Rattle.ts_core.specs.declared.facts.time_unit.TimeUnit.{TimeUnit}
-use Rattle.ts_store.specs.write.LineTexts.{LineState, IsIn, line_refusal_text, refusal_text}
+use Rattle.ts_store.specs.write.LineTexts.{LineState, IsStateOf, line_refusal_text, refusal_text}
 use Rattle.ts_store.specs.declared.write.write_text.LineOutcome.{LineOutcome}
 use Rattle.ts_store.specs.declared.write.write_text.LineRefusal.{LineRefusal}
 use Rattle.ts_http.specs.Batches.{TakesLines, StopsAtLine, body_lines, refusals_from}
@@ -24,5 +24,5 @@ pub record TallyIs (outcomes : List (Option Text)) (t : Tally) : Type 0 where
 
 -- the effect of the lines of a body on a store that was in this state
 abbrev pub WritesLines : TimeUnit → ℤ → LineState → Text → {E : Type 0} → Result Tally E → StoreData → Type 0
-WritesLines precision now s body (Ok tally) new = (outcomes : List LineOutcome) × (s' : LineState) × TakesLines precision now s (body_lines body) outcomes s' × TallyIs (map refusal_text outcomes) tally × IsIn s' new
-WritesLines precision now s body (Err e) new = (s' : LineState) × StopsAtLine precision now s (body_lines body) s' × IsIn s' new
+WritesLines precision now s body (Ok tally) new = (outcomes : List LineOutcome) × (s' : LineState) × TakesLines precision now s (body_lines body) outcomes s' × TallyIs (map refusal_text outcomes) tally × IsStateOf s' new
+WritesLines precision now s body (Err e) new = (s' : LineState) × StopsAtLine precision now s (body_lines body) s' × IsStateOf s' new

@@ -60,7 +60,7 @@ pub record IsField {X : Type 0} (f : Format X) (word : X → List ℕ) : Type 0 
   pub one : (x : X) → f.fields x ≡ word x ∷ []
   pub some : X
   pub some_fits : f.fits some
-  pub takes : (p q : Cursor) (x : X) → AreBytes p.rest → f.read p ≡ Ok (x, q) → f.fits x × (p.rest ≡ word x ++ q.rest) × (q.at ≡ p.at + length (word x))
+  pub reads_value : (p q : Cursor) (x : X) → AreBytes p.rest → f.read p ≡ Ok (x, q) → f.fits x × (p.rest ≡ word x ++ q.rest) × (q.at ≡ p.at + length (word x))
   pub again : (p : Cursor) (x : X) (rest : List ℕ) → f.fits x → p.rest ≡ word x ++ rest → f.read p ≡ Ok (x, record { at = p.at + length (word x); rest = rest })
   pub fails : (p : Cursor) (n : ℕ) → f.read p ≡ Err n → n ≡ p.at
   pub onward : (p : Cursor) → p.at ≤ reach (f.read p)
@@ -78,8 +78,8 @@ pub field_format : {X : Type 0} (f : Format X) (word : X → List ℕ) → IsFie
 field_format {X} f word t = record {
   some = t.some;
   some_fits = t.some_fits;
-  takes = λ p q x b e.
-      let k = t.takes p q x b e in
+  reads_value = λ p q x b e.
+      let k = t.reads_value p q x b e in
       let s : spelling f x ≡ word x = ap concat (t.one x) ∙ joined_one (word x) in
       record { fits = k.0; rest = k.1 ∙ ap (λ w. w ++ q.rest) (sym s); at = k.2 ∙ ap (λ w. p.at + length w) (sym s) };
   again = λ p x rest h e.
@@ -163,7 +163,7 @@ number_format w wide = field_format (number w) (to_be_bytes w) (record {
   one = λ n. refl;
   some = from_be_bytes w [];
   some_fits = wide.below [] (λ i. omega arith);
-  takes = number_takes w wide;
+  reads_value = number_takes w wide;
   again = number_again w wide;
   fails = number_fails w;
   onward = number_onward w;
@@ -186,7 +186,7 @@ signed_format w wide = field_format (signed_number w) (signed_word w) (record {
   one = λ z. refl;
   some = cast_signed w (from_be_bytes w []);
   some_fits = sfits_to_z {w = w} (Fits-of_lt {w = w} (wide.below [] (λ i. omega arith)));
-  takes = λ p q z b e.
+  reads_value = λ p q z b e.
       let s = bind_ok (read_number w p) (λ n. done (cast_signed w n.0, n.1)) (z, q) e in
       let t = number_takes w wide p s.0.1 s.0.0 b s.1 in
       let z-is : cast_signed w s.0.0 ≡ z = ap (λ (r : ℤ × Cursor). r.0) (ok_is (cast_signed w s.0.0, s.0.1) (z, q) s.2) in
@@ -235,7 +235,7 @@ text_format = field_format text text_word (record {
   one = λ t. refl;
   some = [];
   some_fits = (IsUtf8-nil, omega arith);
-  takes = λ p q t b e.
+  reads_value = λ p q t b e.
       let s = bind_ok (read_number w64 p) (read_text p) (t, q) e in
       let n : ℕ = s.0.0 in
       let m : Cursor = s.0.1 in
@@ -266,7 +266,7 @@ pub nothing_format : {X : Type 0} (x : X) → IsFormat (nothing x)
 nothing_format {X} x = record {
   some = x;
   some_fits = refl;
-  takes = λ p q y b e. let s = ok_is (x, p) (y, q) e in record { fits = sym (ap (λ (r : X × Cursor). r.0) s); rest = ap (λ (r : X × Cursor). r.1.rest) s; at = let a : p.at ≡ q.at = ap (λ (r : X × Cursor). r.1.at) s in omega arith };
+  reads_value = λ p q y b e. let s = ok_is (x, p) (y, q) e in record { fits = sym (ap (λ (r : X × Cursor). r.0) s); rest = ap (λ (r : X × Cursor). r.1.rest) s; at = let a : p.at ≡ q.at = ap (λ (r : X × Cursor). r.1.at) s in omega arith };
   again = λ p y rest h e. let z : p.at ≡ p.at + 0 = omega arith in ap (λ (a : X). done (a, p)) (sym h) ∙ ap (λ (bytes : List ℕ). done (y, record { at = p.at; rest = bytes })) e ∙ ap (λ (n : ℕ). done (y, record { at = n; rest = rest })) z;
   fails = λ p n b e. absurd (not_err (x, p) n e);
   bound = λ p n r. let none : r.before ≡ [] = nil_front r.before r.after (sym r.fields) in let l : length (concat r.before) ≡ 0 = ap (λ (fs : List (List ℕ)). length (concat fs)) none in let a = r.at in omega arith;

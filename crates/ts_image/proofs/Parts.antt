@@ -3,7 +3,7 @@ use Rattle.std.proofs.Common.{◌≡◌, ℕ, zero, suc, ◌+◌, ◌≤◌, Lis
 use Rattle.std.specs.Int.{Width}
 use Rattle.std.proofs.lemmas.List.{length-append, length-replicate}
 use Rattle.ts_image.specs.Formats.{Cursor, concat, Read, ◌>>=◌, Format, spelling, number, nothing, and, iso, FitAlong, read_along, along, times, list_of}
-use Rattle.ts_image.specs.FormatLaws.{AreBytes, reach, Takes, Reaches, IsFormat}
+use Rattle.ts_image.specs.FormatLaws.{AreBytes, reach, ReadsValue, Reaches, IsFormat}
 use Rattle.ts_image.proofs.Fields.{bind_ok, bind_err, done, failed, ok_is, nothing_format}
 
 pub concat-append : (fs gs : List (List ℕ)) → concat (fs ++ gs) ≡ concat fs ++ concat gs
@@ -24,7 +24,7 @@ AreBytes-behind : (a b : List ℕ) → AreBytes (a ++ b) → AreBytes b
 AreBytes-behind [] b h = h
 AreBytes-behind (x ∷ a) b h = AreBytes-behind a b (λ i. h (suc i))
 
-pub taken_bytes : {X : Type 0} (f : Format X) (p : Cursor) (x : X) (q : Cursor) → Takes f p x q → AreBytes p.rest → AreBytes q.rest
+pub taken_bytes : {X : Type 0} (f : Format X) (p : Cursor) (x : X) (q : Cursor) → ReadsValue f p x q → AreBytes p.rest → AreBytes q.rest
 taken_bytes f p x q t b = AreBytes-behind (spelling f x) q.rest (subst AreBytes t.rest b)
 
 -- reading never goes back
@@ -59,20 +59,20 @@ module _ {A B : Type 0} (f : Format A) (g : A → Format B) (lf : IsFormat f) (l
   spelled : (a : A) (b : B) → concat (f.fields a ++ (g a).fields b) ≡ spelling f a ++ spelling (g a) b
   spelled a b = concat-append (f.fields a) ((g a).fields b)
 
-  both_take : (p : Cursor) (a : A) (m : Cursor) (b : B) (q : Cursor) → Takes f p a m → Takes (g a) m b q → Takes (and f g) p (a, b) q
+  both_take : (p : Cursor) (a : A) (m : Cursor) (b : B) (q : Cursor) → ReadsValue f p a m → ReadsValue (g a) m b q → ReadsValue (and f g) p (a, b) q
   both_take p a m b q s t = record {
     fits = (s.fits, t.fits);
     rest = s.rest ∙ ap (λ (x : List ℕ). spelling f a ++ x) t.rest ∙ sym (append_assoc (spelling f a) (spelling (g a) b) q.rest) ∙ ap (λ (x : List ℕ). x ++ q.rest) (sym (spelled a b));
     at = let e = ap length (spelled a b) in let l = length-append (spelling f a) (spelling (g a) b) in let x = s.at in let y = t.at in omega (arith, e, l, x, y);
   }
 
-  and_takes : (p q : Cursor) (x : A × B) → AreBytes p.rest → (and f g).read p ≡ Ok (x, q) → Takes (and f g) p x q
+  and_takes : (p q : Cursor) (x : A × B) → AreBytes p.rest → (and f g).read p ≡ Ok (x, q) → ReadsValue (and f g) p x q
   and_takes p q x bytes e =
       let s = bind_ok (f.read p) rest_of (x, q) e in
       let t = bind_ok ((g s.0.0).read s.0.1) (last s.0.0) (x, q) s.2 in
-      let first = lf.takes p s.0.1 s.0.0 bytes s.1 in
-      let second = (lg s.0.0).takes s.0.1 t.0.1 t.0.0 (taken_bytes f p s.0.0 s.0.1 first bytes) t.1 in
-      subst (λ (r : (A × B) × Cursor). Takes (and f g) p r.0 r.1) (ok_is ((s.0.0, t.0.0), t.0.1) (x, q) t.2) (both_take p s.0.0 s.0.1 t.0.0 t.0.1 first second)
+      let first = lf.reads_value p s.0.1 s.0.0 bytes s.1 in
+      let second = (lg s.0.0).reads_value s.0.1 t.0.1 t.0.0 (taken_bytes f p s.0.0 s.0.1 first bytes) t.1 in
+      subst (λ (r : (A × B) × Cursor). ReadsValue (and f g) p r.0 r.1) (ok_is ((s.0.0, t.0.0), t.0.1) (x, q) t.2) (both_take p s.0.0 s.0.1 t.0.0 t.0.1 first second)
 
   and_again : (p : Cursor) (x : A × B) (rest : List ℕ) → (and f g).fits x → p.rest ≡ spelling (and f g) x ++ rest → (and f g).read p ≡ Ok (x, record { at = p.at + length (spelling (and f g) x); rest = rest })
   and_again p x rest h e =
@@ -102,7 +102,7 @@ module _ {A B : Type 0} (f : Format A) (g : A → Format B) (lf : IsFormat f) (l
         at = r.at;
       })
       (λ s.
-      let t = lf.takes p s.0.1 s.0.0 bytes s.1 in
+      let t = lf.reads_value p s.0.1 s.0.0 bytes s.1 in
       ⊎_elim {C = Reaches (and f g) p n}
       (λ second.
       let r = (lg s.0.0).fails s.0.1 n (taken_bytes f p s.0.0 s.0.1 t bytes) second in
@@ -143,7 +143,7 @@ module _ {A B : Type 0} (f : Format A) (g : A → Format B) (lf : IsFormat f) (l
       (parted (f.fields a) ((g a).fields b) r.before r.after r.fields)
 
   pub and_format : IsFormat (and f g)
-  and_format = record { some = (lf.some, (lg lf.some).some); some_fits = (lf.some_fits, (lg lf.some).some_fits); takes = and_takes; again = and_again; fails = and_fails; bound = and_bound }
+  and_format = record { some = (lf.some, (lg lf.some).some); some_fits = (lf.some_fits, (lg lf.some).some_fits); reads_value = and_takes; again = and_again; fails = and_fails; bound = and_bound }
 
 -- ---- the same fields for other values
 
@@ -161,12 +161,12 @@ module _ {A X : Type 0} (f : Format A) (h : Format X) (to : A → X) (law : IsFo
   same_spelling : (a : A) → f.fits a → spelling h (to a) ≡ spelling f a
   same_spelling a k = ap concat (mapped.fields a k)
 
-  mapped_takes : (p q : Cursor) (x : X) → AreBytes p.rest → h.read p ≡ Ok (x, q) → Takes h p x q
+  mapped_takes : (p q : Cursor) (x : X) → AreBytes p.rest → h.read p ≡ Ok (x, q) → ReadsValue h p x q
   mapped_takes p q x bytes e =
       let s = bind_ok (f.read p) stays (x, q) (sym (mapped.read p) ∙ e) in
-      let t = law.takes p s.0.1 s.0.0 bytes s.1 in
+      let t = law.reads_value p s.0.1 s.0.0 bytes s.1 in
       let w = same_spelling s.0.0 t.fits in
-      subst (λ (r : X × Cursor). Takes h p r.0 r.1) (ok_is (to s.0.0, s.0.1) (x, q) s.2)
+      subst (λ (r : X × Cursor). ReadsValue h p r.0 r.1) (ok_is (to s.0.0, s.0.1) (x, q) s.2)
       (record { fits = mapped.fits s.0.0 t.fits; rest = t.rest ∙ ap (λ (y : List ℕ). y ++ s.0.1.rest) (sym w); at = t.at ∙ ap (λ (y : List ℕ). p.at + length y) (sym w) })
 
   mapped_again : (p : Cursor) (x : X) (rest : List ℕ) → h.fits x → p.rest ≡ spelling h x ++ rest → h.read p ≡ Ok (x, record { at = p.at + length (spelling h x); rest = rest })
@@ -193,7 +193,7 @@ module _ {A X : Type 0} (f : Format A) (h : Format X) (to : A → X) (law : IsFo
       omega (arith, s, d, e)
 
   pub mapped_format : IsFormat h
-  mapped_format = record { some = to law.some; some_fits = mapped.fits law.some law.some_fits; takes = mapped_takes; again = mapped_again; fails = mapped_fails; bound = mapped_bound }
+  mapped_format = record { some = to law.some; some_fits = mapped.fits law.some law.some_fits; reads_value = mapped_takes; again = mapped_again; fails = mapped_fails; bound = mapped_bound }
 
 -- by functions there and back
 pub iso_format : {A X : Type 0} (f : Format A) (to : A → X) (from : X → A) → IsFormat f → ((a : A) → f.fits a → from (to a) ≡ a) → ((x : X) → to (from x) ≡ x) → IsFormat (iso f to from)

@@ -12,7 +12,7 @@ reach (Ok x) = x.1.at
 reach (Err n) = n
 
 -- the value is at a position, and the other position is after it
-pub record Takes {X : Type 0} (f : Format X) (p : Cursor) (x : X) (q : Cursor) : Type 0 where
+pub record ReadsValue {X : Type 0} (f : Format X) (p : Cursor) (x : X) (q : Cursor) : Type 0 where
   pub fits : f.fits x
   pub rest : p.rest ≡ spelling f x ++ q.rest
   pub at : q.at ≡ p.at + length (spelling f x)
@@ -32,7 +32,7 @@ pub record IsFormat {X : Type 0} (f : Format X) : Type 0 where
   -- some value has a spelling
   pub some : X
   pub some_fits : f.fits some
-  pub takes : (p q : Cursor) (x : X) → AreBytes p.rest → f.read p ≡ Ok (x, q) → Takes f p x q
+  pub reads_value : (p q : Cursor) (x : X) → AreBytes p.rest → f.read p ≡ Ok (x, q) → ReadsValue f p x q
   pub again : (p : Cursor) (x : X) (rest : List ℕ) → f.fits x → p.rest ≡ spelling f x ++ rest → f.read p ≡ Ok (x, record { at = p.at + length (spelling f x); rest = rest })
   pub fails : (p : Cursor) (n : ℕ) → AreBytes p.rest → f.read p ≡ Err n → Reaches f p n
   pub bound : (p : Cursor) (n : ℕ) → Reaches f p n → n ≤ reach (f.read p)

@@ -3,7 +3,7 @@ use Rattle.std.proofs.Common.{◌≡◌, ℤ, ◌<◌, List, [], ◌∷◌, Bool
 use Rattle.ts_ql.specs.declared.state.State.{State}
 use Rattle.ts_ql.specs.declared.state.State.TheVariants as states
 use Rattle.ts_ql.specs.declared.token.Kind.{Kind}
-use Rattle.ts_ql.specs.Grammar.{Item, Cond, Dimension, GroupBy, FillOption, Ending, Stop, Close, Next}
+use Rattle.ts_ql.specs.Grammar.{Item, Cond, Dimension, GroupBy, FillOption, Ending, Stop, RightParen, Next}
 use Rattle.ts_ql.specs.GroupSteps.{group_step}
 use Rattle.ts_ql.specs.Laws.{Reach, ReadsTokens}
 use Rattle.ts_ql.specs.Reading.{Progress, Advance, is_end, may_end, builder_step}
@@ -25,7 +25,7 @@ ends_by now s p t k may is = rw (may, is) refl
 
 ending_token : (now : ℤ) (s : Progress) (e : Ending) (t : Lexeme) (ts : List Lexeme) (reach : Reach) → ReadsTokens (left_ending now s (meaning s.builder) e) (t ∷ ts) reach → is_end t.kind ≡ true
 ending_token now s Stop t ts reach v = ap is_end v.0
-ending_token now s Close t ts reach v = ap is_end v.0
+ending_token now s RightParen t ts reach v = ap is_end v.0
 ending_token now s (Next st e) t ts reach v = ap is_end v.0
 
 ending_leads_on : (now : ℤ) (s : Progress) (p : State) (w : EndsAt now s p) → may_end p ≡ true → (e : Ending) (t : Lexeme) (ts : List Lexeme) (reach : Reach) → 0 < s.count

@@ -8,7 +8,7 @@ use Rattle.ts_ql.specs.declared.state.State.TheVariants as states
 use Rattle.ts_ql.specs.declared.token.Kind.{Kind}
 use Rattle.ts_ql.specs.declared.token.Kind.TheVariants as kinds
 use Rattle.ts_ql.specs.QueryFaults.{Fault, unexpected, TooManyStatements}
-use Rattle.ts_ql.specs.Grammar.{Item, Any, Of, Examine, Call, Statement, Ending, Stop, Close, Next}
+use Rattle.ts_ql.specs.Grammar.{Item, Any, Of, Examine, Call, Statement, Ending, Stop, RightParen, Next}
 use Rattle.ts_ql.specs.Laws.{Reach, At, ReadsTokens}
 use Rattle.ts_ql.specs.Literals.{is_word}
 use Rattle.ts_ql.specs.Reading.{Progress, Advance, begun_at, after_end, ended_with, ended}
@@ -47,11 +47,11 @@ examined now s = fault_in (statement_query s.start now (meaning s.builder))
 semicolon_back : (now : ℤ) (s : Progress) (p : State) (t : Lexeme) → t.kind ≡ kinds.Semicolon → EndsAt now s p → (query : Select)
     → statement_query s.start now (meaning s.builder) ≡ Ok query → Back now (at p s) (after s kinds.Semicolon query) t
 semicolon_back now s p t e w query said None suits = (
-  w.rest Close,
-  w.suits Close,
-  (λ ts reach v. subst (λ (is : List Item). ReadsTokens is (t ∷ ts) reach) (sym (w.left_same Close))
+  w.rest RightParen,
+  w.suits RightParen,
+  (λ ts reach v. subst (λ (is : List Item). ReadsTokens is (t ∷ ts) reach) (sym (w.left_same RightParen))
       (e, passes (examined now s) (Any (Of kinds.End) ∷ []) ts reach (ap fault_in said) v)),
-  ap (λ (qs : List (Result Select Fault)). map Ok s.queries ++ qs) (w.said_same Close ∙ ap (λ (r : Result Select Fault). r ∷ []) said) ∙ said_more s query [],
+  ap (λ (qs : List (Result Select Fault)). map Ok s.queries ++ qs) (w.said_same RightParen ∙ ap (λ (r : Result Select Fault). r ∷ []) said) ∙ said_more s query [],
 )
 semicolon_back now s p t e w query said (Some r) suits = (
   w.rest (Next r.0 r.1),
@@ -77,9 +77,9 @@ end_back now s p t e w query said r suits = (
 semicolon_faulty : (now : ℤ) (s : Progress) (p : State) (t : Lexeme) → t.kind ≡ kinds.Semicolon → EndsAt now s p → (f : Fault)
     → statement_query s.start now (meaning s.builder) ≡ Err f → Faulty now (at p s) t f
 semicolon_faulty now s p t e w f said = (
-  w.rest Close,
-  w.suits Close,
-  inr (subst (λ (is : List Item). ReadsTokens is (t ∷ []) (At f)) (sym (w.left_same Close))
+  w.rest RightParen,
+  w.suits RightParen,
+  inr (subst (λ (is : List Item). ReadsTokens is (t ∷ []) (At f)) (sym (w.left_same RightParen))
       (e, fails (examined now s) (Any (Of kinds.End) ∷ []) f (ap fault_in said))),
 )
 
@@ -124,12 +124,12 @@ ending_said now s p w Stop t ts reach some v (Ok query) said =
       passed (examined now s) [] ts reach (ap fault_in said) v.1,
       ap (λ (qs : List (Result Select Fault)). map Ok s.queries ++ qs) (w.said_same Stop ∙ ap (λ (x : Result Select Fault). x ∷ []) said) ∙ said_more s query [],
     )
-ending_said now s p w Close t ts reach some v (Ok query) said =
-    subst (λ (k : Kind). Leads now (at p s) (w.rest Close) ts reach (Ok (after s k query))) (sym v.0) (
+ending_said now s p w RightParen t ts reach some v (Ok query) said =
+    subst (λ (k : Kind). Leads now (at p s) (w.rest RightParen) ts reach (Ok (after s k query))) (sym v.0) (
       None,
       some,
       passed (examined now s) (Any (Of kinds.End) ∷ []) ts reach (ap fault_in said) v.1,
-      ap (λ (qs : List (Result Select Fault)). map Ok s.queries ++ qs) (w.said_same Close ∙ ap (λ (x : Result Select Fault). x ∷ []) said) ∙ said_more s query [],
+      ap (λ (qs : List (Result Select Fault)). map Ok s.queries ++ qs) (w.said_same RightParen ∙ ap (λ (x : Result Select Fault). x ∷ []) said) ∙ said_more s query [],
     )
 ending_said now s p w (Next n rest) t ts reach some v (Ok query) said =
     subst (λ (k : Kind). Leads now (at p s) (w.rest (Next n rest)) ts reach (Ok (after s k query))) (sym v.0) (
@@ -140,7 +140,7 @@ ending_said now s p w (Next n rest) t ts reach some v (Ok query) said =
           ∙ said_more s query (said_statement now (Some (n, rest))),
     )
 ending_said now s p w Stop t ts reach some v (Err f) said = failed (examined now s) [] ts reach f (ap fault_in said) v.1
-ending_said now s p w Close t ts reach some v (Err f) said = failed (examined now s) (Any (Of kinds.End) ∷ []) ts reach f (ap fault_in said) v.1
+ending_said now s p w RightParen t ts reach some v (Err f) said = failed (examined now s) (Any (Of kinds.End) ∷ []) ts reach f (ap fault_in said) v.1
 ending_said now s p w (Next n rest) t ts reach some v (Err f) said = failed (examined now s) (left_statement now s (Some (n, rest))) ts reach f (ap fault_in said) v.1
 
 pub ending_leads : (now : ℤ) (s : Progress) (p : State) (w : EndsAt now s p) (e : Ending) (t : Lexeme) (ts : List Lexeme) (reach : Reach) → 0 < s.count

@@ -25,7 +25,7 @@ filled s p step = with_builder (at p s) (in_filling s.builder step)
 
 -- the end of a statement filled with that number
 abbrev pub numbered_ending : ℤ → Progress → Ending → ℤ → List Item
-numbered_ending now s r n = Any (Of kinds.Close) ∷ left_ending now s (record (meaning s.builder) { fill = fills.Number n }) r
+numbered_ending now s r n = Any (Of kinds.RightParen) ∷ left_ending now s (record (meaning s.builder) { fill = fills.Number n }) r
 
 -- a number, or none in its range
 numbered : (now : ℤ) (s : Progress) (t : Lexeme) → t.kind ≡ kinds.Integer → (o : Option ℤ) → literal false t.text ≡ o
@@ -89,13 +89,13 @@ null_or now s t e false is = none_or now s t e (is_word (codes "none") t.text) r
 
 pub fill_answers : (now : ℤ) (s : Progress) (p : State) (k : Kind) (t : Lexeme) → t.kind ≡ k
     → Answer now (at p s) t (filled s p (fill_at p k t s.builder.filling))
-fill_answers now s states.FillOpen kinds.Open t e = (tt, λ r suits. (r, tt, (λ ts reach w. (e, w)), refl))
+fill_answers now s states.FillOpen kinds.LeftParen t e = (tt, λ r suits. (r, tt, (λ ts reach w. (e, w)), refl))
 fill_answers now s states.FillOption kinds.Word t e = null_or now s t e (is_word (codes "null") t.text) refl
 fill_answers now s states.FillOption kinds.Minus t e =
     (tt, λ r suits. ((NumberOption (record { minus = Some t; number = r.0 }), r.1), tt, (λ ts reach w. (refl, e, w)), refl))
 fill_answers now s states.FillOption kinds.Integer t e = numbered now s t e (literal false t.text) refl
 fill_answers now s states.FillMinus kinds.Integer t e = negative now s t e (literal true t.text) refl
-fill_answers now s states.FillClose kinds.Close t e = (tt, λ r suits. (r, tt, (λ ts reach w. (e, w)), refl))
+fill_answers now s states.FillClose kinds.RightParen t e = (tt, λ r suits. (r, tt, (λ ts reach w. (e, w)), refl))
 fill_answers now s p k t e = inr refl
 
 -- ---- from trees

@@ -28,14 +28,14 @@ grouping s p step = with_builder (at p s) (in_groups s.builder step)
 
 -- the rest after an interval of these buckets: its tokens and its queries
 abbrev pub every_left : ℤ → Progress → Option Signed × DimensionTail → Option Buckets → List Item
-every_left now s r b = spell_offset r.0 (Any (Of kinds.Close) ∷ left_dimensions now s (with_buckets (meaning s.builder) (offset_by b r.0)) r.1)
+every_left now s r b = spell_offset r.0 (Any (Of kinds.RightParen) ∷ left_dimensions now s (with_buckets (meaning s.builder) (offset_by b r.0)) r.1)
 
 abbrev pub every_said : ℤ → Progress → Option Signed × DimensionTail → Option Buckets → List (Result Select Fault)
 every_said now s r b = map Ok s.queries ++ said_dimensions now s (with_buckets (meaning s.builder) (offset_by b r.0)) r.1
 
 -- the rest after an offset: its tokens and its queries
 abbrev pub moved_left : ℤ → Progress → DimensionTail → ℤ → List Item
-moved_left now s r n = Any (Of kinds.Close) ∷ left_dimensions now s (with_buckets (meaning s.builder) (moved n s.builder.groups.buckets)) r
+moved_left now s r n = Any (Of kinds.RightParen) ∷ left_dimensions now s (with_buckets (meaning s.builder) (moved n s.builder.groups.buckets)) r
 
 abbrev pub moved_said : ℤ → Progress → DimensionTail → ℤ → List (Result Select Fault)
 moved_said now s r n = map Ok s.queries ++ said_dimensions now s (with_buckets (meaning s.builder) (moved n s.builder.groups.buckets)) r
@@ -163,16 +163,16 @@ pub group_answers : (now : ℤ) (s : Progress) (p : State) (k : Kind) (t : Lexem
 group_answers now s states.GroupBy kinds.Keyword t e = by_or now s t e (is_word (codes "by") t.text) refl
 group_answers now s states.Item kinds.Word t e = itemed now s t (ap is_name e) (is_time_column t.kind t.text) refl
 group_answers now s states.Item kinds.QuotedName t e = itemed now s t (ap is_name e) (is_time_column t.kind t.text) refl
-group_answers now s states.TimeOpen kinds.Open t e = (tt, λ r suits. (r, tt, (λ ts reach w. (e, w)), refl))
+group_answers now s states.TimeOpen kinds.LeftParen t e = (tt, λ r suits. (r, tt, (λ ts reach w. (e, w)), refl))
 group_answers now s states.Interval kinds.Duration t e = interval_or now s t e (literal false t.text) refl
 group_answers now s states.IntervalEnd kinds.Comma t e = (tt, λ r suits. ((Some r.0, r.1), tt, (λ ts reach w. (e, w)), refl))
-group_answers now s states.IntervalEnd kinds.Close t e = (tt, λ r suits. ((None, r), tt, (λ ts reach w. (e, w)), refl))
+group_answers now s states.IntervalEnd kinds.RightParen t e = (tt, λ r suits. ((None, r), tt, (λ ts reach w. (e, w)), refl))
 group_answers now s states.Offset kinds.Minus t e =
     (tt, λ r suits. ((record { minus = Some t; number = r.0 }, r.1), tt, (λ ts reach w. (refl, e, w)), refl))
 group_answers now s states.Offset kinds.Duration t e = offset_or now s t e (literal false t.text) refl
 group_answers now s states.OffsetMinus kinds.Duration t e = minus_or now s t e (literal true t.text) refl
-group_answers now s states.OffsetEnd kinds.Close t e = (tt, λ r suits. (r, tt, (λ ts reach w. (e, w)), refl))
-group_answers now s states.AfterTag kinds.Cast t e = (tt, λ r suits. ((true, r), tt, (λ ts reach w. (e, w)), refl))
+group_answers now s states.OffsetEnd kinds.RightParen t e = (tt, λ r suits. (r, tt, (λ ts reach w. (e, w)), refl))
+group_answers now s states.AfterTag kinds.DoubleColon t e = (tt, λ r suits. ((true, r), tt, (λ ts reach w. (e, w)), refl))
 group_answers now s states.AfterTag kinds.Comma t e = (tt, λ r suits. ((false, (r.0 ∷ r.1.0, r.1.1)), tt, (λ ts reach w. (e, w)), refl))
 group_answers now s states.GroupTagType kinds.Word t e = tag_or now s t e (is_word (codes "tag") t.text) refl
 group_answers now s states.AfterItem kinds.Comma t e = (tt, λ r suits. ((r.0 ∷ r.1.0, r.1.1), tt, (λ ts reach w. (e, w)), refl))

@@ -6,7 +6,7 @@ use Rattle.ts_ql.specs.declared.state.State.{State}
 use Rattle.ts_ql.specs.declared.state.State.TheVariants as states
 use Rattle.ts_ql.specs.declared.token.Kind.{Kind}
 use Rattle.ts_ql.specs.QueryFaults.{Fault}
-use Rattle.ts_ql.specs.Grammar.{Change, GroupBy, FillOption, Ending, Stop, Close, Next}
+use Rattle.ts_ql.specs.Grammar.{Change, GroupBy, FillOption, Ending, Stop, RightParen, Next}
 use Rattle.ts_ql.specs.GroupSteps.{group_step, fill_step}
 use Rattle.ts_ql.specs.Laws.{Reach, ReadsTokens}
 use Rattle.ts_ql.specs.MomentSteps.{moment_step, narrowed}
@@ -105,7 +105,7 @@ EndsMoment s k = finish_time_at states.AfterMoment k s.builder ≡ narrowed_in s
 ending_ends : (now : ℤ) (s : Progress) (p : Meaning) (e : Ending) (t : Lexeme) (ts : List Lexeme) (reach : Reach) → ReadsTokens (left_ending now s p e) (t ∷ ts) reach → EndsMoment s t.kind
 unfolding EndsMoment
 ending_ends now s p Stop t ts reach v = subst (EndsMoment s) (sym v.0) refl
-ending_ends now s p Close t ts reach v = subst (EndsMoment s) (sym v.0) refl
+ending_ends now s p RightParen t ts reach v = subst (EndsMoment s) (sym v.0) refl
 ending_ends now s p (Next st e) t ts reach v = subst (EndsMoment s) (sym v.0) refl
 
 group_ends : (now : ℤ) (s : Progress) (p : Meaning) (g : Option GroupBy) (o : Option FillOption) (e : Ending) (t : Lexeme) (ts : List Lexeme) (reach : Reach)

@@ -188,8 +188,8 @@ moment_answers now s states.Moment kinds.StringLiteral t e = quoted now s t e (t
 moment_answers now s states.Moment kinds.Word t e = now_or now s t e (is_word (codes "now") t.text) refl
 moment_answers now s states.MomentMinus kinds.Integer t e = negative now s t Count e (literal true t.text) refl
 moment_answers now s states.MomentMinus kinds.Duration t e = negative now s t Duration e (literal true t.text) refl
-moment_answers now s states.NowOpen kinds.Open t e = (tt, λ r suits. (r, suits, (λ ts reach w. (e, w)), refl))
-moment_answers now s states.NowClose kinds.Close t e = (tt, λ r suits. (r, suits, (λ ts reach w. (e, w)), refl))
+moment_answers now s states.NowOpen kinds.LeftParen t e = (tt, λ r suits. (r, suits, (λ ts reach w. (e, w)), refl))
+moment_answers now s states.NowClose kinds.RightParen t e = (tt, λ r suits. (r, suits, (λ ts reach w. (e, w)), refl))
 moment_answers now s states.AfterMoment kinds.Plus t e =
     (tt, λ r suits. ((by_value false r.0 ∷ r.1.0, r.1.1), suits, (λ ts reach w. (e, w)), refl))
 moment_answers now s states.AfterMoment kinds.Minus t e =

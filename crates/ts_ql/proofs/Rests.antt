@@ -84,7 +84,7 @@ left_select now s p tail = spell_calls p tail.0 (Any (Keyword (codes "from")) �
 abbrev pub left_closing : ℤ → Progress → Meaning → Closing → List Item
 left_closing now s p (Outside cs tail) = spell_conds now 0 cs (left_group now s (after_conds now p cs) tail)
 left_closing now s p (Inside cs closing) =
-    spell_conds now (levels closing + 1) cs (Any (Of kinds.Close) ∷ left_closing now s (after_conds now p cs) closing)
+    spell_conds now (levels closing + 1) cs (Any (Of kinds.RightParen) ∷ left_closing now s (after_conds now p cs) closing)
 
 -- ---- queries of the rests of a statement
 
@@ -188,7 +188,7 @@ abbrev pub left_closed : ℤ → Progress → Meaning → ClosedTail → List It
 left_closed now s p tail = spell_alias tail.0 (left_select now s (with_column p s.builder.selection.function tail.0) tail.1)
 
 abbrev pub left_typed : ℤ → Progress → Meaning → Option FieldType × ClosedTail → List Item
-left_typed now s p tail = spell_type tail.0 (Any (Of kinds.Close) ∷ left_closed now s p tail.1)
+left_typed now s p tail = spell_type tail.0 (Any (Of kinds.RightParen) ∷ left_closed now s p tail.1)
 
 abbrev pub left_field : ℤ → Progress → Meaning → Lexeme × (Option FieldType × ClosedTail) → List Item
 left_field now s p tail = This Name tail.0 ∷ Examine (field_fault p.field tail.0) ∷ left_typed now s (with_call_field p tail.0) tail.1
@@ -219,10 +219,10 @@ left_item now s tail = spell_dimension (meaning s.builder) tail.0 (left_dimensio
 abbrev pub left_interval : ℤ → Progress → Lexeme × (Option Signed × DimensionTail) → List Item
 left_interval now s tail =
     This (Of kinds.Duration) tail.0 ∷ Examine (interval_fault tail.0)
-    ∷ spell_offset tail.1.0 (Any (Of kinds.Close) ∷ left_dimensions now s (with_buckets (meaning s.builder) (offset_by (buckets_of (literal false tail.0.text)) tail.1.0)) tail.1.1)
+    ∷ spell_offset tail.1.0 (Any (Of kinds.RightParen) ∷ left_dimensions now s (with_buckets (meaning s.builder) (offset_by (buckets_of (literal false tail.0.text)) tail.1.0)) tail.1.1)
 
 abbrev pub left_option : ℤ → Progress → FillOption × Ending → List Item
-left_option now s tail = spell_option tail.0 (Any (Of kinds.Close) ∷ left_ending now s (with_option (meaning s.builder) tail.0) tail.1)
+left_option now s tail = spell_option tail.0 (Any (Of kinds.RightParen) ∷ left_ending now s (with_option (meaning s.builder) tail.0) tail.1)
 
 abbrev pub left_statement : ℤ → Progress → Option (Statement × Ending) → List Item
 left_statement now s None = Any (Of kinds.End) ∷ []
@@ -231,11 +231,11 @@ left_statement now s (Some p) = spell_statement now s.count p.0 (spell_ending no
 abbrev pub left_at : (p : State) → ℤ → Progress → Rest p → List Item
 left_at states.Statement now s r = left_statement now s r
 left_at states.Function now s r = spell_call (meaning s.builder).field r.0 (left_select now s (after_call (meaning s.builder) r.0) r.1)
-left_at states.FunctionOpen now s r = Any (Of kinds.Open) ∷ left_field now s (meaning s.builder) r
+left_at states.FunctionOpen now s r = Any (Of kinds.LeftParen) ∷ left_field now s (meaning s.builder) r
 left_at states.Field now s r = left_field now s (meaning s.builder) r
 left_at states.FieldEnd now s r = left_typed now s (meaning s.builder) r
-left_at states.FieldType now s r = Any (Word (type_word r.0)) ∷ Any (Of kinds.Close) ∷ left_closed now s (meaning s.builder) r.1
-left_at states.FieldClose now s r = Any (Of kinds.Close) ∷ left_closed now s (meaning s.builder) r
+left_at states.FieldType now s r = Any (Word (type_word r.0)) ∷ Any (Of kinds.RightParen) ∷ left_closed now s (meaning s.builder) r.1
+left_at states.FieldClose now s r = Any (Of kinds.RightParen) ∷ left_closed now s (meaning s.builder) r
 left_at states.AfterColumn now s r = left_closed now s (meaning s.builder) r
 left_at states.Alias now s r = This Name r.0 ∷ left_select now s (with_column (meaning s.builder) s.builder.selection.function (Some r.0)) r.1
 left_at states.AfterAlias now s r = left_select now s (meaning s.builder) r
@@ -253,32 +253,32 @@ left_at states.Moment now s r = left_instant now s s.builder.moment.comparison r
 left_at states.MomentMinus now s r =
     This (Of (kind_of_measure r.0)) r.1.0 ∷ Examine (literal_fault s.builder.moment.first (literal true r.1.0.text))
     ∷ left_changes now s s.builder.moment.first (unwrap_or (literal true r.1.0.text) (pos 0)) r.1.1
-left_at states.NowOpen now s r = Any (Of kinds.Open) ∷ Any (Of kinds.Close) ∷ left_changes now s s.builder.moment.first now r
-left_at states.NowClose now s r = Any (Of kinds.Close) ∷ left_changes now s s.builder.moment.first now r
+left_at states.NowOpen now s r = Any (Of kinds.LeftParen) ∷ Any (Of kinds.RightParen) ∷ left_changes now s s.builder.moment.first now r
+left_at states.NowClose now s r = Any (Of kinds.RightParen) ∷ left_changes now s s.builder.moment.first now r
 left_at states.AfterMoment now s r = left_changes now s s.builder.moment.first s.builder.moment.total r
 left_at states.MomentPlus now s r = left_change now s false r
 left_at states.MomentLess now s r = left_change now s true r
 left_at states.GroupBy now s r = Any (Keyword (codes "by")) ∷ left_item now s r
 left_at states.Item now s r = left_item now s r
-left_at states.TimeOpen now s r = Any (Of kinds.Open) ∷ left_interval now s r
+left_at states.TimeOpen now s r = Any (Of kinds.LeftParen) ∷ left_interval now s r
 left_at states.Interval now s r = left_interval now s r
 left_at states.IntervalEnd now s r =
-    spell_offset r.0 (Any (Of kinds.Close) ∷ left_dimensions now s (with_buckets (meaning s.builder) (offset_by (meaning s.builder).buckets r.0)) r.1)
+    spell_offset r.0 (Any (Of kinds.RightParen) ∷ left_dimensions now s (with_buckets (meaning s.builder) (offset_by (meaning s.builder).buckets r.0)) r.1)
 left_at states.Offset now s r =
-    spell_signed Duration r.0 (Any (Of kinds.Close) ∷ left_dimensions now s (with_buckets (meaning s.builder) (offset_by (meaning s.builder).buckets (Some r.0))) r.1)
+    spell_signed Duration r.0 (Any (Of kinds.RightParen) ∷ left_dimensions now s (with_buckets (meaning s.builder) (offset_by (meaning s.builder).buckets (Some r.0))) r.1)
 left_at states.OffsetMinus now s r =
     This (Of kinds.Duration) r.0 ∷ Examine (literal_fault s.builder.groups.first (literal true r.0.text))
-    ∷ Any (Of kinds.Close) ∷ left_dimensions now s (with_buckets (meaning s.builder) (moved (unwrap_or (literal true r.0.text) (pos 0)) (meaning s.builder).buckets)) r.1
-left_at states.OffsetEnd now s r = Any (Of kinds.Close) ∷ left_dimensions now s (meaning s.builder) r
+    ∷ Any (Of kinds.RightParen) ∷ left_dimensions now s (with_buckets (meaning s.builder) (moved (unwrap_or (literal true r.0.text) (pos 0)) (meaning s.builder).buckets)) r.1
+left_at states.OffsetEnd now s r = Any (Of kinds.RightParen) ∷ left_dimensions now s (meaning s.builder) r
 left_at states.AfterTag now s r = spell_tag_type r.0 (left_dimensions now s (meaning s.builder) r.1)
 left_at states.GroupTagType now s r = Any (Word (codes "tag")) ∷ left_dimensions now s (meaning s.builder) r
 left_at states.AfterItem now s r = left_dimensions now s (meaning s.builder) r
-left_at states.FillOpen now s r = Any (Of kinds.Open) ∷ left_option now s r
+left_at states.FillOpen now s r = Any (Of kinds.LeftParen) ∷ left_option now s r
 left_at states.FillOption now s r = left_option now s r
 left_at states.FillMinus now s r =
     This (Of kinds.Integer) r.0 ∷ Examine (literal_fault s.builder.filling.first (literal true r.0.text))
-    ∷ Any (Of kinds.Close) ∷ left_ending now s (record (meaning s.builder) { fill = fills.Number (unwrap_or (literal true r.0.text) (pos 0)) }) r.1
-left_at states.FillClose now s r = Any (Of kinds.Close) ∷ left_ending now s (meaning s.builder) r
+    ∷ Any (Of kinds.RightParen) ∷ left_ending now s (record (meaning s.builder) { fill = fills.Number (unwrap_or (literal true r.0.text) (pos 0)) }) r.1
+left_at states.FillClose now s r = Any (Of kinds.RightParen) ∷ left_ending now s (meaning s.builder) r
 left_at states.AfterFill now s r = left_ending now s (meaning s.builder) r
 left_at states.Done now s r = []
 

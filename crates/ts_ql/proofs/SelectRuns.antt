@@ -135,13 +135,13 @@ pub select_answers : (now : ℤ) (s : Progress) (p : State) (k : Kind) (t : Lexe
     → Answer now (at p s) t (selecting s p (select_at p k t s.builder.selection))
 select_answers now s states.Function kinds.Word t e z = called now s t e z (function_called t.text) refl
 select_answers now s states.Function kinds.QuotedName t e z = any_aggregate now s t (ap is_name e) (ap (λ (k : Kind). function_fault_at k t) e)
-select_answers now s states.FunctionOpen kinds.Open t e z = (z, λ r suits. (r, tt, (λ ts reach w. (e, w)), refl))
+select_answers now s states.FunctionOpen kinds.LeftParen t e z = (z, λ r suits. (r, tt, (λ ts reach w. (e, w)), refl))
 select_answers now s states.Field kinds.Word t e z = field_answers now s t (ap is_name e) z s.builder.selection.field
 select_answers now s states.Field kinds.QuotedName t e z = field_answers now s t (ap is_name e) z s.builder.selection.field
-select_answers now s states.FieldEnd kinds.Close t e z = (z, λ r suits. ((None, r), tt, (λ ts reach w. (e, w)), refl))
-select_answers now s states.FieldEnd kinds.Cast t e z = (z, λ r suits. ((Some r.0, r.1), tt, (λ ts reach w. (e, w)), refl))
+select_answers now s states.FieldEnd kinds.RightParen t e z = (z, λ r suits. ((None, r), tt, (λ ts reach w. (e, w)), refl))
+select_answers now s states.FieldEnd kinds.DoubleColon t e z = (z, λ r suits. ((Some r.0, r.1), tt, (λ ts reach w. (e, w)), refl))
 select_answers now s states.FieldType kinds.Word t e z = type_answers now s t e z (is_word (codes "field") t.text) refl
-select_answers now s states.FieldClose kinds.Close t e z = (z, λ r suits. (r, tt, (λ ts reach w. (e, w)), refl))
+select_answers now s states.FieldClose kinds.RightParen t e z = (z, λ r suits. (r, tt, (λ ts reach w. (e, w)), refl))
 select_answers now s states.AfterColumn kinds.Comma t e z = (z, λ r suits. ((None, (r.0 ∷ r.1.0, r.1.1)), tt, (λ ts reach w. (e, w)), refl))
 select_answers now s states.AfterColumn kinds.Keyword t e z = from_answers now s t e z (is_word (codes "from") t.text) refl
 select_answers now s states.Alias kinds.Word t e z = (z, λ r suits. ((t, r), tt, (λ ts reach w. (refl, ap is_name e, w)), refl))
@@ -150,7 +150,7 @@ select_answers now s states.AfterAlias kinds.Comma t e z = (z, λ r suits. ((r.0
 select_answers now s states.AfterAlias kinds.Keyword t e z = from_alone now s t e z (is_word (codes "from") t.text) refl
 select_answers now s states.Measurement kinds.Word t e z = (z, λ r suits. ((Measurement t, r), tt, (λ ts reach w. (refl, ap is_name e, w)), refl))
 select_answers now s states.Measurement kinds.QuotedName t e z = (z, λ r suits. ((Measurement t, r), tt, (λ ts reach w. (refl, ap is_name e, w)), refl))
-select_answers now s states.Measurement kinds.Open t e z = inl ((Subquery t, (None, (None, (None, Stop)))), tt, inr (refl, e, refl))
+select_answers now s states.Measurement kinds.LeftParen t e z = inl ((Subquery t, (None, (None, (None, Stop)))), tt, inr (refl, e, refl))
 select_answers now s p k t e z = inr refl
 
 -- ---- from trees

@@ -4,7 +4,7 @@ use Rattle.std.specs.Prelude.{⊤}
 use Rattle.ts_ql.specs.declared.state.State.{State}
 use Rattle.ts_ql.specs.declared.state.State.TheVariants as states
 use Rattle.ts_ql.specs.QueryFaults.{Fault}
-use Rattle.ts_ql.specs.Grammar.{Item, Any, This, Examine, FieldType, Call, FromClause, Measurement, Subquery, Measure, Base, Number, Negative, Quoted, Now, Change, Cond, Compare, Match, Group, And, Signed, Dimension, Every, ByTag, GroupBy, FillOption, NullOption, NoneOption, PreviousOption, NumberOption, Ending, Stop, Close, Next}
+use Rattle.ts_ql.specs.Grammar.{Item, Any, This, Examine, FieldType, Call, FromClause, Measurement, Subquery, Measure, Base, Number, Negative, Quoted, Now, Change, Cond, Compare, Match, Group, And, Signed, Dimension, Every, ByTag, GroupBy, FillOption, NullOption, NoneOption, PreviousOption, NumberOption, Ending, Stop, RightParen, Next}
 use Rattle.ts_ql.specs.Laws.{Reach, Within, ReadsTokens}
 use Rattle.ts_ql.specs.Reading.{Progress}
 use Rattle.ts_ql.specs.Productions.{spell_type, spell_alias, spell_from, spell_base, spell_tag_type, spell_cond, spell_number, spell_offset, spell_dimension, spell_option}
@@ -78,7 +78,7 @@ option_starts (NumberOption s) rest = number_starts s.minus _ s.number _
 
 ending_starts : (now : ℤ) (s : Progress) (p : Meaning) (e : Ending) → Starts (left_ending now s p e)
 ending_starts now s p Stop = tt
-ending_starts now s p Close = tt
+ending_starts now s p RightParen = tt
 ending_starts now s p (Next st e) = tt
 
 fill_starts : (now : ℤ) (s : Progress) (p : Meaning) (o : Option FillOption) (e : Ending) → Starts (left_fill now s p (o, e))

@@ -3,7 +3,7 @@ use Rattle.std.proofs.Common.{◌≡◌, ℕ, ◌+◌, ◌-◌, ℤ, pos, Bool, 
 use Rattle.std.proofs.lemmas.Bool.{cond_both, and_parts}
 use Rattle.std.specs.Prelude.{if◌then◌else◌, nat_lt, nat_le, int_le, bytes_eq}
 use Rattle.ts_core.specs.facts.Facts.{Text}
-use Rattle.ts_ql.specs.declared.filling.Filling.{Filling}
+use Rattle.ts_ql.specs.declared.filling.FillClause.{FillClause}
 use Rattle.ts_ql.specs.declared.moment.Moment.{Moment}
 use Rattle.ts_ql.specs.declared.state.State.{State}
 use Rattle.ts_ql.specs.declared.state.State.TheVariants as states
@@ -51,13 +51,13 @@ field_moves k t s (Some field) other = moves_if k (bytes_eq field (named t)) (Ok
 select_moves : (p : State) (k : Kind) (t : Lexeme) (s : Selected) → Moves k (select_at p k t s)
 select_moves states.Function kinds.Word t s = function_moves t s (function_called t.text)
 select_moves states.Function kinds.QuotedName t s = tt
-select_moves states.FunctionOpen kinds.Open t s = refl
+select_moves states.FunctionOpen kinds.LeftParen t s = refl
 select_moves states.Field kinds.Word t s = field_moves kinds.Word t s s.field refl
 select_moves states.Field kinds.QuotedName t s = field_moves kinds.QuotedName t s s.field refl
-select_moves states.FieldEnd kinds.Close t s = refl
-select_moves states.FieldEnd kinds.Cast t s = refl
+select_moves states.FieldEnd kinds.RightParen t s = refl
+select_moves states.FieldEnd kinds.DoubleColon t s = refl
 select_moves states.FieldType kinds.Word t s = moves_if kinds.Word (is_word (codes "field") t.text || is_word (codes "integer") t.text) (Ok (states.FieldClose, s)) (Err (unexpected t)) refl tt
-select_moves states.FieldClose kinds.Close t s = refl
+select_moves states.FieldClose kinds.RightParen t s = refl
 select_moves states.AfterColumn kinds.Comma t s = refl
 select_moves states.AfterColumn kinds.Keyword t s =
     moves_if kinds.Keyword (is_word (codes "from") t.text) (Ok (states.Measurement, with_default s)) (if is_word (codes "as") t.text then Ok (states.Alias, s) else Err (unexpected t)) refl
@@ -68,7 +68,7 @@ select_moves states.AfterAlias kinds.Comma t s = refl
 select_moves states.AfterAlias kinds.Keyword t s = moves_if kinds.Keyword (is_word (codes "from") t.text) (Ok (states.Measurement, s)) (Err (unexpected t)) refl tt
 select_moves states.Measurement kinds.Word t s = refl
 select_moves states.Measurement kinds.QuotedName t s = refl
-select_moves states.Measurement kinds.Open t s = tt
+select_moves states.Measurement kinds.LeftParen t s = tt
 select_moves p k t s = tt
 
 after_term_goes_on : (depth : ℕ) → is_done (after_term depth) ≡ false
@@ -78,10 +78,10 @@ term_moves : (k : Kind) (t : Lexeme) (f : Filtered) → is_end_of_text k ≡ fal
 term_moves k t f other = moves_if k (is_time_column t.kind t.text) (Ok (states.TimeSign, f)) (Ok (states.TagEnd, record f { tag = text_spelled t.text })) (sym other) (sym other)
 
 where_moves : (p : State) (k : Kind) (t : Lexeme) (f : Filtered) → Moves k (where_at p k t f)
-where_moves states.Term kinds.Open t f = moves_if kinds.Open (nat_lt f.depth 32) (Ok (states.Term, record f { depth = f.depth + 1 })) (Err (unsupported t)) refl tt
+where_moves states.Term kinds.LeftParen t f = moves_if kinds.LeftParen (nat_lt f.depth 32) (Ok (states.Term, record f { depth = f.depth + 1 })) (Err (unsupported t)) refl tt
 where_moves states.Term kinds.Word t f = term_moves kinds.Word t f refl
 where_moves states.Term kinds.QuotedName t f = term_moves kinds.QuotedName t f refl
-where_moves states.TagEnd kinds.Cast t f = refl
+where_moves states.TagEnd kinds.DoubleColon t f = refl
 where_moves states.TagEnd kinds.Equals t f = refl
 where_moves states.TagEnd kinds.NotEqual t f = refl
 where_moves states.TagType kinds.Word t f = moves_if kinds.Word (is_word (codes "tag") t.text) (Ok (states.TagSign, f)) (Err (unexpected t)) refl tt
@@ -90,8 +90,8 @@ where_moves states.TagSign kinds.NotEqual t f = refl
 where_moves states.TagValue kinds.StringLiteral t f = after_term_goes_on f.depth
 where_moves states.AfterTerm kinds.Keyword t f = moves_if kinds.Keyword (is_word (codes "and") t.text) (Ok (states.Term, f)) (Err (unexpected t)) refl tt
 where_moves states.NestedTerm kinds.Keyword t f = moves_if kinds.Keyword (is_word (codes "and") t.text) (Ok (states.Term, f)) (Err (unexpected t)) refl tt
-where_moves states.NestedTerm kinds.Close t f =
-    moves_if kinds.Close (nat_lt 0 f.depth) (Ok (after_term (f.depth - 1), record f { depth = f.depth - 1 })) (Err (unexpected t)) (after_term_goes_on (f.depth - 1)) tt
+where_moves states.NestedTerm kinds.RightParen t f =
+    moves_if kinds.RightParen (nat_lt 0 f.depth) (Ok (after_term (f.depth - 1), record f { depth = f.depth - 1 })) (Err (unexpected t)) (after_term_goes_on (f.depth - 1)) tt
 where_moves p k t f = tt
 
 based_moves : (k : Kind) (first : ℕ) (m : Moment) (o : Option ℤ) → is_end_of_text k ≡ false → Moves k (based first m o)
@@ -119,8 +119,8 @@ moment_moves now states.Moment kinds.StringLiteral t m = based_moves kinds.Strin
 moment_moves now states.Moment kinds.Word t m = moves_if kinds.Word (is_word (codes "now") t.text) (Ok (states.NowOpen, record m { first = t.start })) (Err (unexpected t)) refl tt
 moment_moves now states.MomentMinus kinds.Integer t m = based_moves kinds.Integer m.first m (literal true t.text) refl
 moment_moves now states.MomentMinus kinds.Duration t m = based_moves kinds.Duration m.first m (literal true t.text) refl
-moment_moves now states.NowOpen kinds.Open t m = refl
-moment_moves now states.NowClose kinds.Close t m = refl
+moment_moves now states.NowOpen kinds.LeftParen t m = refl
+moment_moves now states.NowClose kinds.RightParen t m = refl
 moment_moves now states.AfterMoment kinds.Plus t m = refl
 moment_moves now states.AfterMoment kinds.Minus t m = refl
 moment_moves now states.MomentPlus kinds.Duration t m = later_moves t m (literal false t.text)
@@ -146,26 +146,26 @@ group_moves : (p : State) (k : Kind) (t : Lexeme) (g : Grouped) → Moves k (gro
 group_moves states.GroupBy kinds.Keyword t g = moves_if kinds.Keyword (is_word (codes "by") t.text) (Ok (states.Item, g)) (Err (unexpected t)) refl tt
 group_moves states.Item kinds.Word t g = item_moves kinds.Word t g refl
 group_moves states.Item kinds.QuotedName t g = item_moves kinds.QuotedName t g refl
-group_moves states.TimeOpen kinds.Open t g = refl
+group_moves states.TimeOpen kinds.LeftParen t g = refl
 group_moves states.Interval kinds.Duration t g = interval_moves t g (literal false t.text)
 group_moves states.IntervalEnd kinds.Comma t g = refl
-group_moves states.IntervalEnd kinds.Close t g = refl
+group_moves states.IntervalEnd kinds.RightParen t g = refl
 group_moves states.Offset kinds.Minus t g = refl
 group_moves states.Offset kinds.Duration t g = offset_moves t.start g (literal false t.text)
 group_moves states.OffsetMinus kinds.Duration t g = offset_moves g.first g (literal true t.text)
-group_moves states.OffsetEnd kinds.Close t g = refl
-group_moves states.AfterTag kinds.Cast t g = refl
+group_moves states.OffsetEnd kinds.RightParen t g = refl
+group_moves states.AfterTag kinds.DoubleColon t g = refl
 group_moves states.AfterTag kinds.Comma t g = refl
 group_moves states.GroupTagType kinds.Word t g = moves_if kinds.Word (is_word (codes "tag") t.text) (Ok (states.AfterItem, g)) (Err (unexpected t)) refl tt
 group_moves states.AfterItem kinds.Comma t g = refl
 group_moves p k t g = tt
 
-number_moves : (first : ℕ) (f : Filling) (o : Option ℤ) → Moves kinds.Integer (with_number first f o)
+number_moves : (first : ℕ) (f : FillClause) (o : Option ℤ) → Moves kinds.Integer (with_number first f o)
 number_moves first f None = tt
 number_moves first f (Some n) = refl
 
-fill_moves : (p : State) (k : Kind) (t : Lexeme) (f : Filling) → Moves k (fill_at p k t f)
-fill_moves states.FillOpen kinds.Open t f = refl
+fill_moves : (p : State) (k : Kind) (t : Lexeme) (f : FillClause) → Moves k (fill_at p k t f)
+fill_moves states.FillOpen kinds.LeftParen t f = refl
 fill_moves states.FillOption kinds.Word t f =
     moves_if kinds.Word (is_word (codes "null") t.text) (chosen fills.Null f)
     (if is_word (codes "none") t.text then chosen fills.None f else if is_word (codes "previous") t.text then chosen fills.Previous f else Err (unexpected t)) refl
@@ -174,7 +174,7 @@ fill_moves states.FillOption kinds.Word t f =
 fill_moves states.FillOption kinds.Minus t f = refl
 fill_moves states.FillOption kinds.Integer t f = number_moves t.start f (literal false t.text)
 fill_moves states.FillMinus kinds.Integer t f = number_moves f.first f (literal true t.text)
-fill_moves states.FillClose kinds.Close t f = refl
+fill_moves states.FillClose kinds.RightParen t f = refl
 fill_moves p k t f = tt
 
 selection_moves : (k : Kind) (d : BuilderState) (r : Result (State × Selected) Fault) → Moves k r → Moves k (in_selection d r)
@@ -193,7 +193,7 @@ in_groups_moves : (k : Kind) (d : BuilderState) (r : Result (State × Grouped) F
 in_groups_moves k d (Ok p) m = m
 in_groups_moves k d (Err fault) m = tt
 
-filling_moves : (k : Kind) (d : BuilderState) (r : Result (State × Filling) Fault) → Moves k r → Moves k (in_filling d r)
+filling_moves : (k : Kind) (d : BuilderState) (r : Result (State × FillClause) Fault) → Moves k r → Moves k (in_filling d r)
 filling_moves k d (Ok p) m = m
 filling_moves k d (Err fault) m = tt
 

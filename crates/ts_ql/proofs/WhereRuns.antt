@@ -66,9 +66,9 @@ a_depth_fault : (depth levels : ℕ) (t : Lexeme) → depth ≡ levels → nat_l
 a_depth_fault depth levels t same lt = ap (λ (n : ℕ). depth_fault n t) (sym same) ∙ ap (λ (b : Bool). if b then None else Some (unsupported t)) lt
 
 abbrev group_items : ℤ → Progress → Cond → Closing → Meaning → List Item
-group_items now s c outer p = spell_cond now (levels outer + 1) c (Any (Of kinds.Close) ∷ left_closing now s p outer)
+group_items now s c outer p = spell_cond now (levels outer + 1) c (Any (Of kinds.RightParen) ∷ left_closing now s p outer)
 
-group_back : (now : ℤ) (s : Progress) (t : Lexeme) → t.kind ≡ kinds.Open → nat_lt s.builder.filter.depth 32 ≡ true
+group_back : (now : ℤ) (s : Progress) (t : Lexeme) → t.kind ≡ kinds.LeftParen → nat_lt s.builder.filter.depth 32 ≡ true
     → (c : Cond) (closing : Closing) → s.builder.filter.depth + 1 ≡ levels closing
     → Behind now (at states.Term s) t (spell_cond now (levels closing) c (left_closing now s (after_cond now (meaning s.builder) c) closing))
     (said_closing now s (after_cond now (meaning s.builder) c) closing)
@@ -79,7 +79,7 @@ group_back now s t e lt c (Inside cs outer) suits =
     let items : group_items now s (joined c cs) outer (after_cond now (meaning s.builder) (joined c cs))
     ≡ spell_cond now (levels outer + 1) c (left_closing now s (after_cond now (meaning s.builder) c) (Inside cs outer))
     = ap (group_items now s (joined c cs) outer) after
-    ∙ spell_joined now (levels outer + 1) c cs (Any (Of kinds.Close) ∷ left_closing now s (after_conds now (after_cond now (meaning s.builder) c) cs) outer) in (
+    ∙ spell_joined now (levels outer + 1) c cs (Any (Of kinds.RightParen) ∷ left_closing now s (after_conds now (after_cond now (meaning s.builder) c) cs) outer) in (
       (Group t (joined c cs), outer),
       same,
       (λ ts reach w. (
@@ -91,7 +91,7 @@ group_back now s t e lt c (Inside cs outer) suits =
       ap (λ (p : Meaning). map Ok s.queries ++ said_closing now s p outer) after,
     )
 
-opened : (now : ℤ) (s : Progress) (t : Lexeme) → t.kind ≡ kinds.Open → (b : Bool) → nat_lt s.builder.filter.depth 32 ≡ b
+opened : (now : ℤ) (s : Progress) (t : Lexeme) → t.kind ≡ kinds.LeftParen → (b : Bool) → nat_lt s.builder.filter.depth 32 ≡ b
     → Answer now (at states.Term s) t (filtering s states.Term
     (if b then Ok (states.Term, record s.builder.filter { depth = s.builder.filter.depth + 1 }) else Err (unsupported t)))
 opened now s t e true lt = (tt, λ r suits. group_back now s t e lt r.0 r.1 suits)
@@ -150,7 +150,7 @@ nested_and_answers now s t e sound false is = inr refl
 abbrev closed_builder : Progress → BuilderState
 closed_builder s = record s.builder { filter = record s.builder.filter { depth = s.builder.filter.depth - 1 } }
 
-close_answers : (now : ℤ) (s : Progress) (t : Lexeme) → t.kind ≡ kinds.Close → 0 < s.builder.filter.depth → (b : Bool) → nat_lt 0 s.builder.filter.depth ≡ b
+close_answers : (now : ℤ) (s : Progress) (t : Lexeme) → t.kind ≡ kinds.RightParen → 0 < s.builder.filter.depth → (b : Bool) → nat_lt 0 s.builder.filter.depth ≡ b
     → Answer now (at states.NestedTerm s) t (filtering s states.NestedTerm
     (if b then Ok (after_term (s.builder.filter.depth - 1), record s.builder.filter { depth = s.builder.filter.depth - 1 }) else Err (unexpected t)))
 close_answers now s t e sound true lt =
@@ -163,10 +163,10 @@ matched_builder s t = record s.builder { filter = with_condition (text_spelled t
 
 pub where_answers : (now : ℤ) (s : Progress) (p : State) (k : Kind) (t : Lexeme) → t.kind ≡ k → SoundAt p (at p s)
     → Answer now (at p s) t (filtering s p (where_at p k t s.builder.filter))
-where_answers now s states.Term kinds.Open t e sound = opened now s t e (nat_lt s.builder.filter.depth 32) refl
+where_answers now s states.Term kinds.LeftParen t e sound = opened now s t e (nat_lt s.builder.filter.depth 32) refl
 where_answers now s states.Term kinds.Word t e sound = term_answers now s t (ap is_name e) (is_time_column t.kind t.text) refl
 where_answers now s states.Term kinds.QuotedName t e sound = term_answers now s t (ap is_name e) (is_time_column t.kind t.text) refl
-where_answers now s states.TagEnd kinds.Cast t e sound = (tt, λ r suits. ((true, r), suits, (λ ts reach w. (e, w)), refl))
+where_answers now s states.TagEnd kinds.DoubleColon t e sound = (tt, λ r suits. ((true, r), suits, (λ ts reach w. (e, w)), refl))
 where_answers now s states.TagEnd kinds.Equals t e sound = (tt, λ r suits. ((false, (false, r)), suits, (λ ts reach w. (e, w)), refl))
 where_answers now s states.TagEnd kinds.NotEqual t e sound = (tt, λ r suits. ((false, (true, r)), suits, (λ ts reach w. (e, w)), refl))
 where_answers now s states.TagType kinds.Word t e sound = type_answers now s t e (is_word (codes "tag") t.text) refl
@@ -176,7 +176,7 @@ where_answers now s states.TagValue kinds.StringLiteral t e sound =
     closes now (at states.TagValue s) t (matched_builder s t) (λ c suits. ((t, c), suits, (λ ts reach w. (refl, e, w)), refl)) (s.builder.filter.depth == 0) refl
 where_answers now s states.AfterTerm kinds.Keyword t e sound = and_answers now s t e sound (is_word (codes "and") t.text) refl
 where_answers now s states.NestedTerm kinds.Keyword t e sound = nested_and_answers now s t e sound (is_word (codes "and") t.text) refl
-where_answers now s states.NestedTerm kinds.Close t e sound = close_answers now s t e sound (nat_lt 0 s.builder.filter.depth) refl
+where_answers now s states.NestedTerm kinds.RightParen t e sound = close_answers now s t e sound (nat_lt 0 s.builder.filter.depth) refl
 where_answers now s p k t e sound = inr refl
 
 -- ---- from trees

@@ -1,6 +1,6 @@
 -- State of a statement being parsed.
 -- (InfluxData 1.8, InfluxQL: the basic SELECT statement and its clauses.)
-use Rattle.ts_ql.specs.declared.filling.Filling.{Filling}
+use Rattle.ts_ql.specs.declared.filling.FillClause.{FillClause}
 use Rattle.ts_ql.specs.declared.moment.Moment.{Moment}
 use Rattle.ts_ql.specs.declared.moment.Range.{Range}
 use Rattle.ts_ql.specs.declared.statement.StatementBuilder.{StatementBuilder}
@@ -18,7 +18,7 @@ pub record BuilderState : Type 0 where
   pub moment : Moment
   pub range : Range
   pub groups : Grouped
-  pub filling : Filling
+  pub filling : FillClause
 
 abbrev pub builder_state : {A : Type 0} → StatementBuilder A → BuilderState
 builder_state d = record {

@@ -139,7 +139,7 @@ pub record Statement : Type 0 where
 
 pub data Ending : Type 0 where
   Stop : Ending
-  Close : Ending
+  RightParen : Ending
   Next : Statement → Ending → Ending
 
 pub record Script : Type 0 where

@@ -6,7 +6,7 @@ use Rattle.ts_core.specs.declared.queries.fill.Fill.{Fill}
 use Rattle.ts_core.specs.declared.queries.fill.Fill.TheVariants as fills
 use Rattle.ts_core.specs.declared.aggregates.bucket.Buckets.{Buckets}
 use Rattle.ts_ql.specs.Selects.{with_text, of_interval, moved}
-use Rattle.ts_ql.specs.declared.filling.Filling.{Filling}
+use Rattle.ts_ql.specs.declared.filling.FillClause.{FillClause}
 use Rattle.ts_ql.specs.declared.state.State.{State}
 use Rattle.ts_ql.specs.declared.state.State.TheVariants as states
 use Rattle.ts_ql.specs.declared.token.Kind.{Kind}
@@ -56,15 +56,15 @@ abbrev pub grouping_at : State → Kind → Lexeme → Grouped → Grouping
 grouping_at states.GroupBy kinds.Keyword t g = if is_word (codes "by") t.text then Ok (states.Item, g) else Err (unexpected t)
 grouping_at states.Item kinds.Word t g = item_at t g
 grouping_at states.Item kinds.QuotedName t g = item_at t g
-grouping_at states.TimeOpen kinds.Open t g = Ok (states.Interval, g)
+grouping_at states.TimeOpen kinds.LeftParen t g = Ok (states.Interval, g)
 grouping_at states.Interval kinds.Duration t g = with_interval t g (literal false t.text)
 grouping_at states.IntervalEnd kinds.Comma t g = Ok (states.Offset, g)
-grouping_at states.IntervalEnd kinds.Close t g = Ok (states.AfterItem, g)
+grouping_at states.IntervalEnd kinds.RightParen t g = Ok (states.AfterItem, g)
 grouping_at states.Offset kinds.Minus t g = Ok (states.OffsetMinus, record g { first = t.start })
 grouping_at states.Offset kinds.Duration t g = with_offset t.start g (literal false t.text)
 grouping_at states.OffsetMinus kinds.Duration t g = with_offset g.first g (literal true t.text)
-grouping_at states.OffsetEnd kinds.Close t g = Ok (states.AfterItem, g)
-grouping_at states.AfterTag kinds.Cast t g = Ok (states.GroupTagType, g)
+grouping_at states.OffsetEnd kinds.RightParen t g = Ok (states.AfterItem, g)
+grouping_at states.AfterTag kinds.DoubleColon t g = Ok (states.GroupTagType, g)
 grouping_at states.AfterTag kinds.Comma t g = Ok (states.Item, g)
 grouping_at states.GroupTagType kinds.Word t g = if is_word (codes "tag") t.text then Ok (states.AfterItem, g) else Err (unexpected t)
 grouping_at states.AfterItem kinds.Comma t g = Ok (states.Item, g)
@@ -76,18 +76,18 @@ group_step state t g = grouping_at state t.kind t g
 -- ---- fill
 
 abbrev pub FillStep : Type 0
-FillStep = Result (State × Filling) Fault
+FillStep = Result (State × FillClause) Fault
 
 -- fill with a number whose first token is at `first`
-abbrev pub with_number : ℕ → Filling → Option ℤ → FillStep
+abbrev pub with_number : ℕ → FillClause → Option ℤ → FillStep
 with_number first f None = Err (OutOfRange first)
 with_number first f (Some n) = Ok (states.FillClose, record f { fill = fills.Number n })
 
-abbrev pub chosen : Fill → Filling → FillStep
+abbrev pub chosen : Fill → FillClause → FillStep
 chosen fill f = Ok (states.FillClose, record f { fill = fill })
 
-abbrev pub fill_at : State → Kind → Lexeme → Filling → FillStep
-fill_at states.FillOpen kinds.Open t f = Ok (states.FillOption, f)
+abbrev pub fill_at : State → Kind → Lexeme → FillClause → FillStep
+fill_at states.FillOpen kinds.LeftParen t f = Ok (states.FillOption, f)
 fill_at states.FillOption kinds.Word t f =
     if is_word (codes "null") t.text then chosen fills.Null f
     else if is_word (codes "none") t.text then chosen fills.None f
@@ -96,12 +96,12 @@ fill_at states.FillOption kinds.Word t f =
 fill_at states.FillOption kinds.Minus t f = Ok (states.FillMinus, record f { first = t.start })
 fill_at states.FillOption kinds.Integer t f = with_number t.start f (literal false t.text)
 fill_at states.FillMinus kinds.Integer t f = with_number f.first f (literal true t.text)
-fill_at states.FillClose kinds.Close t f = Ok (states.AfterFill, f)
+fill_at states.FillClose kinds.RightParen t f = Ok (states.AfterFill, f)
 fill_at state kind t f = Err (unexpected t)
 
-unfoldable pub fill_step : State → Lexeme → Filling → FillStep
+unfoldable pub fill_step : State → Lexeme → FillClause → FillStep
 fill_step state t f = fill_at state t.kind t f
 
 -- the default: null
-abbrev pub no_fill : Filling
+abbrev pub no_fill : FillClause
 no_fill = record { fill = fills.Null; first = 0 }

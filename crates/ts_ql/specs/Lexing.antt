@@ -72,14 +72,14 @@ double first second =
     else if first == 60 && second == 62 then Some kinds.NotEqual
     else if first == 60 && second == 61 then Some kinds.LessOrEqual
     else if first == 62 && second == 61 then Some kinds.GreaterOrEqual
-    else if first == 58 && second == 58 then Some kinds.Cast else None
+    else if first == 58 && second == 58 then Some kinds.DoubleColon else None
 
 -- an operator of one byte
 unfoldable pub single : ℕ → Option Kind
 single byte =
     if byte == 44 then Some kinds.Comma
-    else if byte == 40 then Some kinds.Open
-    else if byte == 41 then Some kinds.Close
+    else if byte == 40 then Some kinds.LeftParen
+    else if byte == 41 then Some kinds.RightParen
     else if byte == 59 then Some kinds.Semicolon
     else if byte == 61 then Some kinds.Equals
     else if byte == 60 then Some kinds.Less

@@ -13,7 +13,7 @@ use Rattle.ts_core.specs.declared.aggregates.bucket.Buckets.{Buckets}
 use Rattle.ts_ql.specs.declared.moment.Range.{Range}
 use Rattle.ts_ql.specs.Dates.{timestamp_of}
 use Rattle.ts_ql.specs.QueryFaults.{Fault}
-use Rattle.ts_ql.specs.Grammar.{Call, FromClause, Measurement, Subquery, Base, Number, Negative, Quoted, Now, Change, Instant, Cond, Compare, Match, Group, And, Signed, Dimension, Every, ByTag, GroupBy, FillOption, NullOption, NoneOption, PreviousOption, NumberOption, Statement, Ending, Stop, Close, Next, Script}
+use Rattle.ts_ql.specs.Grammar.{Call, FromClause, Measurement, Subquery, Base, Number, Negative, Quoted, Now, Change, Instant, Cond, Compare, Match, Group, And, Signed, Dimension, Every, ByTag, GroupBy, FillOption, NullOption, NoneOption, PreviousOption, NumberOption, Statement, Ending, Stop, RightParen, Next, Script}
 use Rattle.ts_ql.specs.Ranges.{bounded, unbounded}
 use Rattle.ts_ql.specs.Literals.{literal}
 use Rattle.ts_ql.specs.Selects.{Projection, Select, function_name, with_text, of_interval, moved}
@@ -162,7 +162,7 @@ statement_meaning now s =
 -- results of a statement with this meaning and of those after it
 abbrev pub ending_queries : ℤ → ℕ → Meaning → Ending → List (Result Select Fault)
 ending_queries now start p Stop = statement_query start now p ∷ []
-ending_queries now start p Close = statement_query start now p ∷ []
+ending_queries now start p RightParen = statement_query start now p ∷ []
 ending_queries now start p (Next s rest) = statement_query start now p ∷ ending_queries now s.select.start (statement_meaning now s) rest
 
 abbrev pub script_queries : ℤ → Script → List (Result Select Fault)

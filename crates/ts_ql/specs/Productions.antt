@@ -11,7 +11,7 @@ use Rattle.ts_ql.specs.declared.moment.Comparison.TheVariants as comparisons
 use Rattle.ts_ql.specs.declared.token.Kind.{Kind}
 use Rattle.ts_ql.specs.declared.token.Kind.TheVariants as kinds
 use Rattle.ts_ql.specs.QueryFaults.{Fault, OutOfRange, TooManyStatements, unsupported, unexpected}
-use Rattle.ts_ql.specs.Grammar.{Keyword, Word, Name, Tag, Time, Of, Item, Any, This, Examine, FieldType, Field, Integer, Call, FromClause, Measurement, Subquery, Measure, Count, Duration, Base, Number, Negative, Quoted, Now, Change, Instant, Cond, Compare, Match, Group, And, Signed, Dimension, Every, ByTag, GroupBy, FillOption, NullOption, NoneOption, PreviousOption, NumberOption, Statement, Ending, Stop, Close, Next, Script}
+use Rattle.ts_ql.specs.Grammar.{Keyword, Word, Name, Tag, Time, Of, Item, Any, This, Examine, FieldType, Field, Integer, Call, FromClause, Measurement, Subquery, Measure, Count, Duration, Base, Number, Negative, Quoted, Now, Change, Instant, Cond, Compare, Match, Group, And, Signed, Dimension, Every, ByTag, GroupBy, FillOption, NullOption, NoneOption, PreviousOption, NumberOption, Statement, Ending, Stop, RightParen, Next, Script}
 use Rattle.ts_ql.specs.Literals.{literal}
 use Rattle.ts_ql.specs.Meanings.{no_meaning, base_start, base_value, total_after, after_call, after_calls, after_from, after_filter, after_dimension, statement_meaning, signed_start, signed_value}
 use Rattle.ts_ql.specs.Selects.{Select}
@@ -84,7 +84,7 @@ type_word Integer = codes "integer"
 
 abbrev pub spell_type : Option FieldType → List Item → List Item
 spell_type None rest = rest
-spell_type (Some t) rest = Any (Of kinds.Cast) ∷ Any (Word (type_word t)) ∷ rest
+spell_type (Some t) rest = Any (Of kinds.DoubleColon) ∷ Any (Word (type_word t)) ∷ rest
 
 abbrev pub spell_alias : Option Lexeme → List Item → List Item
 spell_alias None rest = rest
@@ -92,9 +92,9 @@ spell_alias (Some alias) rest = Any (Keyword (codes "as")) ∷ This Name alias �
 
 abbrev pub spell_call : Option Text → Call → List Item → List Item
 spell_call field a rest =
-    This Name a.function ∷ Examine (function_fault a.function) ∷ Any (Of kinds.Open)
+    This Name a.function ∷ Examine (function_fault a.function) ∷ Any (Of kinds.LeftParen)
     ∷ This Name a.field ∷ Examine (field_fault field a.field)
-    ∷ spell_type a.cast (Any (Of kinds.Close) ∷ spell_alias a.alias rest)
+    ∷ spell_type a.cast (Any (Of kinds.RightParen) ∷ spell_alias a.alias rest)
 
 abbrev pub spell_calls : Meaning → List Call → List Item → List Item
 spell_calls p [] rest = rest
@@ -102,7 +102,7 @@ spell_calls p (a ∷ more) rest = Any (Of kinds.Comma) ∷ spell_call p.field a 
 
 abbrev pub spell_from : FromClause → List Item → List Item
 spell_from (Measurement l) rest = This Name l ∷ rest
-spell_from (Subquery opener) rest = This (Of kinds.Open) opener ∷ Examine (Some (unsupported opener)) ∷ rest
+spell_from (Subquery opener) rest = This (Of kinds.LeftParen) opener ∷ Examine (Some (unsupported opener)) ∷ rest
 
 -- ---- WHERE
 
@@ -115,7 +115,7 @@ spell_base now (Number m l) rest = This (Of (kind_of_measure m)) l ∷ Examine (
 spell_base now (Negative minus m l) rest =
     This (Of kinds.Minus) minus ∷ This (Of (kind_of_measure m)) l ∷ Examine (literal_fault minus.start (literal true l.text)) ∷ rest
 spell_base now (Quoted l) rest = This (Of kinds.StringLiteral) l ∷ Examine (literal_fault l.start (base_value now (Quoted l))) ∷ rest
-spell_base now (Now l) rest = This (Word (codes "now")) l ∷ Any (Of kinds.Open) ∷ Any (Of kinds.Close) ∷ rest
+spell_base now (Now l) rest = This (Word (codes "now")) l ∷ Any (Of kinds.LeftParen) ∷ Any (Of kinds.RightParen) ∷ rest
 
 abbrev pub sign_of : Bool → Kind
 sign_of true = kinds.Minus
@@ -139,7 +139,7 @@ kind_of_comparison comparisons.GreaterOrEqual = kinds.GreaterOrEqual
 
 abbrev pub spell_tag_type : Bool → List Item → List Item
 spell_tag_type false rest = rest
-spell_tag_type true rest = Any (Of kinds.Cast) ∷ Any (Word (codes "tag")) ∷ rest
+spell_tag_type true rest = Any (Of kinds.DoubleColon) ∷ Any (Word (codes "tag")) ∷ rest
 
 abbrev pub equality : Bool → Kind
 equality false = kinds.Equals
@@ -151,7 +151,7 @@ spell_cond now depth (Compare l c i) rest = This Time l ∷ Any (Of (kind_of_com
 spell_cond now depth (Match tag cast negated value) rest =
     This Tag tag ∷ spell_tag_type cast (Any (Of (equality negated)) ∷ This (Of kinds.StringLiteral) value ∷ rest)
 spell_cond now depth (Group opener c) rest =
-    This (Of kinds.Open) opener ∷ Examine (depth_fault depth opener) ∷ spell_cond now (depth + 1) c (Any (Of kinds.Close) ∷ rest)
+    This (Of kinds.LeftParen) opener ∷ Examine (depth_fault depth opener) ∷ spell_cond now (depth + 1) c (Any (Of kinds.RightParen) ∷ rest)
 spell_cond now depth (And a b) rest = spell_cond now depth a (Any (Keyword (codes "and")) ∷ spell_cond now depth b rest)
 
 abbrev pub spell_filter : ℤ → Option Cond → List Item → List Item
@@ -173,8 +173,8 @@ spell_offset (Some offset) rest = Any (Of kinds.Comma) ∷ spell_signed Duration
 
 abbrev pub spell_dimension : Meaning → Dimension → List Item → List Item
 spell_dimension p (Every time interval offset) rest =
-    This Time time ∷ Examine (again_fault p.buckets time) ∷ Any (Of kinds.Open)
-    ∷ This (Of kinds.Duration) interval ∷ Examine (interval_fault interval) ∷ spell_offset offset (Any (Of kinds.Close) ∷ rest)
+    This Time time ∷ Examine (again_fault p.buckets time) ∷ Any (Of kinds.LeftParen)
+    ∷ This (Of kinds.Duration) interval ∷ Examine (interval_fault interval) ∷ spell_offset offset (Any (Of kinds.RightParen) ∷ rest)
 spell_dimension p (ByTag tag cast) rest = This Tag tag ∷ spell_tag_type cast rest
 
 abbrev pub spell_dimensions : Meaning → List Dimension → List Item → List Item
@@ -194,7 +194,7 @@ spell_option (NumberOption s) rest = spell_signed Count s rest
 
 abbrev pub spell_fill : Option FillOption → List Item → List Item
 spell_fill None rest = rest
-spell_fill (Some option) rest = Any (Word (codes "fill")) ∷ Any (Of kinds.Open) ∷ spell_option option (Any (Of kinds.Close) ∷ rest)
+spell_fill (Some option) rest = Any (Word (codes "fill")) ∷ Any (Of kinds.LeftParen) ∷ spell_option option (Any (Of kinds.RightParen) ∷ rest)
 
 -- ---- statements
 
@@ -212,7 +212,7 @@ spell_statement now before s rest =
 -- the end of a statement with this meaning, which is checked there as a whole
 abbrev pub spell_ending : ℤ → ℕ → ℕ → Meaning → Ending → List Item
 spell_ending now before start p Stop = Any (Of kinds.End) ∷ Examine (fault_in (statement_query start now p)) ∷ []
-spell_ending now before start p Close =
+spell_ending now before start p RightParen =
     Any (Of kinds.Semicolon) ∷ Examine (fault_in (statement_query start now p)) ∷ Any (Of kinds.End) ∷ []
 spell_ending now before start p (Next s rest) =
     Any (Of kinds.Semicolon) ∷ Examine (fault_in (statement_query start now p))

@@ -4,7 +4,7 @@
 -- statements.)
 use Rattle.std.specs.Prelude.{◌≡◌, ◌&&◌, ℕ, zero, suc, ℤ, ◌+◌, List, [], ◌∷◌, ◌++◌, length, Bool, true, false, ◌==◌, nat_lt, nat_le, Option, Some, None, Result, Ok, Err, if◌then◌else◌, codes}
 use Rattle.ts_core.specs.facts.Facts.{Text}
-use Rattle.ts_ql.specs.declared.filling.Filling.{Filling}
+use Rattle.ts_ql.specs.declared.filling.FillClause.{FillClause}
 use Rattle.ts_ql.specs.declared.fault.ParseError.{ParseError}
 use Rattle.ts_ql.specs.declared.moment.Moment.{Moment}
 use Rattle.ts_ql.specs.declared.moment.Range.{Range}
@@ -62,7 +62,7 @@ abbrev pub in_groups : BuilderState → Result (State × Grouped) Fault → Buil
 in_groups d (Ok p) = Ok (p.0, record d { groups = p.1 })
 in_groups d (Err fault) = Err fault
 
-abbrev pub in_filling : BuilderState → Result (State × Filling) Fault → BuilderResult
+abbrev pub in_filling : BuilderState → Result (State × FillClause) Fault → BuilderResult
 in_filling d (Ok p) = Ok (p.0, record d { filling = p.1 })
 in_filling d (Err fault) = Err fault
 

@@ -52,14 +52,14 @@ with_default s = with_column (function_name s.function) s
 abbrev pub select_at : State → Kind → Lexeme → Selected → Selecting
 select_at states.Function kinds.Word t s = with_function t s (function_called t.text)
 select_at states.Function kinds.QuotedName t s = Err (unsupported t)
-select_at states.FunctionOpen kinds.Open t s = Ok (states.Field, s)
+select_at states.FunctionOpen kinds.LeftParen t s = Ok (states.Field, s)
 select_at states.Field kinds.Word t s = with_call_field t s s.field
 select_at states.Field kinds.QuotedName t s = with_call_field t s s.field
-select_at states.FieldEnd kinds.Close t s = Ok (states.AfterColumn, s)
-select_at states.FieldEnd kinds.Cast t s = Ok (states.FieldType, s)
+select_at states.FieldEnd kinds.RightParen t s = Ok (states.AfterColumn, s)
+select_at states.FieldEnd kinds.DoubleColon t s = Ok (states.FieldType, s)
 select_at states.FieldType kinds.Word t s =
     if is_word (codes "field") t.text || is_word (codes "integer") t.text then Ok (states.FieldClose, s) else Err (unexpected t)
-select_at states.FieldClose kinds.Close t s = Ok (states.AfterColumn, s)
+select_at states.FieldClose kinds.RightParen t s = Ok (states.AfterColumn, s)
 select_at states.AfterColumn kinds.Comma t s = Ok (states.Function, with_default s)
 select_at states.AfterColumn kinds.Keyword t s =
     if is_word (codes "from") t.text then Ok (states.Measurement, with_default s)
@@ -70,7 +70,7 @@ select_at states.AfterAlias kinds.Comma t s = Ok (states.Function, s)
 select_at states.AfterAlias kinds.Keyword t s = if is_word (codes "from") t.text then Ok (states.Measurement, s) else Err (unexpected t)
 select_at states.Measurement kinds.Word t s = Ok (states.AfterMeasurement, record s { measurement = named t })
 select_at states.Measurement kinds.QuotedName t s = Ok (states.AfterMeasurement, record s { measurement = named t })
-select_at states.Measurement kinds.Open t s = Err (unsupported t)
+select_at states.Measurement kinds.LeftParen t s = Err (unsupported t)
 select_at state kind t s = Err (unexpected t)
 
 unfoldable pub select_step : State → Lexeme → Selected → Selecting

@@ -13,18 +13,18 @@ use ts_core::Fill;
 
 /// Builder of the FILL clause.
 #[derive(Clone, Copy, Debug)]
-pub(crate) struct Filling {
+pub(crate) struct FillClause {
     pub fill: Fill,
     /// Offset of the number's first token.
     pub first: usize,
 }
 
-impl Filling {
+impl FillClause {
     /// Creates the builder with the default, `null`.
-    pub(crate) fn new() -> Filling
+    pub(crate) fn new() -> FillClause
         ensures { result ≡ no_fill }
     {
-        Filling {
+        FillClause {
             fill: Fill::Null,
             first: 0,
         }
@@ -67,7 +67,7 @@ impl Filling {
         ensures { GivesWith result self.new (fill_step state (lexeme token.now) self.old) }
     {
         match (state, token.kind) {
-            (State::FillOpen, Kind::Open) => Ok(State::FillOption),
+            (State::FillOpen, Kind::LeftParen) => Ok(State::FillOption),
             (State::FillOption, Kind::Word) if is_word(token.text, "null") => self.choose(
                 Fill::Null,
             ),
@@ -83,7 +83,7 @@ impl Filling {
             }
             (State::FillOption, Kind::Integer) => self.parse_number(token.start, false, token),
             (State::FillMinus, Kind::Integer) => self.parse_number(self.first, true, token),
-            (State::FillClose, Kind::Close) => Ok(State::AfterFill),
+            (State::FillClose, Kind::RightParen) => Ok(State::AfterFill),
             _ => Err(ParseError::Fault(token.unexpected())),
         }
     }

@@ -14,7 +14,7 @@ use std::mem;
 
 /// Builder of the tag conditions.
 #[derive(Drop)]
-pub(crate) struct Filter<A: Allocator> {
+pub(crate) struct WhereClause<A: Allocator> {
     pub conditions: Vec<Condition<A>, A>,
     /// Tag of the current condition.
     pub tag: String<A>,
@@ -35,12 +35,12 @@ pub(crate) fn after_term(depth: u8) -> State
     }
 }
 
-impl<A: Allocator + Copy> Filter<A> {
+impl<A: Allocator + Copy> WhereClause<A> {
     /// Creates the builder without conditions.
-    pub(crate) fn new(alloc: A) -> Filter<A>
+    pub(crate) fn new(alloc: A) -> WhereClause<A>
         ensures { filtered result ≡ empty_filter }
     {
-        Filter {
+        WhereClause {
             conditions: Vec::new(alloc),
             tag: String::new(alloc),
             negated: false,
@@ -80,7 +80,7 @@ impl<A: Allocator + Copy> Filter<A> {
         ensures { GivesWith result (filtered self.new) (where_step state (lexeme token.now) (filtered self.old)) }
     {
         match (state, token.kind) {
-            (State::Term, Kind::Open) => {
+            (State::Term, Kind::LeftParen) => {
                 if self.depth >= 32 {
                     return Err(ParseError::Fault(token.unsupported()));
                 }
@@ -88,7 +88,7 @@ impl<A: Allocator + Copy> Filter<A> {
                 Ok(State::Term)
             }
             (State::Term, Kind::Word | Kind::QuotedName) => self.parse_column(alloc, token),
-            (State::TagEnd, Kind::Cast) => Ok(State::TagType),
+            (State::TagEnd, Kind::DoubleColon) => Ok(State::TagType),
             (State::TagType, Kind::Word) if is_word(token.text, "tag") => Ok(State::TagSign),
             (State::TagEnd | State::TagSign, Kind::Equals) => {
                 self.negated = false;
@@ -105,7 +105,7 @@ impl<A: Allocator + Copy> Filter<A> {
             (State::AfterTerm | State::NestedTerm, Kind::Keyword) if is_word(token.text, "and") => {
                 Ok(State::Term)
             }
-            (State::NestedTerm, Kind::Close) if self.depth > 0 => {
+            (State::NestedTerm, Kind::RightParen) if self.depth > 0 => {
                 self.depth -= 1;
                 Ok(after_term(self.depth))
             }

@@ -19,7 +19,7 @@ use ts_core::Buckets;
 
 /// Builder of the GROUP BY clause.
 #[derive(Drop)]
-pub(crate) struct Groups<A: Allocator> {
+pub(crate) struct GroupByClause<A: Allocator> {
     buckets: Option<Buckets>,
     /// Offset in the text of the first token of the bucket offset.
     first: usize,
@@ -27,7 +27,7 @@ pub(crate) struct Groups<A: Allocator> {
     tags: BTreeSet<String<A>, A>,
 }
 
-impl<A: Allocator> Model for Groups<A> {
+impl<A: Allocator> Model for GroupByClause<A> {
     ghost use Rattle.ts_ql.specs.GroupSteps.{Grouped, HasInterval};
     ghost use Rattle.ts_ql.specs.Selects.{texts};
 
@@ -38,12 +38,12 @@ impl<A: Allocator> Model for Groups<A> {
     ghost invariant = { λ g. HasInterval g.buckets };
 }
 
-impl<A: Allocator + Copy> Groups<A> {
+impl<A: Allocator + Copy> GroupByClause<A> {
     /// Creates the builder without buckets or tags.
-    pub(crate) fn new(alloc: A) -> Groups<A>
+    pub(crate) fn new(alloc: A) -> GroupByClause<A>
         ensures { result ≡ empty_groups }
     {
-        Groups {
+        GroupByClause {
             buckets: None,
             first: 0,
             tags: BTreeSet::new(alloc),
@@ -116,7 +116,7 @@ impl<A: Allocator + Copy> Groups<A> {
         match (state, token.kind) {
             (State::GroupBy, Kind::Keyword) if is_word(token.text, "by") => Ok(State::Item),
             (State::Item, Kind::Word | Kind::QuotedName) => self.parse_column(alloc, token),
-            (State::TimeOpen, Kind::Open) => Ok(State::Interval),
+            (State::TimeOpen, Kind::LeftParen) => Ok(State::Interval),
             (State::Interval, Kind::Duration) => self.parse_interval(token),
             (State::IntervalEnd, Kind::Comma) => Ok(State::Offset),
             (State::Offset, Kind::Minus) => {
@@ -125,8 +125,8 @@ impl<A: Allocator + Copy> Groups<A> {
             }
             (State::Offset, Kind::Duration) => self.parse_offset(token.start, false, token),
             (State::OffsetMinus, Kind::Duration) => self.parse_offset(self.first, true, token),
-            (State::IntervalEnd | State::OffsetEnd, Kind::Close) => Ok(State::AfterItem),
-            (State::AfterTag, Kind::Cast) => Ok(State::GroupTagType),
+            (State::IntervalEnd | State::OffsetEnd, Kind::RightParen) => Ok(State::AfterItem),
+            (State::AfterTag, Kind::DoubleColon) => Ok(State::GroupTagType),
             (State::GroupTagType, Kind::Word) if is_word(token.text, "tag") => Ok(State::AfterItem),
             (State::AfterTag | State::AfterItem, Kind::Comma) => Ok(State::Item),
             _ => Err(ParseError::Fault(token.unexpected())),

@@ -135,8 +135,8 @@ impl Moment {
             (State::MomentMinus, Kind::Integer | Kind::Duration) => {
                 self.begin(self.first, wide(literal(true, token.text)))
             }
-            (State::NowOpen, Kind::Open) => Ok(State::NowClose),
-            (State::NowClose, Kind::Close) => {
+            (State::NowOpen, Kind::LeftParen) => Ok(State::NowClose),
+            (State::NowClose, Kind::RightParen) => {
                 self.total = now;
                 Ok(State::AfterMoment)
             }

@@ -125,7 +125,7 @@ impl<A: Allocator + Copy> Selection<A> {
                 self.measurement = text_spelled(alloc, token.text)?;
                 Ok(State::AfterMeasurement)
             }
-            Kind::Open => Err(ParseError::Fault(token.unsupported())),
+            Kind::LeftParen => Err(ParseError::Fault(token.unsupported())),
             _ => Err(ParseError::Fault(token.unexpected())),
         }
     }
@@ -142,10 +142,10 @@ impl<A: Allocator + Copy> Selection<A> {
     {
         match (state, token.kind) {
             (State::Function, _) => self.parse_function(token),
-            (State::FunctionOpen, Kind::Open) => Ok(State::Field),
+            (State::FunctionOpen, Kind::LeftParen) => Ok(State::Field),
             (State::Field, Kind::Word | Kind::QuotedName) => self.parse_field(alloc, token),
-            (State::FieldEnd | State::FieldClose, Kind::Close) => Ok(State::AfterColumn),
-            (State::FieldEnd, Kind::Cast) => Ok(State::FieldType),
+            (State::FieldEnd | State::FieldClose, Kind::RightParen) => Ok(State::AfterColumn),
+            (State::FieldEnd, Kind::DoubleColon) => Ok(State::FieldType),
             (State::FieldType, Kind::Word)
                 if is_word(token.text, "field") || is_word(token.text, "integer") => {
                 Ok(State::FieldClose)

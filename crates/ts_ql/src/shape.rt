@@ -23,7 +23,7 @@ fn double(first: u8, second: u8) -> Option<Kind>
         (b'!', b'=') | (b'<', b'>') => Some(Kind::NotEqual),
         (b'<', b'=') => Some(Kind::LessOrEqual),
         (b'>', b'=') => Some(Kind::GreaterOrEqual),
-        (b':', b':') => Some(Kind::Cast),
+        (b':', b':') => Some(Kind::DoubleColon),
         _ => None,
     }
 }
@@ -37,8 +37,8 @@ fn single(byte: u8) -> Option<Kind>
 {
     match byte {
         b',' => Some(Kind::Comma),
-        b'(' => Some(Kind::Open),
-        b')' => Some(Kind::Close),
+        b'(' => Some(Kind::LeftParen),
+        b')' => Some(Kind::RightParen),
         b';' => Some(Kind::Semicolon),
         b'=' => Some(Kind::Equals),
         b'<' => Some(Kind::Less),

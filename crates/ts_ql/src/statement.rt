@@ -11,9 +11,9 @@ ghost use Rattle.ts_ql.specs.Statements.{repeats, first_start, buckets_between, 
 ghost use Rattle.ts_ql.specs.Builders.{builder_state, empty_builder, meaning};
 
 use crate::fault::{ParseError, QlFault, QlFaultKind};
-use crate::filling::Filling;
-use crate::filter::{Filter, after_term};
-use crate::groups::Groups;
+use crate::filling::FillClause;
+use crate::filter::{WhereClause, after_term};
+use crate::groups::GroupByClause;
 use crate::moment::{Moment, Range};
 use crate::query::{Projection, Query, QueryParts, Span};
 use crate::selection::Selection;
@@ -27,11 +27,11 @@ use ts_core::{Buckets, Time};
 #[derive(Drop)]
 pub(crate) struct StatementBuilder<A: Allocator> {
     pub selection: Selection<A>,
-    pub filter: Filter<A>,
+    pub filter: WhereClause<A>,
     pub moment: Moment,
     pub range: Range,
-    pub groups: Groups<A>,
-    pub filling: Filling,
+    pub groups: GroupByClause<A>,
+    pub filling: FillClause,
 }
 
 /// Returns true if two columns have the same name, or one is named `time`.
@@ -119,11 +119,11 @@ impl<A: Allocator + Copy> StatementBuilder<A> {
     {
         StatementBuilder {
             selection: Selection::new(alloc),
-            filter: Filter::new(alloc),
+            filter: WhereClause::new(alloc),
             moment: Moment::new(),
             range: Range::new(),
-            groups: Groups::new(alloc),
-            filling: Filling::new(),
+            groups: GroupByClause::new(alloc),
+            filling: FillClause::new(),
         }
     }
 

@@ -26,11 +26,11 @@ pub(crate) enum Kind {
     Integer,
     Duration,
     Comma,
-    Open,
-    Close,
+    LeftParen,
+    RightParen,
     Semicolon,
     /// `::`
-    Cast,
+    DoubleColon,
     Equals,
     /// `!=` or `<>`
     NotEqual,

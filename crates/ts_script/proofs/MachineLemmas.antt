@@ -12,7 +12,7 @@ use Rattle.ts_core.specs.moves.StoreMoves.{run_begun}
 use Rattle.ts_core.specs.store.Marks.{Marks, marks_of}
 use Rattle.ts_core.specs.store.StoreStates.{StandsFor}
 use Rattle.ts_core.specs.store.History.{History, Begin, Step as StepEvent, IsRunOpen}
-use Rattle.ts_store.specs.write.LineTexts.{LineState as StoreState, IsIn as IsStoreIn, opened as opened_store, parts_in, WritesFrom}
+use Rattle.ts_store.specs.write.LineTexts.{LineState as StoreState, IsStateOf as IsStoreIn, opened as opened_store, parts_in, WritesFrom}
 use Rattle.ts_store.specs.store.Inventories.{Inventory, inventory_of, new_inventory, all_waiting, facts_of_text, GrowsAfter, steps_in, StepsTo, LeavesRecent}
 use Rattle.ts_store.specs.read.PointsRead.{all_raw}
 use Rattle.ts_store.specs.write.StoreFaultTexts.{run_in_progress_text}
@@ -27,12 +27,12 @@ use Rattle.ts_reply.specs.Explaining.{IsExplanation}
 use Rattle.ts_reply.specs.declared.epoch.Epoch.{Epoch}
 use Rattle.ts_script.specs.ScriptLines.{script_line_limit}
 use Rattle.ts_script.specs.ScriptCertificates.{with_line_feeds}
-use Rattle.ts_script.specs.Commands.{OpenWith, At, SetPrecision, SetEpoch, Write, Live, Retain, BeginRun, StepRun, SetCertificate, Query, Explain, Count, CountFault, Unknown, is_skipped, command_of}
+use Rattle.ts_script.specs.Commands.{SetSettings, At, SetPrecision, SetEpoch, Write, Live, Retain, BeginRun, StepRun, SetCertificate, Query, Explain, Count, CountFault, Unknown, is_skipped, command_of}
 use Rattle.ts_script.specs.MarksTexts.{marks_text}
 use Rattle.ts_script.specs.ScriptReplies.{line, text_of, step_text, written_text, unknown_text, bad_range_text}
 use Rattle.ts_script.specs.declared.reply.Reply.{Reply}
 use Rattle.ts_script.specs.declared.reply.Reply.TheVariants.{OutOfMemory}
-use Rattle.ts_script.specs.Machine.{State, no_longer_fresh, with_certificate, with_store, opened_with, with_begin, with_one_step, is_last, with_run, rules_in, lows_in, facts_of_line, RunsWhole, current_marks_text, at_moment, in_precision, in_epoch, Counts, Transition, Step, opens, refuses_settings, opens_no_memory, opens_late, moves, sets, shows, writes, writes_no_memory, retains, refuses_retain, retains_no_memory, begins, refuses_begin, begins_no_memory, steps, steps_idle, hands_in, hands_in_no_memory, replies, replies_no_memory, explains, explains_no_memory, tells_live, counts, counts_nothing, refuses_count, refuses_unknown, too_long, no_text, skips, does}
+use Rattle.ts_script.specs.Machine.{State, no_longer_fresh, with_certificate, with_store, opened_with, with_begin, with_one_step, is_last, with_run, rules_in, lows_in, facts_of_line, RunsWhole, current_marks_text, at_moment, in_precision, in_epoch, Counts, Transition, Step, opens, refuses_settings, opens_no_memory, opens_late, moves, sets, shows, writes, writes_no_memory, retains, refuses_retain, retains_no_memory, begins, refuses_begin, begins_no_memory, steps, steps_idle, sets_certificate, sets_certificate_no_memory, replies, replies_no_memory, explains, explains_no_memory, tells_live, counts, counts_nothing, refuses_count, refuses_unknown, too_long, no_text, skips, does}
 use Rattle.ts_script.specs.MachineState.{MachineState, keeping, IsMachineIn, HasReply, HasExplanation, TransitionTo, Refused, Stepped}
 
 -- ---- writing
@@ -100,25 +100,25 @@ none_counted measurement field a b s m i none = (s, counts_nothing measurement f
 
 -- ---- settings
 
-pub was_opened : (text : Text) (settings : Settings) (s : State) (m : MachineState) (k : StoreData) → IsMachineIn s m → m.fresh ≡ true → settings_read text ≡ Ok settings → IsStoreIn (opened_store settings) k → inventory_of k ≡ new_inventory settings → TransitionTo (OpenWith text) s [] (keeping k m)
+pub was_opened : (text : Text) (settings : Settings) (s : State) (m : MachineState) (k : StoreData) → IsMachineIn s m → m.fresh ≡ true → settings_read text ≡ Ok settings → IsStoreIn (opened_store settings) k → inventory_of k ≡ new_inventory settings → TransitionTo (SetSettings text) s [] (keeping k m)
 was_opened text settings s m k i fresh read empty none = (
   opened_with settings s,
   opens text settings (sym i.fresh ∙ fresh) read,
   record { moment = i.moment; precision = i.precision; epoch = i.epoch; fresh = i.fresh; certificate = i.certificate; store = empty; inventory = none },
 )
 
-pub opened_no_memory : (text : Text) (s : State) (m : MachineState) → IsMachineIn s m → m.fresh ≡ true → TransitionTo (OpenWith text) s (line memory_text) m
+pub opened_no_memory : (text : Text) (s : State) (m : MachineState) → IsMachineIn s m → m.fresh ≡ true → TransitionTo (SetSettings text) s (line memory_text) m
 opened_no_memory text s m i fresh = (s, opens_no_memory text (sym i.fresh ∙ fresh), i)
 
 pub settings_refused : (text : Text) (answer : Reply) (fault : SettingsFault) (s : State) (m : MachineState) → IsMachineIn s m → m.fresh ≡ true → settings_read text ≡ Err fault
-    → (text_of answer ≡ line (settings_fault_text fault)) ⊎ (answer ≡ OutOfMemory) → TransitionTo (OpenWith text) s (text_of answer) m
+    → (text_of answer ≡ line (settings_fault_text fault)) ⊎ (answer ≡ OutOfMemory) → TransitionTo (SetSettings text) s (text_of answer) m
 settings_refused text answer fault s m i fresh read told =
-    elim told as (λ _. TransitionTo (OpenWith text) s (text_of answer) m) [
-      | inl is ↦ (s, subst (λ (a : Text). Transition s (OpenWith text) a s) (sym is) (refuses_settings text fault (sym i.fresh ∙ fresh) read), i)
-      | inr want ↦ subst (λ (a : Reply). TransitionTo (OpenWith text) s (text_of a) m) (sym want) (opened_no_memory text s m i fresh)
+    elim told as (λ _. TransitionTo (SetSettings text) s (text_of answer) m) [
+      | inl is ↦ (s, subst (λ (a : Text). Transition s (SetSettings text) a s) (sym is) (refuses_settings text fault (sym i.fresh ∙ fresh) read), i)
+      | inr want ↦ subst (λ (a : Reply). TransitionTo (SetSettings text) s (text_of a) m) (sym want) (opened_no_memory text s m i fresh)
     ]
 
-pub opened_late : (text : Text) (s : State) (m : MachineState) → IsMachineIn s m → m.fresh ≡ false → TransitionTo (OpenWith text) s (line unknown_text) m
+pub opened_late : (text : Text) (s : State) (m : MachineState) → IsMachineIn s m → m.fresh ≡ false → TransitionTo (SetSettings text) s (line unknown_text) m
 opened_late text s m i late = (s, opens_late text (sym i.fresh ∙ late), i)
 
 -- ---- retention
@@ -229,12 +229,12 @@ held certificate s m i = record { moment = i.moment; precision = i.precision; ep
 pub was_given : (text certificate : Text) (s : State) (m : MachineState) → IsMachineIn s m → certificate ≡ with_line_feeds text → TransitionTo (SetCertificate text) s [] (holding (Some certificate) m)
 was_given text certificate s m i e = (
   with_certificate (Some certificate) s,
-  subst (λ (c : Text). Transition s (SetCertificate text) [] (with_certificate (Some c) s)) (sym e) (hands_in text),
+  subst (λ (c : Text). Transition s (SetCertificate text) [] (with_certificate (Some c) s)) (sym e) (sets_certificate text),
   held (Some certificate) s m i,
 )
 
 pub given_no_memory : (text : Text) (s : State) (m : MachineState) → IsMachineIn s m → TransitionTo (SetCertificate text) s (line memory_text) m
-given_no_memory text s m i = (s, hands_in_no_memory text, i)
+given_no_memory text s m i = (s, sets_certificate_no_memory text, i)
 
 -- the body of a reply, or of an explanation, with an LF
 pub reply_ended : {X E : Type 0} (r : Result X E) (bytes : X → Text) (text body : Text) (certificate : Option Text) (good : Bool) (m : MachineState) → IfOk r (λ x. bytes x ≡ line body)

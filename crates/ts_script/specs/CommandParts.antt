@@ -1,10 +1,10 @@
 -- Parsed commands, by the values of their texts. (Own rule.)
-use Rattle.ts_script.specs.Commands.{Command, OpenWith, At, SetPrecision, SetEpoch, Write, Live, Retain, BeginRun, StepRun, Reload, AddRule, DropRule, SetCertificate, Query, Explain, Count, CountFault, Unknown}
+use Rattle.ts_script.specs.Commands.{Command, SetSettings, At, SetPrecision, SetEpoch, Write, Live, Retain, BeginRun, StepRun, Reload, AddRule, DropRule, SetCertificate, Query, Explain, Count, CountFault, Unknown}
 use Rattle.ts_script.specs.declared.command.Command.{Command as ReadCommand}
 use Rattle.ts_script.specs.declared.command.Command.TheVariants as read
 
 abbrev pub command_view : ReadCommand → Command
-command_view (read.OpenWith text) = OpenWith text.now
+command_view (read.SetSettings text) = SetSettings text.now
 command_view (read.At t) = At t
 command_view (read.SetPrecision p) = SetPrecision p
 command_view (read.SetEpoch e) = SetEpoch e

@@ -11,7 +11,7 @@ use Rattle.ts_script.specs.Moments.{moment_in, moment_of}
 
 pub data Command : Type 0 where
   -- opens the script with the settings of this text
-  OpenWith : Text → Command
+  SetSettings : Text → Command
   -- sets the script's time
   At : ℤ → Command
   -- sets the precision of timestamps
@@ -102,7 +102,7 @@ count_from text =
 -- the command of a line that isn't skipped: a command's name and one space, and then its argument
 unfoldable pub command_of : Text → Command
 command_of line =
-    if starts_with nat_eq line (codes "settings ") then OpenWith (drop 9 line)
+    if starts_with nat_eq line (codes "settings ") then SetSettings (drop 9 line)
     else if starts_with nat_eq line (codes "at ") then at_of (moment_of (drop 3 line))
     else if starts_with nat_eq line (codes "precision ") then precision_from (precision_of (drop 10 line))
     else if starts_with nat_eq line (codes "epoch ") then epoch_from (epoch_of (drop 6 line))

@@ -38,7 +38,7 @@ use Rattle.ts_store.specs.declared.write.write_text.LineOutcome.{LineOutcome}
 use Rattle.ts_script.specs.Reloads.{Reloaded}
 use Rattle.ts_script.specs.ScriptLines.{script_line_limit}
 use Rattle.ts_script.specs.ScriptCertificates.{with_line_feeds}
-use Rattle.ts_script.specs.Commands.{Command, OpenWith, At, SetPrecision, SetEpoch, Write, Live, Retain, BeginRun, StepRun, Reload, AddRule, DropRule, SetCertificate, Query, Explain, Count, CountFault, Unknown, is_skipped, command_of}
+use Rattle.ts_script.specs.Commands.{Command, SetSettings, At, SetPrecision, SetEpoch, Write, Live, Retain, BeginRun, StepRun, Reload, AddRule, DropRule, SetCertificate, Query, Explain, Count, CountFault, Unknown, is_skipped, command_of}
 use Rattle.ts_script.specs.MarksTexts.{rule_text, marks_text}
 use Rattle.ts_script.specs.ScriptReplies.{line, outcome_text, step_text, reloaded_text, dropped_text, unknown_text, bad_range_text}
 
@@ -162,10 +162,10 @@ pub data Counts (opening : Settings) (h : History) (measurement field : Text) (a
 -- From `old`, a command may print this text and lead to that state.
 pub data Transition (old : State) : Command → Text → State → Type 0 where
   -- settings come before everything else; with an error, the opening ones stay
-  opens : (text : Text) (settings : Settings) → old.fresh ≡ true → settings_read text ≡ Ok settings → Transition old (OpenWith text) [] (opened_with settings old)
-  refuses_settings : (text : Text) (fault : SettingsFault) → old.fresh ≡ true → settings_read text ≡ Err fault → Transition old (OpenWith text) (line (settings_fault_text fault)) old
-  opens_no_memory : (text : Text) → old.fresh ≡ true → Transition old (OpenWith text) (line memory_text) old
-  opens_late : (text : Text) → old.fresh ≡ false → Transition old (OpenWith text) (line unknown_text) old
+  opens : (text : Text) (settings : Settings) → old.fresh ≡ true → settings_read text ≡ Ok settings → Transition old (SetSettings text) [] (opened_with settings old)
+  refuses_settings : (text : Text) (fault : SettingsFault) → old.fresh ≡ true → settings_read text ≡ Err fault → Transition old (SetSettings text) (line (settings_fault_text fault)) old
+  opens_no_memory : (text : Text) → old.fresh ≡ true → Transition old (SetSettings text) (line memory_text) old
+  opens_late : (text : Text) → old.fresh ≡ false → Transition old (SetSettings text) (line unknown_text) old
   moves : (t : ℤ) → Transition old (At t) [] (at_moment t old)
   sets : (p : TimeUnit) → Transition old (SetPrecision p) [] (in_precision p old)
   -- a line is written with the script's precision; without a timestamp, it has the script's time
@@ -196,8 +196,8 @@ pub data Transition (old : State) : Command → Text → State → Type 0 where
   drops : (name : Text) → is_named (rules_in old) name ≡ true → Transition old (DropRule name) dropped_text (state_without_rule name old)
   refuses_drop : (name : Text) → is_named (rules_in old) name ≡ false → Transition old (DropRule name) (line unknown_rule_text) old
   -- the certificate is set for the next query, replacing an earlier one
-  hands_in : (text : Text) → Transition old (SetCertificate text) [] (with_certificate (Some (with_line_feeds text)) old)
-  hands_in_no_memory : (text : Text) → Transition old (SetCertificate text) (line memory_text) old
+  sets_certificate : (text : Text) → Transition old (SetCertificate text) [] (with_certificate (Some (with_line_feeds text)) old)
+  sets_certificate_no_memory : (text : Text) → Transition old (SetCertificate text) (line memory_text) old
   -- the body of the reply, good or not; the certificate is consumed
   replies : (text body : Text) (good : Bool) → IsReply old.store.opening old.store.history old.moment text old.certificate old.epoch good body → Transition old (Query text) (line body) (with_certificate None old)
   replies_no_memory : (text : Text) → Transition old (Query text) (line memory_text) (with_certificate None old)

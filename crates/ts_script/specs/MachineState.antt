@@ -6,7 +6,7 @@ use Rattle.ts_core.specs.store.StoreData.{StoreData}
 use Rattle.ts_core.specs.store.StoreCodes.{coded_text, coded_store_data}
 use Rattle.ts_core.specs.declared.facts.time_unit.TimeUnit.{TimeUnit}
 use Rattle.ts_core.specs.declared.facts.time_unit.TimeUnit.TheVariants.{Nanoseconds, Microseconds, Milliseconds, Seconds, Minutes, Hours, Days, Weeks}
-use Rattle.ts_store.specs.write.LineTexts.{IsIn as IsStoreIn}
+use Rattle.ts_store.specs.write.LineTexts.{IsStateOf as IsStoreIn}
 use Rattle.ts_store.specs.store.Inventories.{inventory_of}
 use Rattle.ts_reply.specs.Answering.{IsReply}
 use Rattle.ts_reply.specs.Explaining.{IsExplanation}

@@ -7,10 +7,10 @@ use Rattle.ts_core.specs.store.StoreData.{StoreData}
 use Rattle.ts_core.specs.declared.settings.settings_fault.SettingsError.{SettingsError}
 use Rattle.ts_core.specs.declared.settings.settings_fault.SettingsError.TheVariants.{Fault, OutOfMemory}
 use Rattle.ts_store.specs.store.Inventories.{inventory_of, new_inventory}
-use Rattle.ts_store.specs.write.LineTexts.{IsIn, opened}
+use Rattle.ts_store.specs.write.LineTexts.{IsStateOf, opened}
 
 -- an empty store with the settings of the text, or their first error, or out of memory
 abbrev pub IsOpening : Text → Result StoreData SettingsError → Type 0
-IsOpening text (Ok k) = (settings : Settings) × (settings_read text ≡ Ok settings) × IsIn (opened settings) k × (inventory_of k ≡ new_inventory settings)
+IsOpening text (Ok k) = (settings : Settings) × (settings_read text ≡ Ok settings) × IsStateOf (opened settings) k × (inventory_of k ≡ new_inventory settings)
 IsOpening text (Err (Fault fault)) = settings_read text ≡ Err fault
 IsOpening text (Err OutOfMemory) = ⊤

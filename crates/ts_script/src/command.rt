@@ -15,7 +15,7 @@ use ts_reply::Epoch;
 #[derive(Clone, Copy, Drop)]
 pub enum Command<'a> {
     /// Opens the script with the settings of this text.
-    OpenWith(&'a str),
+    SetSettings(&'a str),
     /// Sets the script's time.
     At(Time),
     /// Sets the precision of timestamps.
@@ -172,7 +172,7 @@ impl<'a> Command<'a> {
             return Command::Write(rest);
         }
         if let Some(rest) = rest_behind(line, "settings ") {
-            return Command::OpenWith(rest);
+            return Command::SetSettings(rest);
         }
         if let Some(rest) = rest_behind(line, "at ") {
             return at(rest);

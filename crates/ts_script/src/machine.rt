@@ -5,7 +5,7 @@ ghost use Rattle.ts_script.specs.CommandParts.{command_view};
 ghost use Rattle.ts_script.specs.ScriptLines.{script_line_limit};
 ghost use Rattle.ts_script.specs.Machine.{State, start};
 ghost use Rattle.ts_script.specs.MarksTexts.{marks_text};
-ghost use Rattle.ts_script.specs.Commands.{OpenWith as OpenWithCommand, Write as WriteCommand, Retain as RetainCommand, BeginRun as BeginCommand, StepRun as StepCommand, Reload as ReloadCommand, AddRule as AddRuleCommand, DropRule as DropRuleCommand, SetCertificate as CertificateCommand, Query as QueryCommand, Explain as ExplainCommand, Count as CountCommand};
+ghost use Rattle.ts_script.specs.Commands.{SetSettings as SettingsCommand, Write as WriteCommand, Retain as RetainCommand, BeginRun as BeginCommand, StepRun as StepCommand, Reload as ReloadCommand, AddRule as AddRuleCommand, DropRule as DropRuleCommand, SetCertificate as CertificateCommand, Query as QueryCommand, Explain as ExplainCommand, Count as CountCommand};
 ghost use Rattle.ts_script.specs.ScriptReplies.{line, text_of, written_text};
 ghost use Rattle.ts_script.specs.MachineState.{IsMachineIn, HasReply, HasExplanation, TransitionTo, Refused, Stepped};
 
@@ -97,7 +97,7 @@ impl Machine {
         ensures { (s : State) → IsMachineIn s self.old → TransitionTo (command_view command.entry) s (text_of result) self.new }
     {
         match command {
-            Command::OpenWith(text) => self.open_with(text),
+            Command::SetSettings(text) => self.set_settings(text),
             Command::At(moment) => {
                 self.moment = moment;
                 Reply::Nothing
@@ -117,7 +117,7 @@ impl Machine {
             Command::Reload => self.reload(),
             Command::AddRule(text) => self.add_rule(text),
             Command::DropRule(name) => self.drop_rule(name),
-            Command::SetCertificate(text) => self.hand_in(text),
+            Command::SetCertificate(text) => self.set_certificate(text),
             Command::Query(text) => self.query(text),
             Command::Explain(text) => self.explain(text),
             Command::Live => Reply::Count(self.store.raw_points()),
@@ -134,8 +134,8 @@ impl Machine {
 
     /// Replaces the store by an empty one with the settings of a text, or replies with their first error. Not a command
     /// once a line that isn't skipped has come.
-    fn open_with(&mut self, text: &str) -> Reply
-        ensures { (s : State) → IsMachineIn s self.old → TransitionTo (OpenWithCommand text.now) s (text_of result) self.new }
+    fn set_settings(&mut self, text: &str) -> Reply
+        ensures { (s : State) → IsMachineIn s self.old → TransitionTo (SettingsCommand text.now) s (text_of result) self.new }
     {
         if !self.fresh {
             return Reply::Unknown;
@@ -260,7 +260,7 @@ impl Machine {
     }
 
     /// Sets the certificate of the next query.
-    fn hand_in(&mut self, text: &str) -> Reply
+    fn set_certificate(&mut self, text: &str) -> Reply
         ensures { (s : State) → IsMachineIn s self.old → TransitionTo (CertificateCommand text.now) s (text_of result) self.new }
     {
         match with_line_feeds(self.alloc, text) {

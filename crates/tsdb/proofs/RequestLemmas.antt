@@ -3,7 +3,7 @@ use Rattle.std.proofs.Common.{◌≡◌, ℤ, List, [], ◌∷◌, ◌++◌, ref
 use Rattle.ts_core.specs.facts.Facts.{Text}
 use Rattle.ts_core.specs.io.Devices.{Input, Output}
 use Rattle.ts_core.specs.store.StoreData.{StoreData}
-use Rattle.ts_store.specs.write.LineTexts.{LineState, IsIn}
+use Rattle.ts_store.specs.write.LineTexts.{LineState, IsStateOf}
 use Rattle.ts_http.specs.Maintaining.{left_in}
 use Rattle.ts_http.specs.HeadsRead.{request_of}
 use Rattle.ts_http.specs.Served.{ServedAs, IsServed}

@@ -2,7 +2,7 @@
 use Rattle.std.specs.Prelude.{◌≡◌, ℕ, ℤ, Bool, true, false, List, [], ◌∷◌}
 use Rattle.ts_core.specs.facts.Facts.{Text}
 use Rattle.ts_core.specs.store.StoreData.{StoreData}
-use Rattle.ts_store.specs.write.LineTexts.{LineState, IsIn}
+use Rattle.ts_store.specs.write.LineTexts.{LineState, IsStateOf}
 use Rattle.ts_http.specs.Served.{Serves}
 use Rattle.ts_http.specs.declared.route.Route.TheVariants as to
 use Rattle.ts_http.specs.declared.serve.Served.{Served}
@@ -25,7 +25,7 @@ Leave (r ∷ rs) old new = (mid : LineState) × Leave rs old mid × Serves r.now
 
 -- From each state that the old store was in, some requests may lead to a state that the new one is in.
 abbrev pub WentBy : StoreData → StoreData → Type 0
-WentBy old new = (s : LineState) → IsIn s old → (rs : List ServedRequest) × (s' : LineState) × Leave rs s s' × IsIn s' new
+WentBy old new = (s : LineState) → IsStateOf s old → (rs : List ServedRequest) × (s' : LineState) × Leave rs s s' × IsStateOf s' new
 
 -- the image is saved after steps of a retention run were taken, or rules were changed
 abbrev pub is_saved_after : Served → Bool

@@ -14,18 +14,18 @@ use Rattle.ts_core.proofs.store.Cuts.{Holds}
 use Rattle.ts_core.proofs.lists.MembersLemmas.{Among-filter_passes, Among-filter_was, Among-filter_stays}
 use Rattle.ts_core.proofs.store.StateLemmas.{StandsFor-Holds}
 use Rattle.ts_store.specs.store.Inventories.{AreFilled, inventory_of}
-use Rattle.ts_store.specs.write.LineTexts.{LineState, IsIn}
+use Rattle.ts_store.specs.write.LineTexts.{LineState, IsStateOf}
 use Rattle.ts_store.specs.read.PointsRead.{all_raw}
 use Rattle.ts_store.specs.rules.RulesChanged.{GainsRule, RuleComes, RuleGoes}
 use Rattle.ts_store.specs.rules.RuleTexts.{low_in, with_rule_added, with_rule_dropped}
 
-pub rule_came : (s : LineState) (old new : StoreData) (r : Rule) (low : ℤ) → IsIn s old → RuleComes old new r low → (low ≡ low_in s r) × IsIn (with_rule_added r s) new
+pub rule_came : (s : LineState) (old new : StoreData) (r : Rule) (low : ℤ) → IsStateOf s old → RuleComes old new r low → (low ≡ low_in s r) × IsStateOf (with_rule_added r s) new
 rule_came s old new r low i c = (
   c.first ∙ ap (λ (z : Marks). first_from r z.raw) i.stands.marks,
   record { stands = c.history s.opening s.history i.stands; series = ap (λ (z : StoreData). z.series) c.whole ∙ i.series },
 )
 
-pub rule_went : (s : LineState) (old new : StoreData) (name : Text) → IsIn s old → RuleGoes old new name → IsIn (with_rule_dropped name s) new
+pub rule_went : (s : LineState) (old new : StoreData) (name : Text) → IsStateOf s old → RuleGoes old new name → IsStateOf (with_rule_dropped name s) new
 rule_went s old new name i c = record { stands = c.history s.opening s.history i.stands; series = ap (λ (z : StoreData). z.series) c.whole ∙ i.series }
 
 -- a call that isn't refused found the name
@@ -52,7 +52,7 @@ raw_facts_are opening h k st f =
       λ a. held.all f (Among-filter_was p f (latest_of h) a) (Among-filter_passes p f (latest_of h) a),
     )
 
-pub rule_gained : (s : LineState) (old new : StoreData) (r : Rule) (low : ℤ) → IsIn s old → RuleComes old new r low → GainsRule (all_raw old.waiting s.opening s.history) r low (inventory_of old) (inventory_of new)
+pub rule_gained : (s : LineState) (old new : StoreData) (r : Rule) (low : ℤ) → IsStateOf s old → RuleComes old new r low → GainsRule (all_raw old.waiting s.opening s.history) r low (inventory_of old) (inventory_of new)
 rule_gained s old new r low i c = record {
   columns = c.inventory.columns;
   waiting = c.inventory.waiting;

@@ -6,7 +6,7 @@ use Rattle.ts_core.specs.store.StoreData.{StoreData}
 use Rattle.ts_core.specs.declared.facts.time_unit.TimeUnit.{TimeUnit}
 use Rattle.ts_line.specs.Parts.{Parts, series_of, line_facts}
 use Rattle.ts_store.specs.write.LinesPut.{Leaves}
-use Rattle.ts_store.specs.write.LineTexts.{LineState, IsIn, WritesParts, WritesText, RunsOutOfMemory, WritesFrom, refusal_in, parts_in, with_line, with_series}
+use Rattle.ts_store.specs.write.LineTexts.{LineState, IsStateOf, WritesParts, WritesText, RunsOutOfMemory, WritesFrom, refusal_in, parts_in, with_line, with_series}
 use Rattle.ts_store.specs.write.Refusals.{is_too_many, write_fault}
 use Rattle.ts_store.specs.write.Registered.{MayGain}
 use Rattle.ts_store.specs.declared.write.fault.WriteFault.{WriteFault}
@@ -42,7 +42,7 @@ refused_now None old new parts fault refused taken other =
     ⊎_elim {C = (None ≡ Some fault) × (new ≡ old)} (λ done. absurd cc) (λ want. absurd (other (err_same fault write.OutOfMemory want.0))) (taken refl)
 
 -- the fault that the store finds is the one of its state
-same_refusal : (s : LineState) (parts : Parts) (k : StoreData) → IsIn s k → write_fault k.marks.raw k.series k.accepted parts ≡ refusal_in s parts
+same_refusal : (s : LineState) (parts : Parts) (k : StoreData) → IsStateOf s k → write_fault k.marks.raw k.series k.accepted parts ≡ refusal_in s parts
 same_refusal s parts k i = λ j. write_fault (i.stands.marks j).raw (i.series j) (i.stands.accepted j) parts
 
 module _ (parts : Parts) (old new : StoreData) (fault : WriteFault) (refused : IfSome (write_fault old.marks.raw old.series old.accepted parts) (λ f. (refused_by fault ≡ Err f) × (new ≡ old)))
@@ -50,10 +50,10 @@ module _ (parts : Parts) (old new : StoreData) (fault : WriteFault) (refused : I
   pub refused_same : new ≡ old
   refused_same = (refused_now (write_fault old.marks.raw old.series old.accepted parts) old new parts fault refused taken other).1
 
-  pub wrote_refused : (s : LineState) → IsIn s old → (refusal_in s parts ≡ Some fault) × IsIn s new
+  pub wrote_refused : (s : LineState) → IsStateOf s old → (refusal_in s parts ≡ Some fault) × IsStateOf s new
   wrote_refused s i =
       let now = refused_now (write_fault old.marks.raw old.series old.accepted parts) old new parts fault refused taken other in
-      (sym (same_refusal s parts old i) ∙ now.0, subst (IsIn s) (sym now.1) i)
+      (sym (same_refusal s parts old i) ∙ now.0, subst (IsStateOf s) (sym now.1) i)
 
 -- ---- out of memory
 
@@ -78,7 +78,7 @@ module _ (parts : Parts) (old new : StoreData) (fault : WriteFault) (refused : I
   pub left_without_memory : Leaves old new parts
   left_without_memory = (left_by_cases (write_fault old.marks.raw old.series old.accepted parts) refl).1
 
-  pub wrote_without_memory : (s : LineState) → IsIn s old → (refusal_in s parts ≡ None) × ((series : List Series) × MayGain s.series series (series_of parts) × IsIn (with_series series s) new)
+  pub wrote_without_memory : (s : LineState) → IsStateOf s old → (refusal_in s parts ≡ None) × ((series : List Series) × MayGain s.series series (series_of parts) × IsStateOf (with_series series s) new)
   wrote_without_memory s i =
       let none = (left_by_cases (write_fault old.marks.raw old.series old.accepted parts) refl).0 in (
         sym (same_refusal s parts old i) ∙ none,

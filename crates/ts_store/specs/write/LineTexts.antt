@@ -36,7 +36,7 @@ abbrev pub opened : Settings → LineState
 opened settings = record { opening = settings; history = []; series = [] }
 
 -- a store is in this state
-pub record IsIn (s : LineState) (k : StoreData) : Type 0 where
+pub record IsStateOf (s : LineState) (k : StoreData) : Type 0 where
   pub stands : StandsFor s.opening s.history (state_of k)
   pub series : k.series ≡ s.series
 
@@ -93,13 +93,13 @@ module _ (precision : TimeUnit) (now : ℤ) where
 
   -- the effect of a call on a store that was in this state
   abbrev pub WritesFrom : LineState → Text → {E : Type 0} → Result LineOutcome E → StoreData → Type 0
-  WritesFrom old text (Ok outcome) k = (new : LineState) × WritesText old text outcome new × IsIn new k
-  WritesFrom old text (Err e) k = (new : LineState) × RunsOutOfMemory old text new × IsIn new k
+  WritesFrom old text (Ok outcome) k = (new : LineState) × WritesText old text outcome new × IsStateOf new k
+  WritesFrom old text (Err e) k = (new : LineState) × RunsOutOfMemory old text new × IsStateOf new k
 
 -- the effect of a call with the parts of a text on a store that was in this state
 abbrev pub WritesParts : LineState → Parts → {E : Type 0} → Result LineOutcome E → StoreData → Type 0
-WritesParts s parts (Ok Accepted) k = (refusal_in s parts ≡ None) × ((series : List Series) × Gains s.series series (series_of parts) × IsIn (with_line parts series s) k)
+WritesParts s parts (Ok Accepted) k = (refusal_in s parts ≡ None) × ((series : List Series) × Gains s.series series (series_of parts) × IsStateOf (with_line parts series s) k)
 WritesParts s parts (Ok NoLine) k = ⊥
 WritesParts s parts (Ok (Refused (Parse fault))) k = ⊥
-WritesParts s parts (Ok (Refused (Write fault))) k = (refusal_in s parts ≡ Some fault) × IsIn s k
-WritesParts s parts (Err e) k = (refusal_in s parts ≡ None) × ((series : List Series) × MayGain s.series series (series_of parts) × IsIn (with_series series s) k)
+WritesParts s parts (Ok (Refused (Write fault))) k = (refusal_in s parts ≡ Some fault) × IsStateOf s k
+WritesParts s parts (Err e) k = (refusal_in s parts ≡ None) × ((series : List Series) × MayGain s.series series (series_of parts) × IsStateOf (with_series series s) k)

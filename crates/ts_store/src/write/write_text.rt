@@ -3,7 +3,7 @@ ghost use Rattle.std.specs.Prelude.{◌≡◌, ◌≢◌, ◌≤◌, length, IfO
 ghost use Rattle.ts_core.specs.text.FaultTexts.{IsAppended};
 ghost use Rattle.ts_line.specs.Parts.{line_facts};
 ghost use Rattle.ts_store.specs.store.Inventories.{inventory_of, facts_of_text, GrowsAfter};
-ghost use Rattle.ts_store.specs.write.LineTexts.{LineState, IsIn, WritesFrom, WritesParts, parts_in, refusal_of, line_refusal_text};
+ghost use Rattle.ts_store.specs.write.LineTexts.{LineState, IsStateOf, WritesFrom, WritesParts, parts_in, refusal_of, line_refusal_text};
 
 use crate::store::Store;
 use crate::write::WriteFault;
@@ -68,7 +68,7 @@ impl<A: Allocator + Copy> Store<A> {
         precision: TimeUnit,
         now: Time,
     ) -> Result<LineOutcome, AllocError>
-        ensures written { (s : LineState) → IsIn s self.old → WritesFrom precision now s text.now result self.new }
+        ensures written { (s : LineState) → IsStateOf s self.old → WritesFrom precision now s text.now result self.new }
         ensures inventory { GrowsAfter self.old.settings.rules self.old.marks.lows (facts_of_text (parts_in precision now text.now)) result (inventory_of self.old) (inventory_of self.new) }
         ensures unchanged { IfOk result (λ outcome. outcome ≢ LineOutcome.Accepted → self.new ≡ self.old) }
     {
@@ -82,7 +82,7 @@ impl<A: Allocator + Copy> Store<A> {
 
     /// Writes a line; returns the outcome of its text.
     fn write_parts<L: Allocator>(&mut self, line: &Line<'_, L>) -> Result<LineOutcome, AllocError>
-        ensures written { (s : LineState) → IsIn s self.old → WritesParts s line.now result self.new }
+        ensures written { (s : LineState) → IsStateOf s self.old → WritesParts s line.now result self.new }
         ensures inventory { GrowsAfter self.old.settings.rules self.old.marks.lows (line_facts line.now) result (inventory_of self.old) (inventory_of self.new) }
         ensures unchanged { IfOk result (λ outcome. outcome ≢ LineOutcome.Accepted → self.new ≡ self.old) }
     {

@@ -6,8 +6,8 @@ use Rattle.ts_script.specs.MachineState.{MachineState, IsMachineIn, TransitionTo
 use Rattle.ts_script.proofs.MachineLemmas.{serving, moved, was_set, was_shown, told_live, count_refused, not_known}
 use Rattle.ts_script.proofs.machine.Machine.apply.Goals as goal
 
-pub returns-in-OpenWith : goal.returns-in-OpenWith
-returns-in-OpenWith c = λ s i. rw c.in-OpenWith.is (c.open_with.ensures s i)
+pub returns-in-SetSettings : goal.returns-in-SetSettings
+returns-in-SetSettings c = λ s i. rw c.in-SetSettings.is (c.set_settings.ensures s i)
 
 pub returns-in-At : goal.returns-in-At
 returns-in-At c = λ s i.
@@ -50,7 +50,7 @@ pub returns-in-Reload : goal.returns-in-Reload
 returns-in-Reload c = λ s i. rw c.in-Reload.is (c.reload.ensures s i)
 
 pub returns-in-SetCertificate : goal.returns-in-SetCertificate
-returns-in-SetCertificate c = λ s i. rw c.in-SetCertificate.is (c.hand_in.ensures s i)
+returns-in-SetCertificate c = λ s i. rw c.in-SetCertificate.is (c.set_certificate.ensures s i)
 
 pub returns-in-Query : goal.returns-in-Query
 returns-in-Query c = λ s i. rw c.in-Query.is (c.query.ensures s i)

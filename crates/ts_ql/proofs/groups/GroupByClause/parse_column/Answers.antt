@@ -4,7 +4,7 @@ use Rattle.ts_ql.specs.declared.state.State.TheVariants as states
 use Rattle.ts_ql.specs.GroupSteps.{Grouping}
 use Rattle.ts_ql.specs.Selects.{texts}
 use Rattle.ts_ql.proofs.GroupLemmas.{texts_insert}
-use Rattle.ts_ql.proofs.groups.Groups.parse_column.Goals as goal
+use Rattle.ts_ql.proofs.groups.GroupByClause.parse_column.Goals as goal
 
 pub returns : goal.returns
 returns g c =

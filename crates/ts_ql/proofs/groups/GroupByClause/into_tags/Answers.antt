@@ -1,7 +1,7 @@
 use Rattle.std.proofs.Common.{rules, ◌≡◌, IfOk}
 use Rattle.std.proofs.lemmas.Result.{IfOk-weaker}
 use Rattle.ts_ql.proofs.GroupLemmas.{sorted_as}
-use Rattle.ts_ql.proofs.groups.Groups.into_tags.Goals as goal
+use Rattle.ts_ql.proofs.groups.GroupByClause.into_tags.Goals as goal
 
 pub returns-clause-order : goal.returns-clause-order
 returns-clause-order g c =

@@ -1,7 +1,7 @@
 use Rattle.std.proofs.Common.{sym, subst, option_map, string_bytes}
 use Rattle.ts_script.specs.MachineState.{MachineState, IsMachineIn}
 use Rattle.ts_script.proofs.MachineLemmas.{serving, was_given, given_no_memory}
-use Rattle.ts_script.proofs.machine.Machine.hand_in.Goals as goal
+use Rattle.ts_script.proofs.machine.Machine.set_certificate.Goals as goal
 
 pub returns-in-Ok : goal.returns-in-Ok
 returns-in-Ok c = λ s i.
