@@ -91,6 +91,7 @@ impl<'a, A: Allocator> QueryContext<'a, A> {
         ensures value { result ≡ query_context settings.now marks.now query.now.query }
         ensures intervals { HasPositiveIntervals result }
     {
+        // For the proof: the interval is positive, and the rules satisfy their limits.
         let _interval = query.interval();
         let _rules = settings.rules();
         QueryContext {

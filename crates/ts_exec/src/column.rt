@@ -49,6 +49,7 @@ fn count_next<A: Allocator, V: View<A>>(
     ensures end { result ≤ℤ range.now.to }
     ensures same { buckets.new ≡ buckets.old }
 {
+    // For the proof: the number of rows fits a `usize`.
     let _width = rows.len();
     let span = buckets.span(from);
     let end = span.high.min(range.to);

@@ -124,6 +124,7 @@ pub fn count_points<'a, A: Allocator + Copy + 'a, V: View<A> + 'a>(
         return Err(ExecFault::Stale(view.settings(), view.marks()));
     }
     let query = checked.query();
+    // For the proof: the start of the range is a valid time.
     let _from = query.from();
     Ok(pieces_points(view, query, checked.pieces()))
 }

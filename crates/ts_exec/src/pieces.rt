@@ -286,6 +286,7 @@ fn add_cell<'a, A: Allocator + Copy>(
     ensures value { OnOk result (groups.new ≡ with_rule_cell scan.old rule.now from to cell.entry groups.old) }
     ensures same { scan.new ≡ scan.old }
 {
+    // For the proof: a query's interval is positive.
     let _interval = scan.query.interval();
     let start = bucket_start(rule, from, to, &cell.index);
     if !is_taken(rule, scan.query, from, to, &start, &cell) {

@@ -82,6 +82,7 @@ fn first_block<F: Fold>(
     ensures none { IfNone result (points.new ≡ points.old) }
     ensures same { buckets.new ≡ buckets.old }
 {
+    // For the proof: the number of rows fits a `usize`.
     let _width = rows.len();
     let span = buckets.span(from);
     if !can_add(rows, span.row_index, points.len() as u64) {
@@ -109,6 +110,7 @@ fn first_run<F: Fold>(
     ensures none { IfNone result (points.old ≡ []) }
     ensures same { buckets.new ≡ buckets.old }
 {
+    // For the proof: the number of rows fits a `usize`.
     let _width = rows.len();
     if let Some(run) = first_block(rows, buckets, from, points) {
         return Some(run);
@@ -147,6 +149,7 @@ fn add_point<F: Fold>(
     ensures rows { length rows.new ≡ length rows.old }
     ensures same { buckets.new ≡ buckets.old }
 {
+    // For the proof: the number of rows fits a `usize`.
     let _width = rows.len();
     if run.low <= time.nanos() && time.nanos() < run.high {
         Run {
@@ -165,6 +168,7 @@ fn continue_run<F: Fold>(rows: &mut [Agg], buckets: &mut Buckets, run: Run<F>, p
     ensures value { rows.new ≡ with_point_parts F.parts buckets.old points.entry (with_part run.row_index (F.folded run.fold) rows.old) }
     ensures same { buckets.new ≡ buckets.old }
 {
+    // For the proof: the number of rows fits a `usize`.
     let _width = rows.len();
     let mut run = run;
     let mut points = points;

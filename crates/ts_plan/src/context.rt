@@ -39,6 +39,7 @@ impl<'a, A: Allocator> PlanContext<'a, A> {
         ensures value { result ≡ query_context settings.now marks.now query.now.query }
         ensures plannable { IsPlannable result }
     {
+        // For the proof: the rules satisfy their limits.
         let _rules = settings.rules();
         PlanContext {
             query_context: QueryContext::new(settings, marks, query),

@@ -55,6 +55,7 @@ pub fn plan<A: Allocator + Copy>(
     if is_too_many(settings, marks, query) {
         return Err(PlanError::Fault(PlanFault::TooManyBuckets));
     }
+    // For the proof: the rules satisfy their limits, and the bounds of the range are valid times.
     let _rules = settings.rules();
     let _from = query.from();
     let _to = query.to();

@@ -146,6 +146,7 @@ impl<A: Allocator + Copy> GroupByClause<A> {
         ensures value { IfOk result (λ tags. texts tags.items ≡ self.tags) }
         ensures order { IfOk result (λ tags. IsStrictlySortedBy text_cmp (texts tags.items)) }
     {
+        // For the proof: the tags have this order.
         let _order = self.tags.iter();
         self.tags.into_iter().collect(alloc)
     }

@@ -90,6 +90,7 @@ fn push_last<A: Allocator>(
     ensures points { coded_points bytes.new.items handles.new.items ≡ coded_points bytes.old.items (handles.old.items ++ handle.now ∷ []) ++ point.now ∷ [] }
     ensures blocks { blocks_at bytes.new.items handles.new.items ≡ blocks_at bytes.old.items handles.old.items ++ ((block_points_at bytes.old.items handle.now ++ point.now ∷ []) ∷ []) }
 {
+    // For the proof: the time is valid.
     let _valid = point.0.nanos();
     let values = append(
         bytes,

@@ -105,6 +105,7 @@ fn changed<A: Allocator>(
     ensures points { IfOk result (λ points. points.items ≡ put int_cmp point.now.0 point.now.1 (drop skip (block_points_at bytes.now handle.now))) }
     ensures encodable { IfOk result (λ points. AreEncodable points.items) }
 {
+    // For the proof: the time and the value are in their ranges.
     let _valid = (point.0.nanos(), value_of(point));
     let mut points = decoded(alloc, bytes, handle, skip)?;
     insert_point(&mut points, *point);

@@ -19,6 +19,7 @@ fn read_values(points: &[(Time, i64)])
     ensures { AreValues (values_of points.now) }
 {
     for point in points {
+        // For the proof: the value fits 64 bits.
         let _value = point.1;
     }
 }
