@@ -33,7 +33,7 @@ use Rattle.ts_script.specs.ScriptReplies.{line, text_of, step_text, written_text
 use Rattle.ts_script.specs.declared.reply.Reply.{Reply}
 use Rattle.ts_script.specs.declared.reply.Reply.TheVariants.{OutOfMemory}
 use Rattle.ts_script.specs.Machine.{State, no_longer_fresh, with_certificate, with_store, opened_with, with_begin, with_one_step, is_last, with_run, rules_in, lows_in, facts_of_line, RunsWhole, current_marks_text, at_moment, in_precision, in_epoch, Counts, Transition, Step, opens, refuses_settings, opens_no_memory, opens_late, moves, sets, shows, writes, writes_no_memory, retains, refuses_retain, retains_no_memory, begins, refuses_begin, begins_no_memory, steps, steps_idle, sets_certificate, sets_certificate_no_memory, replies, replies_no_memory, explains, explains_no_memory, tells_live, counts, counts_nothing, refuses_count, refuses_unknown, too_long, no_text, skips, does}
-use Rattle.ts_script.specs.MachineState.{MachineState, keeping, IsMachineIn, HasReply, HasExplanation, TransitionTo, Refused, Stepped}
+use Rattle.ts_script.specs.MachineState.{MachineState, keeping, IsMachineIn, HasReply, HasExplanation, TransitionTo, Refused, StepTo}
 
 -- ---- writing
 
@@ -289,17 +289,17 @@ not_known s m i = (s, refuses_unknown, i)
 begun_in : (s : State) (m : MachineState) → IsMachineIn s m → IsMachineIn (no_longer_fresh s) (record m { fresh = false })
 begun_in s m i = record { moment = i.moment; precision = i.precision; epoch = i.epoch; fresh = refl; certificate = i.certificate; store = i.store; inventory = i.inventory }
 
-pub did_it : (bytes answer : Text) (s : State) (m : MachineState) → length bytes ≤ script_line_limit → IsUtf8 bytes → is_skipped bytes ≡ false → TransitionTo (command_of bytes) s answer m → Stepped bytes s answer (record m { fresh = false })
+pub did_it : (bytes answer : Text) (s : State) (m : MachineState) → length bytes ≤ script_line_limit → IsUtf8 bytes → is_skipped bytes ≡ false → TransitionTo (command_of bytes) s answer m → StepTo bytes s answer (record m { fresh = false })
 did_it bytes answer s m short text some d = (no_longer_fresh d.0, does bytes answer d.0 short text some d.1, begun_in d.0 m d.2)
 
-pub was_skipped : (bytes : Text) (s : State) (m : MachineState) → length bytes ≤ script_line_limit → IsUtf8 bytes → is_skipped bytes ≡ true → IsMachineIn s m → Stepped bytes s [] m
+pub was_skipped : (bytes : Text) (s : State) (m : MachineState) → length bytes ≤ script_line_limit → IsUtf8 bytes → is_skipped bytes ≡ true → IsMachineIn s m → StepTo bytes s [] m
 was_skipped bytes s m short text none i = (s, skips bytes short text none, i)
 
 pub was_not_read : (s : State) (m : MachineState) → IsMachineIn s m → Refused s (line unknown_text) (record m { fresh = false })
 was_not_read s m i = (refl, begun_in s m i)
 
-pub was_no_text : (bytes answer : Text) (s : State) (m : MachineState) → (IsUtf8 bytes → ⊥) → Refused s answer m → Stepped bytes s answer m
+pub was_no_text : (bytes answer : Text) (s : State) (m : MachineState) → (IsUtf8 bytes → ⊥) → Refused s answer m → StepTo bytes s answer m
 was_no_text bytes answer s m not_text r = (no_longer_fresh s, subst (λ (a : Text). Step s bytes a (no_longer_fresh s)) (sym r.0) (no_text bytes not_text), r.1)
 
-pub was_too_long : (text answer : Text) (s : State) (m : MachineState) → script_line_limit < length text → Refused s answer m → Stepped text s answer m
+pub was_too_long : (text answer : Text) (s : State) (m : MachineState) → script_line_limit < length text → Refused s answer m → StepTo text s answer m
 was_too_long text answer s m long r = (no_longer_fresh s, subst (λ (a : Text). Step s text a (no_longer_fresh s)) (sym r.0) (too_long text long), r.1)

@@ -12,7 +12,7 @@ use Rattle.ts_script.specs.ScriptLines.{lines_of, ended_lines, lines_read}
 use Rattle.ts_script.specs.LineReading.{has_lf, AreLines, EndIsOver, IsTextOf, IsNext, IsCut, lines_to_come}
 use Rattle.ts_script.specs.ReaderState.{ReaderState}
 use Rattle.ts_script.specs.Machine.{State, start, Step, Prints}
-use Rattle.ts_script.specs.MachineState.{MachineState, IsMachineIn, Stepped}
+use Rattle.ts_script.specs.MachineState.{MachineState, IsMachineIn, StepTo}
 use Rattle.ts_script.specs.Script.{IsScript, AnswersAll, AnswersSome}
 use Rattle.ts_core.specs.io.ReadingAhead.{one_if_device}
 use Rattle.ts_core.specs.declared.io.read_ahead.ReadFault.{ReadFault}
@@ -65,7 +65,7 @@ concat_more answers answer = concat-append answers (answer ∷ []) ∙ ap (λ l.
 
 -- the line that was found has an answer, in whatever state the machine was
 abbrev pub Answers : Next → Text → MachineState → MachineState → Text → Type 0
-Answers next line m m' answer = (text : Text) (s : State) → IsTextOf text next line → IsMachineIn s m → Stepped text s answer m'
+Answers next line m m' answer = (text : Text) (s : State) → IsTextOf text next line → IsMachineIn s m → StepTo text s answer m'
 
 lines_after : (ended ended' : Bool) (taken bytes : Text) (done : List Text) (text : Text) → ended ≡ false → AreLines ended taken done → AreLines ended' bytes (text ∷ []) → AreLines ended' (taken ++ bytes) (done ++ text ∷ [])
 lines_after ended ended' taken bytes done text going a b = lines_join ended' taken bytes done (text ∷ []) (subst (λ (e : Bool). AreLines e taken done) going a) b

@@ -53,8 +53,8 @@ TransitionTo command s answer m = (s' : State) × Transition s command answer s'
 abbrev pub Refused : State → Text → MachineState → Type 0
 Refused s answer m = (answer ≡ line unknown_text) × IsMachineIn (no_longer_fresh s) m
 
-abbrev pub Stepped : Text → State → Text → MachineState → Type 0
-Stepped text s answer m = (s' : State) × Step s text answer s' × IsMachineIn s' m
+abbrev pub StepTo : Text → State → Text → MachineState → Type 0
+StepTo text s answer m = (s' : State) × Step s text answer s' × IsMachineIn s' m
 
 -- ---- the code of a machine's value
 

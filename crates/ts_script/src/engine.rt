@@ -7,7 +7,7 @@ ghost use Rattle.ts_script.specs.ScriptLines.{script_line_limit, read_limit};
 ghost use Rattle.ts_script.specs.LineReading.{IsTextOf, has_lf};
 ghost use Rattle.ts_script.specs.ScriptReplies.{text_of};
 ghost use Rattle.ts_script.specs.Machine.{State, start};
-ghost use Rattle.ts_script.specs.MachineState.{IsMachineIn, Stepped};
+ghost use Rattle.ts_script.specs.MachineState.{IsMachineIn, StepTo};
 ghost use Rattle.ts_script.specs.Script.{IsReplay};
 ghost use Rattle.ts_script.specs.declared.reply.TheConstants.{TEXT_CAPACITY};
 
@@ -28,7 +28,7 @@ const READ_LIMIT: u64 = 4_294_967_296;
 /// Answers the line that was read last.
 fn answer(machine: &mut Machine, next: Next, line: &[u8]) -> Reply
     requires { length line.now ≤ script_line_limit }
-    ensures { (text : Text) (s : State) → IsTextOf text next line.now → IsMachineIn s machine.old → Stepped text s (text_of result) machine.new }
+    ensures { (text : Text) (s : State) → IsTextOf text next line.now → IsMachineIn s machine.old → StepTo text s (text_of result) machine.new }
 {
     match next {
         Next::End => Reply::Nothing,

@@ -7,7 +7,7 @@ ghost use Rattle.ts_script.specs.Machine.{State, start};
 ghost use Rattle.ts_script.specs.MarksTexts.{marks_text};
 ghost use Rattle.ts_script.specs.Commands.{SetSettings as SettingsCommand, Write as WriteCommand, Retain as RetainCommand, BeginRun as BeginCommand, StepRun as StepCommand, Reload as ReloadCommand, AddRule as AddRuleCommand, DropRule as DropRuleCommand, SetCertificate as CertificateCommand, Query as QueryCommand, Explain as ExplainCommand, Count as CountCommand};
 ghost use Rattle.ts_script.specs.ScriptReplies.{line, text_of, written_text};
-ghost use Rattle.ts_script.specs.MachineState.{IsMachineIn, HasReply, HasExplanation, TransitionTo, Refused, Stepped};
+ghost use Rattle.ts_script.specs.MachineState.{IsMachineIn, HasReply, HasExplanation, TransitionTo, Refused, StepTo};
 
 use crate::certificate_text::with_line_feeds;
 use crate::command::{Command, is_skipped};
@@ -69,7 +69,7 @@ impl Machine {
     /// Answers a line of a script. When out of memory, no fact is accepted, but the line's series may be registered.
     pub fn serve(&mut self, line: &[u8]) -> Reply
         requires { length line.now ≤ script_line_limit }
-        ensures { (s : State) → IsMachineIn s self.old → Stepped line.now s (text_of result) self.new }
+        ensures { (s : State) → IsMachineIn s self.old → StepTo line.now s (text_of result) self.new }
     {
         match str::from_utf8(line) {
             Ok(text) => {

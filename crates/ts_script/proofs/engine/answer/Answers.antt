@@ -1,7 +1,7 @@
 use Rattle.std.proofs.Common.{subst}
 use Rattle.ts_core.specs.facts.Facts.{Text}
 use Rattle.ts_script.specs.LineReading.{IsTextOf}
-use Rattle.ts_script.specs.MachineState.{Stepped}
+use Rattle.ts_script.specs.MachineState.{StepTo}
 use Rattle.ts_script.specs.ScriptReplies.{text_of}
 use Rattle.ts_script.specs.declared.line_reader.Next.{Next}
 use Rattle.ts_script.proofs.MachineLemmas.{was_too_long}
@@ -14,4 +14,4 @@ returns-in-TooLong c = λ text s is i.
 pub returns-in-Line : goal.returns-in-Line
 returns-in-Line c = λ text s is i.
     let same = subst (λ (k : Next). IsTextOf text k c.args.line.now) c.in-Line.is is in
-    subst (λ (t : Text). Stepped t s (text_of c.serve.result) c.serve.new.self) same (c.serve.ensures s i)
+    subst (λ (t : Text). StepTo t s (text_of c.serve.result) c.serve.new.self) same (c.serve.ensures s i)
