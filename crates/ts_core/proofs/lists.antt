@@ -7,6 +7,9 @@ pub mod NumberedLemmas
 -- lists and comparisons, for all others
 pub mod MembersLemmas
 pub mod ListSteps
+pub mod Remaining
+pub mod Indices
+pub mod Permutations
 pub mod Takes
 pub mod Places
 pub mod Sorted

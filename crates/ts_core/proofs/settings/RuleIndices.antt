@@ -12,6 +12,7 @@ use Rattle.ts_core.proofs.facts.Ids.{same_text-eq}
 use Rattle.ts_core.proofs.settings.SettingsLaws.{settings_are}
 use Rattle.ts_core.proofs.settings.RuleLaws.{without_rule-faultless}
 use Rattle.ts_core.proofs.moves.RulesMove.{fails_at, filter-fails, beside-fails}
+use Rattle.ts_core.proofs.lists.Indices.{item_at}
 
 -- ---- the first item that passes
 
@@ -74,11 +75,6 @@ if_missing name rs None e none = not_found (λ (r : Rule). same_text r.name name
 if_missing name rs (Some n) e none = absurd (true≢false none)
 
 -- ---- a rule is removed
-
-pub item_at : {X : Type 0} (xs : List X) (n : ℕ) → n < length xs → (x : X) × IsAt xs n x
-item_at [] n l = absurd (let z : ⊥ = omega arith in z)
-item_at (x ∷ xs) zero l = (x, refl)
-item_at (x ∷ xs) (suc n) l = item_at xs n (omega arith)
 
 pub all_remove : {X : Type 0} (P : X → Type 0) (xs : List X) (n : ℕ) → AllByRecursion P xs → AllByRecursion P (remove xs n)
 all_remove P [] zero a = a

@@ -27,6 +27,7 @@ use Rattle.ts_core.specs.settings.SettingsWritten.{nanoseconds_text, keeping_tex
 use Rattle.ts_core.proofs.facts.DurationLaws.{digit_is, either, term_of, no_terms, spelled_read}
 use Rattle.ts_core.proofs.settings.SettingsForms.{rule_parts_read, parts_read, faultless}
 use Rattle.ts_core.proofs.settings.SettingsLaws.{settings_are}
+use Rattle.ts_core.proofs.text.NumberLemmas.{digit_not_minus}
 
 -- ---- durations
 
@@ -62,15 +63,12 @@ begins : (ds rest : Text) → IsNumeral 10 ds → BeginsWithDigit (ds ++ rest)
 begins [] rest w = absurd (omega (arith, w.0))
 begins (b ∷ bs) rest w = record { first = b; behind = bs ++ rest; is = refl; digit = digit_is b w.1.0 }
 
-not_minus : (b : ℕ) → is_ascii_digit b ≡ true → (b == 45) ≡ false
-not_minus b h = grind (arith, nat_tests)
-
 not_i : (b : ℕ) → is_ascii_digit b ≡ true → (b == 73) ≡ false
 not_i b h = grind (arith, nat_tests)
 
 offset_plain : (text : Text) → BeginsWithDigit text → offset_of text ≡ span_of text
 unfolding offset_of
-offset_plain text d = let no = not_minus d.first d.digit in rw d.is (rw no refl)
+offset_plain text d = let no = digit_not_minus d.first d.digit in rw d.is (rw no refl)
 
 keeping_plain : (text : Text) → BeginsWithDigit text → keeping_of text ≡ span_of text
 unfolding keeping_of

@@ -1,5 +1,5 @@
 -- Numbers as text: the texts that `parse` accepts, and the numbers that fit 64 bits.
-use Rattle.std.proofs.Common.{◌≡◌, ℕ, ◌<◌, Bool, true, false, cond, not, eqb, [], ◌∷◌, length, sym, refl, arith, ℤ, pos, neg_ℤ, FitsSigned, w64, Option, Some, None}
+use Rattle.std.proofs.Common.{◌≡◌, ℕ, ◌<◌, Bool, true, false, cond, not, eqb, [], ◌∷◌, length, sym, refl, arith, ℤ, pos, neg_ℤ, FitsSigned, w64, Option, Some, None, ◌==◌}
 use Rattle.std.specs.Char.{is_ascii_digit, digit_value}
 use Rattle.std.specs.List.{list_all}
 use Rattle.std.specs.Str.Parse.{AllDigits, IsNumeral, without_leading_sign, signed_digits_value}
@@ -15,6 +15,9 @@ digit_below c e = grind (arith, nat_tests)
 
 pub digit_not_plus : (c : ℕ) → is_ascii_digit c ≡ true → eqb c 43 ≡ false
 digit_not_plus c e = grind (arith, nat_tests)
+
+pub digit_not_minus : (c : ℕ) → is_ascii_digit c ≡ true → (c == 45) ≡ false
+digit_not_minus c e = grind (arith, nat_tests)
 
 pub all_digits : (ds : Text) → list_all is_ascii_digit ds ≡ true → AllDigits 10 ds
 all_digits [] e = tt
