@@ -1,5 +1,5 @@
 -- The digits and the calendar of timestamps.
-use Rattle.std.proofs.Common.{◌≡◌, ℕ, ◌<◌, ◌≤◌, true, false, not, ◌==◌, ◌&&◌, [], ◌∷◌, length, arith, refl, ap, ◌∙◌, leb, Some, ℤ, pos, to_z, w8, ◌-ℤ◌, ◌*ℤ◌}
+use Rattle.std.proofs.Common.{◌≡◌, ℕ, ◌<◌, ◌≤◌, true, not, ◌==◌, ◌&&◌, [], ◌∷◌, length, arith, refl, ap, ◌∙◌, leb, Some, ℤ, pos, to_z, w8, ◌-ℤ◌, ◌*ℤ◌}
 use Rattle.std.specs.Prelude.{IsAscii}
 use Rattle.std.specs.Char.{is_ascii_digit}
 use Rattle.std.specs.Int.{w16}
@@ -13,6 +13,7 @@ use Rattle.std.proofs.lemmas.Str.Ascii.{IsAscii-nil, IsAscii-cons}
 use Rattle.jiff_core.specs.Calendar.{IsDate, days_in_month, days_from_civil}
 use Rattle.ts_core.specs.facts.Facts.{Text}
 use Rattle.ts_core.specs.text.Numbers.{are_digits, is_number}
+use Rattle.ts_core.proofs.text.NumberLemmas.{digit_not_minus}
 use Rattle.ts_ql.specs.Dates.{is_date, midnight}
 
 -- ---- digits
@@ -30,15 +31,12 @@ pub digits_are_utf8 : (text : Text) → are_digits text ≡ true → IsUtf8 text
 digits_are_utf8 text e =
     IsUtf8-from_ascii text (digits_are_ascii text (and_parts (not (length text == 0)) (list_all is_ascii_digit text) e).1)
 
-digit_is_no_minus : (b : ℕ) → is_ascii_digit b ≡ true → (b == 45) ≡ false
-digit_is_no_minus b e = grind (arith, nat_tests)
-
 pub digits_are_number : (text : Text) → are_digits text ≡ true → is_number text ≡ true
 unfolding is_number
 digits_are_number [] e = e
 digits_are_number (b ∷ bs) e =
     let all = (and_parts (not (length (b ∷ bs) == 0)) (list_all is_ascii_digit (b ∷ bs)) e).1 in
-    rw (digit_is_no_minus b (and_parts (is_ascii_digit b) (list_all is_ascii_digit bs) all).0) e
+    rw (digit_not_minus b (and_parts (is_ascii_digit b) (list_all is_ascii_digit bs) all).0) e
 
 -- ---- the calendar
 
