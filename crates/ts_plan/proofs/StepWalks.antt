@@ -9,9 +9,9 @@ use Rattle.std.specs.List.{AllByRecursion}
 use Rattle.ts_core.specs.lists.Members.{Among}
 use Rattle.ts_core.specs.plans.Pieces.{QueryContext}
 use Rattle.ts_core.specs.plans.Plans.{ReachesEnd, raw_piece, LeadsOn, NoneBefore, IsFirstToReach, IsWalk}
+use Rattle.ts_core.proofs.lists.Permutations.{pick}
 use Rattle.ts_plan.specs.declared.steps.Step.{Step}
 use Rattle.ts_plan.specs.Steps.{IsPlannable, Upto, Ascends, name_or_none, bucket_piece, walked}
-use Rattle.ts_plan.proofs.ListLemmas.{pick}
 use Rattle.ts_plan.proofs.Searches.{apart}
 use Rattle.ts_plan.proofs.Pruning.{IsGoodStep, step_on, on_step, step_up, step_at}
 

@@ -1,6 +1,6 @@
 use Rattle.std.proofs.Common.{rules, ◌≤◌, length}
+use Rattle.ts_core.proofs.lists.Permutations.{moved_all, moved_among}
 use Rattle.ts_plan.specs.Steps.{IsStep}
-use Rattle.ts_plan.proofs.ListLemmas.{moved_all, moved_among}
 use Rattle.ts_plan.proofs.Scans.{sorted_ascends, up_all, up_more}
 use Rattle.ts_plan.proofs.steps.all_steps.Goals as goal
 
