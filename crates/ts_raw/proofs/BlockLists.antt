@@ -4,6 +4,7 @@ use Rattle.std.proofs.lemmas.List.{take-append-drop, length-take-le}
 use Rattle.std.proofs.Math.Seq.{drop-append_seam, take-length, take-append_seam}
 use Rattle.std.specs.List.{AllByRecursion}
 use Rattle.ts_core.specs.aggregates.Aggregates.{aggregate_of_points}
+use Rattle.ts_core.proofs.store.StateLemmas.{same_head, same_rest}
 use Rattle.ts_block.specs.Blocks.{times_of, ArePoints, IsBlockOf, last_of}
 use Rattle.ts_block.specs.Appending.{EndsInBlock, values_start, last_time}
 use Rattle.ts_block.proofs.DecodingLemmas.{values_inside}
@@ -31,33 +32,27 @@ blocks_of_marks bytes before (m ∷ ms) h = (h.0, blocks_of_marks bytes (before 
 
 -- ---- last times
 
-list_head : {X : Type 0} (x y : X) (xs ys : List X) → x ∷ xs ≡ y ∷ ys → x ≡ y
-list_head x y xs ys e = ap (λ (z : List _). get_or z 0 x) e
-
-list_tail : {X : Type 0} (x y : X) (xs ys : List X) → x ∷ xs ≡ y ∷ ys → xs ≡ ys
-list_tail x y xs ys e = ap (drop 1) e
-
 pub ends_again : (t : ℤ) (b c : List ℕ) (ms ns : List BlockHandle) → AreBlocks b ms → AreBlocks c ns → blocks_at c ns ≡ blocks_at b ms → AllEndBefore ms t → AllEndBefore ns t
 ends_again t b c ms [] h k e a = tt
 ends_again t b c [] (n ∷ ns) h k e a = absurd (let s = ap length e in omega arith)
 ends_again t b c (m ∷ ms) (n ∷ ns) h k e a =
-    let here = k.0.last_is ∙ ap last_time (list_head (block_points_at c n) (block_points_at b m) (blocks_at c ns) (blocks_at b ms) e) ∙ sym h.0.last_is in
-    (subst (λ z. z <ℤ t) (sym here) a.0, ends_again t b c ms ns h.1 k.1 (list_tail (block_points_at c n) (block_points_at b m) (blocks_at c ns) (blocks_at b ms) e) a.1)
+    let here = k.0.last_is ∙ ap last_time (same_head (block_points_at c n) (block_points_at b m) (blocks_at c ns) (blocks_at b ms) e) ∙ sym h.0.last_is in
+    (subst (λ z. z <ℤ t) (sym here) a.0, ends_again t b c ms ns h.1 k.1 (same_rest (block_points_at c n) (block_points_at b m) (blocks_at c ns) (blocks_at b ms) e) a.1)
 
 pub ordered_again : (b c : List ℕ) (ms ns : List BlockHandle) → AreBlocks b ms → AreBlocks c ns → blocks_at c ns ≡ blocks_at b ms → AreOrdered ms → AreOrdered ns
 ordered_again b c ms [] h k e o = tt
 ordered_again b c [] (n ∷ ns) h k e o = absurd (let s = ap length e in omega arith)
 ordered_again b c (m ∷ ms) (n ∷ ns) h k e o =
-    let rest = list_tail (block_points_at c n) (block_points_at b m) (blocks_at c ns) (blocks_at b ms) e in
-    let here : n.last ≡ m.last = k.0.last_is ∙ ap last_time (list_head (block_points_at c n) (block_points_at b m) (blocks_at c ns) (blocks_at b ms) e) ∙ sym h.0.last_is in
+    let rest = same_rest (block_points_at c n) (block_points_at b m) (blocks_at c ns) (blocks_at b ms) e in
+    let here : n.last ≡ m.last = k.0.last_is ∙ ap last_time (same_head (block_points_at c n) (block_points_at b m) (blocks_at c ns) (blocks_at b ms) e) ∙ sym h.0.last_is in
     (all_above n.last ms ns h.1 k.1 rest (subst (λ z. AllByRecursion (λ (x : BlockHandle). z <ℤ x.last) ms) (sym here) o.0), ordered_again b c ms ns h.1 k.1 rest o.1)
   where
     all_above : (t : ℤ) (ms ns : List BlockHandle) → AreBlocks b ms → AreBlocks c ns → blocks_at c ns ≡ blocks_at b ms → AllByRecursion (λ (x : BlockHandle). t <ℤ x.last) ms → AllByRecursion (λ (x : BlockHandle). t <ℤ x.last) ns
     all_above t ms [] h k e a = tt
     all_above t [] (n ∷ ns) h k e a = absurd (let s = ap length e in omega arith)
     all_above t (m ∷ ms) (n ∷ ns) h k e a =
-        let here = k.0.last_is ∙ ap last_time (list_head (block_points_at c n) (block_points_at b m) (blocks_at c ns) (blocks_at b ms) e) ∙ sym h.0.last_is in
-        (subst (λ z. t <ℤ z) (sym here) a.0, all_above t ms ns h.1 k.1 (list_tail (block_points_at c n) (block_points_at b m) (blocks_at c ns) (blocks_at b ms) e) a.1)
+        let here = k.0.last_is ∙ ap last_time (same_head (block_points_at c n) (block_points_at b m) (blocks_at c ns) (blocks_at b ms) e) ∙ sym h.0.last_is in
+        (subst (λ z. t <ℤ z) (sym here) a.0, all_above t ms ns h.1 k.1 (same_rest (block_points_at c n) (block_points_at b m) (blocks_at c ns) (blocks_at b ms) e) a.1)
 
 -- the same blocks elsewhere hold the same points
 pub counted_again : (b c : List ℕ) (ms ns : List BlockHandle) (total : ℕ) → AreCountedBlocks b ms total → AreBlockHandles c 0 ns → blocks_at c ns ≡ blocks_at b ms → AreCountedBlocks c ns total

@@ -1,6 +1,6 @@
 -- Columns of an index that have a tag: those found by a walk over its series, sorted.
-use Rattle.std.proofs.Common.{◌≡◌, ◌↔◌, ℕ, zero, suc, true, false, cond, List, [], ◌∷◌, map, get_or, refl, sym, ◌∙◌, ap, subst, inl, inr}
-use Rattle.std.proofs.lemmas.Option.{get_or_from_slice_get, slice_get-get_or, same_Some}
+use Rattle.std.proofs.Common.{◌≡◌, ◌↔◌, ℕ, true, false, cond, List, [], ◌∷◌, map, get_or, refl, sym, ◌∙◌, ap, subst, inl, inr}
+use Rattle.std.proofs.lemmas.Option.{get_or_from_slice_get, slice_get-get_or}
 use Rattle.std.proofs.lemmas.Bool.{and_parts}
 use Rattle.std.specs.Cmp.Derive.{both_true}
 use Rattle.ts_core.specs.lists.Members.{Among}
@@ -11,6 +11,7 @@ use Rattle.ts_core.proofs.facts.Ids.{same_text-eq}
 use Rattle.ts_core.proofs.lists.Comparisons.{same_text-from_eq}
 use Rattle.ts_core.proofs.lists.MembersLemmas.{at_map_of}
 use Rattle.ts_core.proofs.lists.NumberedLemmas.{at_among, at_within, same_place}
+use Rattle.ts_core.proofs.lists.Indices.{at_map_back}
 use Rattle.ts_raw.specs.FieldKeys.{FieldKey, field_key}
 use Rattle.ts_raw.specs.ColumnTables.{ColumnNumbers}
 use Rattle.ts_raw.specs.Indexed.{no_series}
@@ -28,11 +29,6 @@ value_there (t ∷ ts) tag value h some =
       | true ↦ λ e q. let k : t.0 ≡ tag = same_text-eq t.0 tag e in inl (λ i. (sym k i, sym q i))
       | false ↦ λ e q. inr (value_there ts tag value q some)
     ] refl h
-
-at_map_back : {X Y : Type 0} (f : X → Y) (xs : List X) (n : ℕ) (y : Y) → IsAt (map f xs) n y → (x : X) × IsAt xs n x × (f x ≡ y)
-at_map_back f [] n y h = absurd (cc)
-at_map_back f (x ∷ xs) zero y h = (x, refl, same_Some (f x) y h)
-at_map_back f (x ∷ xs) (suc n) y h = at_map_back f xs n y h
 
 module _ (series : List Series) (fields : List FieldKey) (t : ColumnNumbers) (is : IsIndexOfParts series fields t) (m field tag value : Text) where
   pub tagged_of_none : (Among (field_key m field) fields → ⊥) → [] ≡ numbers_where (is_tagged m field tag value) (map (column_named series fields) t.columns)
