@@ -13,10 +13,11 @@ use Rattle.ts_core.specs.facts.Facts.{Series, Column, text_cmp, series_cmp}
 use Rattle.ts_core.proofs.lists.MembersLemmas.{Among-left, Among-right, Among-append, map_back}
 use Rattle.ts_core.proofs.facts.Ids.{series_total, exact_series}
 use Rattle.ts_core.proofs.lists.NumberedLemmas.{at_within, at_among, same_at, once_more, same_place}
+use Rattle.ts_core.proofs.lists.Permutations.{moved_all, moved_among}
 use Rattle.ts_raw.specs.Indexed.{Indexed}
 use Rattle.ts_store.specs.image.SavedContent.{SavedColumn, SavedSeries, saved_field, saved_key, SavesColumns, SavesSeries}
 use Rattle.ts_store.specs.image.ColumnsListed.{without_columns, with_saved_column, ListsFirst, ListsColumns}
-use Rattle.ts_store.proofs.image.SavedOrders.{moved_all, moved_among, rising_sorted}
+use Rattle.ts_store.proofs.image.SavedOrders.{rising_sorted}
 
 -- ---- lists without columns
 

@@ -51,7 +51,7 @@ cell_whole r columns m live counts k found =
     omega (arith, frozen, count, both)
 
 -- each entry of a map is found in it
-entry_found : (m : CellMap) (e : Cell × CellParts) → Among e (finmap.entries m) → finmap.get m e.0 ≡ Some e.1
+pub entry_found : (m : CellMap) (e : Cell × CellParts) → Among e (finmap.entries m) → finmap.get m e.0 ≡ Some e.1
 entry_found m e a = get-entries m e.0 ∙ found_among cells_total (finmap.entries m) (entries_sorted m) e a
 
 all_found : (m : CellMap) (es : List (Cell × CellParts)) → ((e : Cell × CellParts) → Among e es → finmap.get m e.0 ≡ Some e.1) → (ks : List (CellWithPart CellParts)) → map entry_of ks ≡ es → AllByRecursion (IsFound m) ks

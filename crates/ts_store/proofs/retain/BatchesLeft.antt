@@ -31,7 +31,7 @@ use Rattle.ts_store.specs.retain.WholeRuns.{AreAbove, LosesCells, FirstLoses}
 abbrev below_count : ℤ → CellMap → ℕ
 below_count low m = length (filter (λ (k : Cell). int_lt k.index low) (finmap.keys m))
 
-other_cell : (k q : Cell) → (k ≡ q → ⊥) → same_cell k q ≡ false
+pub other_cell : (k q : Cell) → (k ≡ q → ⊥) → same_cell k q ≡ false
 other_cell k q n = elim (same_cell k q) as (λ b. same_cell k q ≡ b → b ≡ false) [ true ↦ λ e. absurd (n (same_cell-eq k q e)) | false ↦ λ e. refl ] refl
 
 not_itself : (k q : Cell) → same_cell k q ≡ false → k ≡ q → ⊥

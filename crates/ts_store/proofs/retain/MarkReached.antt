@@ -5,12 +5,10 @@ use Rattle.std.specs.Cmp.{int_cmp_total}
 use Rattle.ts_core.proofs.lists.Places.{both_of, below_at}
 use Rattle.ts_core.specs.moves.StoreMoves.{points_below}
 use Rattle.ts_raw.specs.PlainColumns.{IsRising}
+use Rattle.ts_raw.proofs.CutLemmas.{after_too}
 
 later : (p q : ℤ × ℤ) (ps : List (ℤ × ℤ)) → IsRising (p ∷ q ∷ ps) → p.0 <ℤ q.0
 later p q ps s = let e = below_at int_cmp_total p.0 (q ∷ ps) (both_of _ _ s).0 0 q (omega arith) in grind (arith, ints)
-
-after_too : (x y mark : ℤ) → x <ℤ y → int_lt x mark ≡ false → int_lt y mark ≡ false
-after_too x y mark l e = grind (arith, ints)
 
 pub not_below : (t mark : ℤ) → mark ≤ℤ t → int_lt t mark ≡ false
 not_below t mark l = grind (arith, ints)

@@ -23,8 +23,9 @@ use Rattle.ts_store.specs.image.BuildingParts.{MakesCells}
 use Rattle.ts_store.specs.store.CellIndices.{IsBucketIndex, HasIndices}
 use Rattle.ts_store.specs.write.LinesPut.{OfEachRule, IsOfFacts, GainsCells}
 use Rattle.ts_store.specs.rollup.Rollups.{RollupState, IsRollupSeriesOf, rollup_series_under, cells_of, with_frozen, cell_created_in}
-use Rattle.ts_store.proofs.write.CellsMade.{each_same, each_more}
+use Rattle.ts_store.proofs.write.CellsMade.{each_same, each_more, gains_nothing}
 use Rattle.ts_store.proofs.store.ColumnsLemmas.{in_column}
+use Rattle.ts_store.proofs.write.CellsCreatedLemmas.{roomy_there}
 
 -- ---- one cell
 
@@ -44,10 +45,6 @@ capacity-new n q k p none some =
           (sym (same_Some no_parts p (sym (ap (λ o. Some (or_else no_parts o)) (ap (finmap.get n) (sym is) ∙ none)) ∙ e)), is)
       | false ↦ λ s e. absurd (none-some p (sym none ∙ e))
     ] refl (sym (get-inserted_if_absent n q no_parts k) ∙ some)
-
-capacity-there : (n : CellMap) (q : Cell) → finmap.get (inserted_if_absent n q no_parts) q ≡ None → ⊥
-capacity-there n q none =
-    none-some (or_else no_parts (finmap.get n q)) (sym none ∙ get-inserted_if_absent n q no_parts q ∙ ap (λ b. cond b (Some (or_else no_parts (finmap.get n q))) (finmap.get n q)) (same_cell-refl q))
 
 -- a cell that is missing now was missing
 missing : (m n : CellMap) → ((k : Cell) (p : CellParts) → finmap.get m k ≡ Some p → finmap.get n k ≡ Some p) → (k : Cell) → finmap.get n k ≡ None → finmap.get m k ≡ None
@@ -69,9 +66,6 @@ pub record IsMadeBut (left facts : List Fact) (r : Rule) (low : ℤ) (m n : Cell
   pub gains : GainsCells facts r low m n
   pub there : (f : Fact) → Among f facts → Among f left ⊎ HasCellOf f r low n
   pub indices : HasIndices r m → HasIndices r n
-
-gains_nothing : (fs : List Fact) (r : Rule) (low : ℤ) (m : CellMap) → GainsCells fs r low m m
-gains_nothing fs r low m = record { stays = λ k p e. e; created = λ k p none some. absurd (none-some p (sym none ∙ some)) }
 
 pub made-none : (facts : List Fact) (r : Rule) (low : ℤ) (m : CellMap) → IsMadeBut facts facts r low m m
 made-none facts r low m = record { within = λ f a. a; gains = gains_nothing facts r low m; there = λ f a. inl a; indices = λ h. h }
@@ -109,7 +103,7 @@ made-more f left facts r low m n valid rolled above h =
       };
       there = λ g a.
           ⊎_elim {C = Among g left ⊎ HasCellOf g r low o}
-          (λ z. ⊎_elim {C = Among g left ⊎ HasCellOf g r low o} (λ e. inr (λ rl ab none. capacity-there n q (ap (λ (x : Fact). finmap.get o (cell_of r x)) (sym e) ∙ none))) (λ y. inl y) z)
+          (λ z. ⊎_elim {C = Among g left ⊎ HasCellOf g r low o} (λ e. inr (λ rl ab none. roomy_there n q (ap (λ (x : Fact). finmap.get o (cell_of r x)) (sym e) ∙ none))) (λ y. inl y) z)
           (λ has. inr (λ rl ab none. has rl ab (missing n o (capacity-stays n q) (cell_of r g) none))) (h.there g a);
       indices = λ valids k a.
           elim (finmap.get n k) as (λ x. finmap.get n k ≡ x → IsBucketIndex r k.index) [
@@ -129,7 +123,7 @@ pub last-none : (r : Rule) (c : Column) (last : Option ℤ) (m : CellMap) → la
 last-none r c last m none = λ i some. absurd (none-some i (sym none ∙ some))
 
 pub last-made : (r : Rule) (c : Column) (i : ℤ) (n : CellMap) → IsLastThere r c (Some i) (inserted_if_absent n (cell_at i (rollup_series_under r c)) no_parts)
-last-made r c i n = λ j some none. capacity-there n (cell_at i (rollup_series_under r c)) (ap (λ (z : ℤ). finmap.get (inserted_if_absent n (cell_at i (rollup_series_under r c)) no_parts) (cell_at z (rollup_series_under r c))) (same_Some i j some) ∙ none)
+last-made r c i n = λ j some none. roomy_there n (cell_at i (rollup_series_under r c)) (ap (λ (z : ℤ). finmap.get (inserted_if_absent n (cell_at i (rollup_series_under r c)) no_parts) (cell_at z (rollup_series_under r c))) (same_Some i j some) ∙ none)
 
 -- a point below the low index, or of the last bucket, needs no other cell
 pub skipped : (r : Rule) (c : Column) (p : ℤ × ℤ) (low index : ℤ) (last : Option ℤ) (n : CellMap) → index ≡ index_of r p.0 → (index <ℤ low) ⊎ (last ≡ Some index) → IsLastThere r c last n → HasCellOf (fact_at c p) r low n

@@ -20,7 +20,7 @@ use Rattle.ts_store.specs.store.CellCounts.{frozen_count, live_count, HoldFew}
 -- ---- how many more by one more fact
 
 -- distinct ones that are all among others are no more than these
-length-within : {X : Type 0} (xs ys : List X) → AllDistinct xs → ((z : X) → Among z xs → Among z ys) → length xs ≤ length ys
+pub length-within : {X : Type 0} (xs ys : List X) → AllDistinct xs → ((z : X) → Among z xs → Among z ys) → length xs ≤ length ys
 unfolding Split
 length-within [] ys d into = omega arith
 length-within {X} (x ∷ xs) ys d into =

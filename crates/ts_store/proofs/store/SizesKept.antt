@@ -1,5 +1,5 @@
 -- The plain facts about a store's data, which hold of a new store and after each transition.
-use Rattle.std.proofs.Common.{◌≡◌, ℕ, ℤ, pos, ◌+ℤ◌, ◌+◌, ◌≤◌, ◌≤ℤ◌, ◌^◌, suc, List, [], ◌∷◌, ◌++◌, length, filter, map, refl, sym, ◌∙◌, ap, subst, inl, inr, ⊎_elim, None, arith}
+use Rattle.std.proofs.Common.{◌≡◌, ℕ, ℤ, pos, ◌+ℤ◌, ◌+◌, ◌≤◌, ◌≤ℤ◌, ◌^◌, List, [], ◌∷◌, ◌++◌, length, filter, map, refl, sym, ◌∙◌, ap, subst, inl, inr, ⊎_elim, None, arith}
 use Rattle.std.specs.Int.{int_max}
 use Rattle.std.specs.Int.Signed.{≤ℤ_refl}
 use Rattle.std.specs.FinMap as finmap
@@ -31,6 +31,7 @@ use Rattle.ts_line.specs.Names.{IsKey, IsStatable}
 use Rattle.ts_store.specs.store.SizedStores.{IsSizedRule, IsSized}
 use Rattle.ts_store.proofs.store.CountsKept.{facts-put}
 use Rattle.ts_store.proofs.retain.RollupMoves.{moved-length}
+use Rattle.ts_store.proofs.write.CellsMade.{put-length}
 
 -- ---- lists of the same length
 
@@ -53,11 +54,6 @@ expired-length lows [] (n ∷ ns) l e = absurd e
 expired-length lows (m ∷ ms) [] l e = absurd e
 expired-length [] (m ∷ ms) (n ∷ ns) l e = absurd (omega (arith, l))
 expired-length (low ∷ lows) (m ∷ ms) (n ∷ ns) l e = let rest = expired-length lows ms ns (omega (arith, l)) e.1 in omega (arith, rest)
-
-put-length : (rs : List Rule) (f : Fact) (facts : List Fact) (ms : List CellMap) → length (put_cells rs f facts ms) ≡ length ms
-put-length [] f facts ms = refl
-put-length (r ∷ rs) f facts [] = refl
-put-length (r ∷ rs) f facts (m ∷ ms) = ap suc (put-length rs f facts ms)
 
 puts-length : (rs : List Rule) (before : List ColumnPoints) (ms : List CellMap) (after : List ColumnPoints) (ns : List CellMap) (fs : List Fact) → PutsFacts rs before ms after ns fs → length ns ≡ length ms
 puts-length rs before ms after ns [] p = ap (λ (xs : List CellMap). length xs) p.1

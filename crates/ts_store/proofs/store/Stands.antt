@@ -186,7 +186,7 @@ kept_left settings marks n before after run p kept registers named keys g =
 
 -- ---- a line
 
-waiting_among : (c : Column) (ds : List Column) → is_waiting ds c ≡ true → Among c ds
+pub waiting_among : (c : Column) (ds : List Column) → is_waiting ds c ≡ true → Among c ds
 waiting_among c [] e = absurd (true≢false (sym e))
 waiting_among c (d ∷ ds) e =
     elim (same_column c d) as (λ b. same_column c d ≡ b → b || is_waiting ds c ≡ true → Among c (d ∷ ds)) [

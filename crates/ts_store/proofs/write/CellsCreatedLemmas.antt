@@ -64,7 +64,7 @@ roomy_room r low m c above =
       ] refl;
     }
 
-roomy_there : (m : CellMap) (c : Cell) → finmap.get (inserted_if_absent m c no_parts) c ≡ None → ⊥
+pub roomy_there : (m : CellMap) (c : Cell) → finmap.get (inserted_if_absent m c no_parts) c ≡ None → ⊥
 roomy_there m c none =
     let some : Some (or_else no_parts (finmap.get m c)) ≡ None = sym (get-inserted_if_absent m c no_parts c ∙ ap (λ b. cond b (Some (or_else no_parts (finmap.get m c))) (finmap.get m c)) (same_cell-refl c)) ∙ none in
     cc

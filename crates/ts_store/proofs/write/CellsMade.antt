@@ -105,7 +105,7 @@ among_first zero ns n a = absurd a
 among_first (suc i) [] n a = absurd a
 among_first (suc i) (x ∷ ns) n a = ⊎_elim {C = Among n (x ∷ ns)} (λ e. inl e) (λ q. inr (among_first i ns n q)) a
 
-gains_nothing : (fs : List Fact) (r : Rule) (low : ℤ) (m : CellMap) → GainsCells fs r low m m
+pub gains_nothing : (fs : List Fact) (r : Rule) (low : ℤ) (m : CellMap) → GainsCells fs r low m m
 gains_nothing fs r low m = record { stays = λ k p e. e; created = λ k p none some. absurd (none-some p (sym none ∙ some)) }
 
 part_gains : (r : Rule) (low : ℤ) (cs : List Column) (time : ℤ) (ns : List ℕ) (fs : List Fact) (s : RollupState) (i : ℕ) → HaveRollupSeries r s.grid.series_list cs s.series_list → AreAt cs time ns fs
@@ -167,7 +167,7 @@ put_at (q ∷ rs) f facts [] i r m ar am = absurd (none-some m am)
 put_at (q ∷ rs) f facts (x ∷ ms) zero r m ar am = ap₂ (λ (a : Rule) (b : CellMap). Some (put_cell a f facts b)) (same_Some q r ar) (same_Some x m am)
 put_at (q ∷ rs) f facts (x ∷ ms) (suc i) r m ar am = put_at rs f facts ms i r m ar am
 
-put-length : (rs : List Rule) (f : Fact) (facts : List Fact) (ms : List CellMap) → length (put_cells rs f facts ms) ≡ length ms
+pub put-length : (rs : List Rule) (f : Fact) (facts : List Fact) (ms : List CellMap) → length (put_cells rs f facts ms) ≡ length ms
 put-length [] f facts ms = refl
 put-length (r ∷ rs) f facts [] = refl
 put-length (r ∷ rs) f facts (m ∷ ms) = ap suc (put-length rs f facts ms)

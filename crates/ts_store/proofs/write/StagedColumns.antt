@@ -293,9 +293,9 @@ facts_without : (made : List Column) → facts_of (map without_points made) ≡ 
 facts_without [] = refl
 facts_without (c ∷ cs) = facts_without cs
 
-facts-behind : (before after : List ColumnPoints) → facts_of (before ++ after) ≡ facts_of before ++ facts_of after
-facts-behind [] after = refl
-facts-behind (c ∷ cs) after = ap (λ fs. facts_at c.column c.points ++ fs) (facts-behind cs after) ∙ sym (append_assoc (facts_at c.column c.points) (facts_of cs) (facts_of after))
+pub facts-append : (before after : List ColumnPoints) → facts_of (before ++ after) ≡ facts_of before ++ facts_of after
+facts-append [] after = refl
+facts-append (c ∷ cs) after = ap (λ fs. facts_at c.column c.points ++ fs) (facts-append cs after) ∙ sym (append_assoc (facts_at c.column c.points) (facts_of cs) (facts_of after))
 
 pub same_facts : (before : List ColumnPoints) (made : List Column) → facts_of (with_columns before made) ≡ facts_of before
-same_facts before made = facts-behind before (map without_points made) ∙ ap (λ fs. facts_of before ++ fs) (facts_without made) ∙ append-nil (facts_of before)
+same_facts before made = facts-append before (map without_points made) ∙ ap (λ fs. facts_of before ++ fs) (facts_without made) ∙ append-nil (facts_of before)

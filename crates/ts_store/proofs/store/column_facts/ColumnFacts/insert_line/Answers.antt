@@ -10,7 +10,7 @@ use Rattle.ts_core.specs.store.StoreStates.{ColumnPoints, column_of, facts_of}
 use Rattle.ts_core.specs.moves.StoreMoves.{PutsFacts, GainEmptyCells}
 use Rattle.ts_line.specs.Parts.{LinePart, Parts, series_of, fact_of, line_facts}
 use Rattle.ts_raw.specs.Columns.{ColumnState}
-use Rattle.ts_raw.specs.Indexed.{Indexed, IsSoundIndex}
+use Rattle.ts_raw.specs.Indexed.{Indexed}
 use Rattle.ts_core.specs.lists.Numbered.{Gains}
 use Rattle.ts_core.proofs.lists.Results.{on_any_err}
 use Rattle.ts_store.specs.write.LinesInColumns.{GrowsForLine}
@@ -33,14 +33,11 @@ use Rattle.ts_store.proofs.write.CellsCreatedLemmas.{rooms_same, rollups_stay, p
 use Rattle.ts_store.proofs.write.RollupsPut.{rollups_held, staged_inside, line_rooms, line_gains, all_gained}
 use Rattle.ts_store.proofs.store.ColumnsLemmas.{known_of, names_held}
 use Rattle.ts_store.proofs.store.column_facts.ColumnFacts.insert_line.Goals as goal
+use Rattle.ts_store.proofs.image.PartsBuilt.{series_held}
 
 -- no column is made
 none_made : (columns : List ColumnPoints) (facts : List Fact) → MakesFirst columns columns facts
 none_made columns facts = record { made = []; others = new_columns (map column_of columns) facts; order = refl; columns = sym (append-nil columns) }
-
--- the index is still one of the columns when a series is registered
-still_held : (before after : Indexed) (states : List ColumnState) → IsSoundIndex after → after.columns ≡ before.columns → IsSoundContent before states → IsSoundContent after states
-still_held before after states sound same held = record { sound = sound; each = held.each ∙ sym (ap length same) }
 
 -- its columns still have their rollup series
 still_rollups : (rules : List Rule) (old : StoreContent) (before after : Indexed) (states : List ColumnState) (us : List RollupState) → content_of before states us ≡ old → after.columns ≡ before.columns → IsSoundContent before states
@@ -195,7 +192,7 @@ prepare_line-requires-clause-rollups g c =
     (still_rollups c.args.rules.now c.args.self.now c.self.inside.index c.register.new.self c.self.inside.columns.items c.self.inside.rollups.items c.self.view_is c.register.ensures.columns c.self.invariant c.requires.rollups)
 
 pub prepare_line-requires-clause-held : goal.prepare_line-requires-clause-held
-prepare_line-requires-clause-held g c = still_held c.self.inside.index c.register.new.self c.self.inside.columns.items c.register.ensures.sound c.register.ensures.columns c.self.invariant
+prepare_line-requires-clause-held g c = series_held c.self.inside.index c.register.new.self c.self.inside.columns.items c.register.ensures.sound c.register.ensures.columns c.self.invariant
 
 pub returns-in-Err-clause-err : goal.returns-in-Err-clause-err
 returns-in-Err-clause-err g c =
@@ -204,7 +201,7 @@ returns-in-Err-clause-err g c =
     let states : List ColumnState = c.self.inside.columns.items in
     let us : List RollupState = c.self.inside.rollups.items in
     grown c.args.rules.now c.args.lows.now c.args.line.now c.args.key.now c.args.self.now before after after states states us us us c.requires.key c.self.view_is (inl c.in-Err.ensures.registered.kept) c.register.ensures.columns refl
-    (none_made (columns_in after states) (line_facts c.args.line.now)) (still_held before after states c.register.ensures.sound c.register.ensures.columns c.self.invariant) refl
+    (none_made (columns_in after states) (line_facts c.args.line.now)) (series_held before after states c.register.ensures.sound c.register.ensures.columns c.self.invariant) refl
     (still_rollups c.args.rules.now c.args.self.now before after states us c.self.view_is c.register.ensures.columns c.self.invariant c.requires.rollups) (rooms_same c.args.rules.now c.args.lows.now (cells_of us))
     (gain_nothing (line_facts c.args.line.now) c.args.rules.now c.args.lows.now (cells_of us)) (inl refl)
 
@@ -216,7 +213,7 @@ returns-in_err-reserve-clause-err g c =
     let us : List RollupState = c.self.inside.rollups.items in
     on_any_err c.from_residual.result
     (grown c.args.rules.now c.args.lows.now c.args.line.now c.args.key.now c.args.self.now before after after states states us us us c.requires.key c.self.view_is (inr c.in-Ok.ensures.registered.gains) c.register.ensures.columns refl
-    (none_made (columns_in after states) (line_facts c.args.line.now)) (still_held before after states c.register.ensures.sound c.register.ensures.columns c.self.invariant) refl
+    (none_made (columns_in after states) (line_facts c.args.line.now)) (series_held before after states c.register.ensures.sound c.register.ensures.columns c.self.invariant) refl
     (still_rollups c.args.rules.now c.args.self.now before after states us c.self.view_is c.register.ensures.columns c.self.invariant c.requires.rollups) (rooms_same c.args.rules.now c.args.lows.now (cells_of us))
     (gain_nothing (line_facts c.args.line.now) c.args.rules.now c.args.lows.now (cells_of us)) (inl refl))
 
