@@ -8,9 +8,9 @@ use Rattle.ts_core.specs.declared.aggregates.aggregate.Extremes.{Extremes}
 use Rattle.ts_core.specs.aggregates.Aggregates.{Aggregate, empty_aggregate, aggregate_of_one, aggregate_of_points, merged, IsSound}
 use Rattle.ts_core.specs.aggregates.MergeLaws.{aggregate_laws}
 use Rattle.ts_core.specs.aggregates.SoundLaws.{sound_laws}
-use Rattle.ts_core.proofs.aggregates.Folds.{fold-count}
 use Rattle.ts_core.proofs.aggregates.RemaindersLemmas.{fold-possible}
 use Rattle.ts_core.proofs.queries.Boundaries.{within_parts}
+use Rattle.ts_core.proofs.aggregates.AggregatesLemmas.{count_of_fold}
 use Rattle.ts_raw.specs.Summaries.{IsFront}
 use Rattle.ts_exec.specs.declared.aggregate_parts.AggregateParts.{AggregateParts}
 use Rattle.ts_exec.specs.declared.aggregate_parts.AggregateParts.TheVariants.{CountAlone, CountAndSum, Bounds, Whole}
@@ -21,9 +21,6 @@ use Rattle.ts_exec.proofs.Runs.{point_count, run-begun, run-first, run-joined, r
 
 pub sound-points : (ps : List (ℤ × ℤ)) → IsSound (aggregate_of_points ps)
 sound-points ps = fold-possible aggregate_laws sound_laws (λ (p : ℤ × ℤ). p.0) (λ (p : ℤ × ℤ). p.1) ps
-
-pub count-points : (ps : List (ℤ × ℤ)) → (aggregate_of_points ps).count ≡ length ps
-count-points ps = fold-count aggregate_laws (λ (p : ℤ × ℤ). aggregate_of_one p.0 p.1) (λ p. refl) ps
 
 alone : (a : Aggregate) → merged a empty_aggregate ≡ a
 alone a = aggregate_laws.comm a empty_aggregate ∙ aggregate_laws.unit a
@@ -76,7 +73,7 @@ module _ (low high : ℤ) (before left : List (ℤ × ℤ)) (a : Aggregate) (fro
   pub front-some : 0 < a.count
   front-some =
       let some = front.some in
-      let count : a.count ≡ length front.block = ap (λ (x : Aggregate). x.count) front.summary ∙ count-points front.block in
+      let count : a.count ≡ length front.block = ap (λ (x : Aggregate). x.count) front.summary ∙ count_of_fold front.block in
       omega arith
 
   pub front-sound : IsSound a
@@ -93,7 +90,7 @@ module _ (low high : ℤ) (before left : List (ℤ × ℤ)) (a : Aggregate) (fro
     pub front-few : (low <ℤ high → part.count + length all ≤ 2 ^ 62) → next.count + a.count ≤ 2 ^ 62
     front-few few =
         let fits = few front_range in
-        let count : a.count ≡ length front.block = ap (λ (x : Aggregate). x.count) front.summary ∙ count-points front.block in
+        let count : a.count ≡ length front.block = ap (λ (x : Aggregate). x.count) front.summary ∙ count_of_fold front.block in
         let own : next.count ≡ part.count + length m.first = ap (λ (x : Aggregate). x.count) m.merged ∙ merged_count parts part m.first in
         let long : length all ≡ length m.first + length before = ap (λ (ps : List (ℤ × ℤ)). length ps) m.points ∙ length-append m.first before in
         let rest : length before ≡ length front.block + length left = ap (λ (ps : List (ℤ × ℤ)). length ps) front.split ∙ length-append front.block left in

@@ -1,8 +1,7 @@
 -- Rows filled one by one, which are the filled rows; their starts fit in 128 bits.
-use Rattle.std.proofs.Common.{◌≡◌, ℕ, suc, ◌+◌, ◌-◌, ◌*◌, ◌<◌, ◌≤◌, ◌^◌, ℤ, pos, negsuc, neg_ℤ, ◌+ℤ◌, ◌*ℤ◌, ◌≤ℤ◌, ◌<ℤ◌, true, false, cond, not, List, [], ◌∷◌, map, filter, length, get_or, drop, drop-cons, add-one, Option, Some, None, SFits, w64, refl, sym, ◌∙◌, ap, ap₂, arith}
+use Rattle.std.proofs.Common.{◌≡◌, ℕ, suc, ◌-◌, ◌*◌, ◌≤◌, ◌^◌, ℤ, pos, negsuc, neg_ℤ, ◌+ℤ◌, ◌*ℤ◌, ◌≤ℤ◌, ◌<ℤ◌, true, false, cond, not, List, [], ◌∷◌, map, filter, length, Option, Some, None, SFits, w64, refl, ◌∙◌, ap, ap₂, arith}
 use Rattle.std.specs.Int.{w128}
 use Rattle.std.proofs.Math.IntN.{suc_ℤ-*ℤ, pos-*ℤ-pos}
-use Rattle.std.proofs.lemmas.List.{drop_all}
 use Rattle.std.proofs.lemmas.Nat.{mul-le}
 use Rattle.std.proofs.lemmas.Int.{ints, fits_signed_from_abs}
 use Rattle.ts_core.specs.declared.queries.fill.Fill.{Fill}
@@ -97,17 +96,7 @@ pub groups-filled : (fill : Fill) (s : Select) (gs : List (List Text × List Agg
 groups-filled fill s gs groups columns interval begin c i b e =
     (λ j. map (group_at fill (functions_of (c j)) (i j) (b j)) gs) ∙ groups_at fill (functions_of s.columns) s.query gs ∙ ap (filled fill (functions_of s.columns)) e
 
--- ---- groups one by one
-
-pub group_left : {X Y : Type 0} (f : X → Y) (xs : List X) (i : ℕ) (x : X) → i < length xs → x ≡ get_or xs i x → map f (drop i xs) ≡ f x ∷ map f (drop (i + 1) xs)
-group_left f xs i x l e =
-    let first : drop i xs ≡ get_or xs i x ∷ drop (i + 1) xs = rw add-one (drop-cons xs i x l) in
-    ap (map f) first ∙ ap (λ y. f y ∷ map f (drop (i + 1) xs)) (sym e)
-
-pub none_left : {X Y : Type 0} (f : X → Y) (xs : List X) (i : ℕ) → length xs ≤ i → map f (drop i xs) ≡ []
-none_left f xs i l = ap (map f) (drop_all i xs l)
-
--- ---- and where they end
+-- ---- where the rows of groups end
 
 ends_fit : (interval start : ℤ) (parts : List Aggregate) → pos 0 ≤ℤ interval → neg_ℤ (pos (2 ^ 64)) ≤ℤ start → (start +ℤ (pos (length parts) *ℤ interval)) <ℤ pos (2 ^ 127) → EndsFit interval (rows_at interval start parts)
 ends_fit interval start [] i low high = tt

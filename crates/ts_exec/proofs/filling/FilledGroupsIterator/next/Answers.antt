@@ -4,9 +4,10 @@ use Rattle.ts_core.specs.declared.queries.value.Function.{Function}
 use Rattle.ts_core.specs.facts.Facts.{Text}
 use Rattle.ts_core.specs.aggregates.Aggregates.{Aggregate}
 use Rattle.ts_core.specs.queries.Fills.{FilledGroup, filled_rows}
+use Rattle.ts_core.proofs.lists.Remaining.{first_left}
 use Rattle.ts_exec.specs.Borrowed.{borrowed}
 use Rattle.ts_exec.specs.Fillings.{functions_of, rows_at, group_at}
-use Rattle.ts_exec.proofs.FillSteps.{group_left, ends-fit}
+use Rattle.ts_exec.proofs.FillSteps.{ends-fit}
 use Rattle.ts_exec.proofs.filling.FilledGroupsIterator.next.Goals as goal
 
 pub new-rows-requires : goal.new-rows-requires
@@ -32,4 +33,4 @@ returns-clause-steps g c =
     (λ j. filled_rows inside.fill fs (rows_at (sym (to_z-of_z interval) j) (sym (to_z-of_z start) j) (own j))) ∙ sym (c.new.ensures ∙ ap (filled_rows inside.fill fs) c.new-rows.ensures) in
     let f : List Text × List Aggregate → FilledGroup = group_at inside.fill fs inside.interval inside.start in
     let item : f given ≡ record { values = borrowed c.values.result.now; rows = c.new.result } = (λ j. record { values = values j; rows = rows j }) in
-    sym c.self.view_is ∙ group_left f gs inside.given given there c.index-self-self.is ∙ ap (λ (x : FilledGroup). x ∷ map f (drop (inside.given + 1) gs)) item
+    sym c.self.view_is ∙ first_left f gs inside.given given there c.index-self-self.is ∙ ap (λ (x : FilledGroup). x ∷ map f (drop (inside.given + 1) gs)) item
