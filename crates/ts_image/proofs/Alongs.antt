@@ -1,6 +1,6 @@
 -- Lists of values of one format, one value per item of another list, and reading such a list in a loop.
-use Rattle.std.proofs.Common.{◌≡◌, ◌≤◌, arith, ℕ, suc, ◌+◌, ◌<◌, map, drop, get_or, add-one, drop-cons, List, [], ◌∷◌, ◌++◌, length, replicate, Result, Ok, Err, refl, sym, ap, subst, ◌∙◌, append_assoc}
-use Rattle.std.proofs.lemmas.List.{append-nil, nil_from_length, length-drop}
+use Rattle.std.proofs.Common.{◌≡◌, ℕ, List, [], ◌∷◌, ◌++◌, length, replicate, Result, Ok, Err, refl, sym, ap, subst, ◌∙◌}
+use Rattle.std.proofs.lemmas.List.{append-nil}
 use Rattle.ts_core.specs.io.Devices.{Input}
 use Rattle.ts_core.specs.io.ReadingAhead.{EndIsEnd}
 use Rattle.ts_image.specs.declared.field_fault.FieldFault.{FieldFault}
@@ -8,7 +8,7 @@ use Rattle.ts_image.specs.declared.field_fault.FieldFault.TheVariants.{Misshapen
 use Rattle.ts_image.specs.Formats.{Cursor, Read, ◌>>=◌, Format, read_along, along, times}
 use Rattle.ts_image.specs.FieldReading.{FieldsRead, cursor_of, IsKnown, CallsSource, GivesReading, ReadsField}
 use Rattle.ts_image.proofs.Fields.{done}
-use Rattle.ts_image.proofs.Loops.{with_front}
+use Rattle.ts_image.proofs.Loops.{with_front, front_nil, regroup}
 use Rattle.ts_image.proofs.Reading.{fine, faulty, nothing_yet, calls_nothing, calls_more, calls_on, calls_ok, calls_unless}
 
 module _ {X Y : Type 0} (f : Format X) where
@@ -32,14 +32,6 @@ pub record HasReadAlong {X Y : Type 0} (f : Y → Format X) (ys left : List Y) (
   pub stays : IsKnown a s → IsKnown b t
   pub value : IsKnown a s → with_front xs (read_along f left (cursor_of b t)) ≡ read_along f ys (cursor_of a s)
   pub calls : CallsSource a.ahead s nothing_yet b.ahead t
-
-front_nil : {X : Type 0} (r : Read (List X)) → with_front [] r ≡ r
-front_nil (Ok x) = refl
-front_nil (Err n) = refl
-
-regroup : {X : Type 0} (xs : List X) (x : X) (r : Read (List X)) → with_front xs (r >>= λ ys. done (x ∷ ys.0, ys.1)) ≡ with_front (xs ++ x ∷ []) r
-regroup {X} xs x (Ok ys) = ap (λ (zs : List X). done (zs, ys.1)) (sym (append_assoc xs (x ∷ []) ys.0))
-regroup xs x (Err n) = refl
 
 module _ {X Y : Type 0} (f : Y → Format X) (ys : List Y) (a : FieldsRead) (s : Input) where
   pub along_starts : EndIsEnd a.ahead s → HasReadAlong f ys ys [] a s a s
@@ -83,14 +75,3 @@ module _ {X Y : Type 0} (f : Y → Format X) (ys : List Y) (a : FieldsRead) (s :
     value = λ k. sym (so_far.value k) ∙ ap (λ (zs : List X). done (zs, cursor_of b t)) (append-nil xs ∙ sym e);
     calls = calls_ok a.ahead b.ahead s t tt w so_far.calls;
   }
-
--- the first of those that are left, and the rest
-pub first_left : {P Y : Type 0} (v : P → Y) (ps : List P) (i : ℕ) (p : P) → i < length ps → p ≡ get_or ps i p → map v (drop i ps) ≡ v p ∷ map v (drop (i + 1) ps)
-first_left {P} v ps i p lt e =
-    ap (map v) (drop-cons ps i p lt) ∙ ap (λ (x : P). v x ∷ map v (drop (suc i) ps)) (sym e) ∙ ap (λ (n : ℕ). v p ∷ map v (drop n ps)) (sym (add-one i))
-
-drop_past : {P : Type 0} (ps : List P) (i : ℕ) → length ps ≤ i → drop i ps ≡ []
-drop_past ps i le = nil_from_length (drop i ps) (omega (arith, length-drop i ps))
-
-pub none_left : {P Y : Type 0} (v : P → Y) (ps : List P) (i : ℕ) → length ps ≤ i → map v (drop i ps) ≡ []
-none_left v ps i le = ap (map v) (drop_past ps i le)

@@ -22,6 +22,7 @@ use Rattle.ts_core.proofs.store.StateLemmas.{StandsFor-Holds}
 use Rattle.ts_image.specs.Pictures.{part_at}
 use Rattle.ts_core.specs.store.Cells.{Cell, is_rolled, is_in_cell, same_cell, cell_of, frozen_of}
 use Rattle.ts_core.proofs.plans.PieceCells.{same_cell-eq}
+use Rattle.ts_core.proofs.lists.ListSteps.{length-filter}
 
 -- the number of members of a list that pass
 abbrev pub number_of : {X : Type 0} → (X → Bool) → List X → ℕ
@@ -125,16 +126,9 @@ split_few p q (f ∷ fs) =
     let one : one_if (p f && not (q f)) + one_if (p f && q f) ≤ 1 = at_most (p f) (q f) in
     omega (arith, a, b, rest, one)
 
-length-left : {X : Type 0} (p : X → Bool) (xs : List X) → length (filter p xs) ≤ length xs
-unfolding one_if
-length-left p [] = omega arith
-length-left p (x ∷ xs) =
-    let rest = length-left p xs in
-    elim (p x) as (λ b. length (cond b (x ∷ filter p xs) (filter p xs)) ≤ length (x ∷ xs)) [ true ↦ omega arith | false ↦ omega arith ]
-
 pub latest-few : (fs : List Fact) → length (latest fs) ≤ length fs
 latest-few [] = omega arith
-latest-few (f ∷ fs) = let rest = latest-few fs in let less = length-left (λ (g : Fact). not (same_id (id_of g) (id_of f))) (latest fs) in omega (arith, rest, less)
+latest-few (f ∷ fs) = let rest = latest-few fs in let less = length-filter (λ (g : Fact). not (same_id (id_of g) (id_of f))) (latest fs) in omega (arith, rest, less)
 
 -- the count of a cell's frozen part is the number of its frozen facts
 frozen-count : (cut : Column → ℤ) (r : Rule) (k : Cell) (fs : List Fact) → (frozen_of cut r k fs).count ≡ number_of (here r (λ (f : Fact). not (is_kept cut f)) k) fs

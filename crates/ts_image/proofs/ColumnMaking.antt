@@ -1,8 +1,7 @@
 -- A store under construction, column by column.
-use Rattle.std.proofs.Common.{◌≡◌, ◌<◌, ℕ, zero, suc, Bool, List, [], ◌∷◌, ◌++◌, length, map, refl, sym, ap, subst, ◌∙◌, inl, inr, ⊎_elim, arith, append_assoc, append-nil}
-use Rattle.std.proofs.lemmas.List.{map-append}
+use Rattle.std.proofs.Common.{◌≡◌, Bool, List, [], ◌∷◌, ◌++◌, length, map, refl, sym, ap, subst, ◌∙◌, inl, inr, ⊎_elim, append_assoc, append-nil}
+use Rattle.std.proofs.lemmas.List.{map-append, nil_from_length}
 use Rattle.ts_core.specs.lists.Members.{Among}
-use Rattle.ts_core.specs.lists.Numbered.{IsAt}
 use Rattle.ts_core.specs.facts.Facts.{Text, Series, Column, text_cmp}
 use Rattle.ts_core.specs.store.StoreStates.{ColumnPoints, column_of}
 use Rattle.ts_core.proofs.lists.MembersLemmas.{Among-append}
@@ -14,10 +13,6 @@ use Rattle.ts_image.specs.Pictures.{image_points_in}
 use Rattle.ts_image.specs.StoresMade.{is_column_waiting, with_image_columns}
 use Rattle.ts_image.proofs.Rising.{rising_mid}
 
-pub nothing_left : {X : Type 0} (l : List X) → length l ≡ 0 → l ≡ []
-nothing_left [] h = refl
-nothing_left (x ∷ xs) h = absurd (omega arith)
-
 -- a loop that consumes its items took one more of them, or all
 pub split_more : {X : Type 0} (xs : List X) (x : X) (ys zs all : List X) → ys ≡ x ∷ zs → xs ++ ys ≡ all → (xs ++ x ∷ []) ++ zs ≡ all
 split_more xs x ys zs all e h = append_assoc xs (x ∷ []) zs ∙ ap (λ us. xs ++ us) (sym e) ∙ h
@@ -26,13 +21,7 @@ pub split_next : {X : Type 0} (xs ys zs all own : List X) (x : X) → ys ≡ x �
 split_next xs ys zs all own x e h k = sym k ∙ sym h ∙ ap (λ us. xs ++ us) e
 
 pub split_all : {X : Type 0} (xs ys all : List X) → length ys ≡ 0 → xs ++ ys ≡ all → xs ≡ all
-split_all xs ys all e h = sym (append-nil xs) ∙ ap (λ us. xs ++ us) (sym (nothing_left ys e)) ∙ h
-
--- there is something at each index
-pub some_at : {X : Type 0} (xs : List X) (n : ℕ) → n < length xs → (x : X) × IsAt xs n x
-some_at [] n lt = absurd (omega arith)
-some_at (x ∷ xs) zero lt = (x, refl)
-some_at (x ∷ xs) (suc n) lt = some_at xs n (omega arith)
+split_all xs ys all e h = sym (append-nil xs) ∙ ap (λ us. xs ++ us) (sym (nil_from_length ys e)) ∙ h
 
 -- ---- columns of a series
 

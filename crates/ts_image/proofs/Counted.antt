@@ -1,28 +1,21 @@
 -- Counts that pass the tests of an image: no cell of a store of its data has more facts than were accepted.
-use Rattle.std.proofs.Common.{◌≡◌, ◌⊎◌, ℕ, zero, ℤ, ◌+◌, ◌≤◌, ◌<◌, Bool, true, false, cond, ◌&&◌, List, [], ◌∷◌, ◌++◌, length, map, filter, suc, refl, sym, ◌∙◌, ap, inl, inr, ⊎_elim, arith, length-append, append_assoc}
+use Rattle.std.proofs.Common.{◌≡◌, ◌⊎◌, ℕ, zero, ℤ, ◌+◌, ◌≤◌, ◌<◌, Bool, true, false, cond, List, [], ◌∷◌, ◌++◌, length, map, filter, suc, refl, sym, ◌∙◌, ap, inl, inr, ⊎_elim, arith, length-append}
 use Rattle.std.specs.List.{sum_by}
 use Rattle.std.proofs.lemmas.List.Sums.{sum_by-cons}
 use Rattle.ts_core.specs.lists.Members.{Among}
 use Rattle.ts_core.specs.facts.Facts.{Series, Column, Fact, same_text}
 use Rattle.ts_core.specs.settings.Settings.{Rule}
-use Rattle.ts_core.specs.store.Cells.{Cell, is_in_cell, same_cell, cell_of}
-use Rattle.ts_core.specs.store.StoreStates.{ColumnPoints, fact_at, facts_at, facts_of}
+use Rattle.ts_core.specs.store.Cells.{Cell, is_in_cell}
+use Rattle.ts_core.specs.store.StoreStates.{facts_at, facts_of}
 use Rattle.ts_core.proofs.store.RunSteps.{filter-append}
+use Rattle.ts_core.proofs.lists.ListSteps.{length-filter}
+use Rattle.ts_core.proofs.moves.StepStands.{points_out}
 use Rattle.ts_image.specs.Images.{ImageColumn, ImageSeries, ImageCell}
 use Rattle.ts_image.specs.ImageTests.{points_of_series, points_in_all, points_of_measurement, count_frozen}
 use Rattle.ts_image.specs.Pictures.{column_of_image, image_points_in, columns_of_image, cell_part_of, part_at}
 use Rattle.ts_core.specs.aggregates.Aggregates.{Aggregate}
 use Rattle.ts_core.specs.store.StoreData.{CellMap}
-
-length-left : {X : Type 0} (p : X → Bool) (xs : List X) → length (filter p xs) ≤ length xs
-length-left p [] = omega arith
-length-left p (x ∷ xs) =
-    let rest = length-left p xs in
-    elim (p x) as (λ b. length (cond b (x ∷ filter p xs) (filter p xs)) ≤ length (x ∷ xs)) [ true ↦ omega arith | false ↦ omega arith ]
-
-pub facts-append : (cs ds : List ColumnPoints) → facts_of (cs ++ ds) ≡ facts_of cs ++ facts_of ds
-facts-append [] ds = refl
-facts-append (c ∷ cs) ds = ap (λ xs. facts_at c.column c.points ++ xs) (facts-append cs ds) ∙ sym (append_assoc (facts_at c.column c.points) (facts_of cs) (facts_of ds))
+use Rattle.ts_store.proofs.write.StagedColumns.{facts-append}
 
 pub facts-length : (c : Column) (ps : List (ℤ × ℤ)) → length (facts_at c ps) ≡ length ps
 facts-length c [] = refl
@@ -38,15 +31,10 @@ series-length s (c ∷ cs) =
     let sum = sum_by-cons (λ (x : ImageColumn). length x.points) c cs in
     omega (arith, here, rest, all, sum)
 
--- those of another measurement are in no cell of the rule
-none_at : (r : Rule) (k : Cell) (c : Column) (ps : List (ℤ × ℤ)) → same_text c.series.measurement r.measurement ≡ false → filter (is_in_cell r k) (facts_at c ps) ≡ []
-none_at r k c [] e = refl
-none_at r k c (p ∷ ps) e = ap (λ b. cond (b && same_cell (cell_of r (fact_at c p)) k) (fact_at c p ∷ filter (is_in_cell r k) (facts_at c ps)) (filter (is_in_cell r k) (facts_at c ps))) e ∙ none_at r k c ps e
-
 none_of : (r : Rule) (k : Cell) (s : Series) (cs : List ImageColumn) → same_text s.measurement r.measurement ≡ false → filter (is_in_cell r k) (facts_of (map (image_points_in s) cs)) ≡ []
 none_of r k s [] e = refl
 none_of r k s (c ∷ cs) e =
-    filter-append (is_in_cell r k) (facts_at (column_of_image s c) c.points) (facts_of (map (image_points_in s) cs)) ∙ ap (λ xs. xs ++ filter (is_in_cell r k) (facts_of (map (image_points_in s) cs))) (none_at r k (column_of_image s c) c.points e) ∙ none_of r k s cs e
+    filter-append (is_in_cell r k) (facts_at (column_of_image s c) c.points) (facts_of (map (image_points_in s) cs)) ∙ ap (λ xs. xs ++ filter (is_in_cell r k) (facts_of (map (image_points_in s) cs))) (points_out r k (column_of_image s c) c.points e) ∙ none_of r k s cs e
 
 -- a cell has no more raw facts than its rule's measurement has points
 pub few_live : (r : Rule) (k : Cell) (ss : List ImageSeries) → length (filter (is_in_cell r k) (facts_of (columns_of_image ss))) ≤ points_of_measurement r.measurement ss
@@ -60,7 +48,7 @@ few_live r k (s ∷ ss) =
     let both = length-append (filter p mine) (filter p (facts_of (columns_of_image ss))) in
     let rest = few_live r k ss in
     elim (same_text s.series.measurement r.measurement) as (λ b. same_text s.series.measurement r.measurement ≡ b → length (filter p (facts_of (columns_of_image (s ∷ ss)))) ≤ points_in_all (cond b (s ∷ filter (λ (x : ImageSeries). same_text x.series.measurement r.measurement) ss) (filter (λ (x : ImageSeries). same_text x.series.measurement r.measurement) ss))) [
-      | true ↦ λ e. let most = length-left p mine in let many = series-length s.series s.columns in let sum = sum_by-cons points_of_series s (filter (λ (x : ImageSeries). same_text x.series.measurement r.measurement) ss) in omega (arith, all, both, rest, most, many, sum)
+      | true ↦ λ e. let most = length-filter p mine in let many = series-length s.series s.columns in let sum = sum_by-cons points_of_series s (filter (λ (x : ImageSeries). same_text x.series.measurement r.measurement) ss) in omega (arith, all, both, rest, most, many, sum)
       | false ↦ λ e. let none = ap length (none_of r k s.series s.columns e) in omega (arith, all, both, rest, none)
     ] refl
 

@@ -171,8 +171,8 @@ number_format w wide = field_format (number w) (to_be_bytes w) (record {
 
 -- ---- signed numbers, texts, and no field
 
-not_err : {A : Type 0} (x : A) (n : ℕ) → done x ≡ failed n → ⊥
-not_err x n e = cc
+pub done_not_failed : {A : Type 0} (x : A) (n : ℕ) → done x ≡ failed n → ⊥
+done_not_failed x n e = cc
 
 nil_front : (fs gs : List (List ℕ)) → fs ++ gs ≡ [] → fs ≡ []
 nil_front [] gs e = refl
@@ -200,7 +200,7 @@ signed_format w wide = field_format (signed_number w) (signed_word w) (record {
       ap (λ r. r >>= λ n. done (cast_signed w n.0, n.1)) (number_again w wide p (cast_unsigned w z) rest (Fits-lt-pow {w = w} (Fits-of_z {w = w} h)) e)
       ∙ ap (λ y. done (y, record { at = p.at + length (signed_word w z); rest = rest })) (to_z-of_z w z h);
   fails = λ p n e.
-      ⊎_elim {C = n ≡ p.at} (λ f. number_fails w p n f) (λ s. absurd (not_err (cast_signed w s.0.0, s.0.1) n s.2)) (bind_err (read_number w p) (λ m. done (cast_signed w m.0, m.1)) n e);
+      ⊎_elim {C = n ≡ p.at} (λ f. number_fails w p n f) (λ s. absurd (done_not_failed (cast_signed w s.0.0, s.0.1) n s.2)) (bind_err (read_number w p) (λ m. done (cast_signed w m.0, m.1)) n e);
   onward = λ p. elim (ltb (length p.rest) (byte_len w)) as (λ b. p.at ≤ reach (cond b (failed p.at) (done (from_be_bytes w (take (byte_len w) p.rest), behind (byte_len w) p)) >>= λ n. done (cast_signed w n.0, n.1))) [ true ↦ omega arith | false ↦ omega arith ];
 })
 
@@ -268,6 +268,6 @@ nothing_format {X} x = record {
   some_fits = refl;
   reads_value = λ p q y b e. let s = ok_is (x, p) (y, q) e in record { fits = sym (ap (λ (r : X × Cursor). r.0) s); rest = ap (λ (r : X × Cursor). r.1.rest) s; at = let a : p.at ≡ q.at = ap (λ (r : X × Cursor). r.1.at) s in omega arith };
   again = λ p y rest h e. let z : p.at ≡ p.at + 0 = omega arith in ap (λ (a : X). done (a, p)) (sym h) ∙ ap (λ (bytes : List ℕ). done (y, record { at = p.at; rest = bytes })) e ∙ ap (λ (n : ℕ). done (y, record { at = n; rest = rest })) z;
-  fails = λ p n b e. absurd (not_err (x, p) n e);
+  fails = λ p n b e. absurd (done_not_failed (x, p) n e);
   bound = λ p n r. let none : r.before ≡ [] = nil_front r.before r.after (sym r.fields) in let l : length (concat r.before) ≡ 0 = ap (λ (fs : List (List ℕ)). length (concat fs)) none in let a = r.at in omega arith;
 }

@@ -32,11 +32,12 @@ use Rattle.ts_image.specs.Images.{ImageCell}
 use Rattle.ts_image.specs.Pictures.{part_at}
 use Rattle.ts_image.specs.SavedImages.{IsWellFormed}
 use Rattle.ts_store.specs.image.SavedContent.{SavedSeries, saved_key, FrozenCell, frozen_from}
+use Rattle.ts_store.proofs.store.CountsKept.{length-within}
 use Rattle.ts_image.specs.Saving.{store_image, image_cell_of, frozen_cells_at, FitsCell, FitCells, FitCellsFrom, FitsImage, IsOrder}
 use Rattle.ts_image.specs.WrittenImages.{WrittenImagesAreAcceptable}
 use Rattle.ts_image.proofs.CellSums.{rule_counted}
 use Rattle.ts_image.proofs.FrozenPictures.{latest_valid, IsFrozenFact, frozen_some}
-use Rattle.ts_image.proofs.Orders.{all_among, among_all, rising_distinct, distinct_few}
+use Rattle.ts_image.proofs.Orders.{all_among, among_all, rising_distinct}
 use Rattle.ts_image.proofs.SavedImages.{from_low, saved_possible}
 use Rattle.ts_image.proofs.WrittenPictures.{written_picture, written_orderly, written, written_each, written_kept, written_rising, first_of, entry_of}
 
@@ -152,7 +153,7 @@ written_fits opening h k order st well w =
     let lasting : AllByRecursion (λ (r : Rule). Outlasts r.duration opening.raw_duration) k.settings.rules = subst (λ (n : ℕ). AllByRecursion (λ (r : Rule). Outlasts r.duration n) k.settings.rules) raw mine.lasting in
     let lows : k.marks.lows ≡ map (low_of opening h) k.settings.rules = ap (λ (m : Marks). m.lows) st.marks ∙ ap (λ (s : Settings). map (low_of opening h) s.rules) (sym st.settings) in
     let few = well.sized.series in
-    let most = distinct_few (map saved_key order) k.series (rising_distinct series_total (map saved_key order) w.rising) (λ s a. (w.each s).0 a) in
+    let most = length-within (map saved_key order) k.series (rising_distinct series_total (map saved_key order) w.rising) (λ s a. (w.each s).0 a) in
     let same = length-map order saved_key in
     record {
       lows = subst (AllByRecursion (FitsSigned w64)) (sym lows) (lows_fit opening h k.settings.rules mark mine.intervals mine.seconds lasting well.rules);

@@ -17,7 +17,7 @@ use Rattle.ts_image.specs.Formats.{Cursor, read_number, number}
 use Rattle.ts_image.specs.Images.{image_mark, version_byte}
 use Rattle.ts_image.specs.FieldReading.{FieldsRead, cursor_of, IsKnown, CallsSource, UsesBytes, GivesReading, ReadsField}
 use Rattle.ts_image.specs.HeadReading.{GivesHead, ReadsImageHead}
-use Rattle.ts_image.proofs.Fields.{done, failed, err_is, ok_is}
+use Rattle.ts_image.proofs.Fields.{done, failed, err_is, ok_is, done_not_failed}
 use Rattle.ts_image.proofs.Reading.{fine, faulty, nothing_yet, front_of, stays_known, calls_more, calls_ok, calls_on}
 
 pub not_same : (xs ys : List ℕ) → true ≡ not (bytes_eq xs ys) → xs ≡ ys → ⊥
@@ -26,13 +26,10 @@ not_same xs ys h e = let r = same_text-from_eq xs ys e in let z : true ≡ false
 pub same_bytes : (xs ys : List ℕ) → false ≡ not (bytes_eq xs ys) → xs ≡ ys
 same_bytes xs ys h = same_text-eq xs ys (elim (bytes_eq xs ys) as (λ b. false ≡ not b → b ≡ true) [ true ↦ λ k. refl | false ↦ λ k. absurd cc ] h)
 
--- a number of one byte is that byte
-done_not_failed : {A : Type 0} (x : A) (n : ℕ) → done x ≡ failed n → ⊥
-done_not_failed x n e = cc
-
 failed_not_done : {A : Type 0} (n : ℕ) (x : A) → failed n ≡ done x → ⊥
 failed_not_done n x e = cc
 
+-- a number of one byte is that byte
 read_first : (b : ℕ) (bs : List ℕ) (at : ℕ) → read_number w8 (record { at = at; rest = b ∷ bs }) ≡ done (b, record { at = at + 1; rest = bs })
 read_first b bs at =
     let long : ltb (length (b ∷ bs)) 1 ≡ false = le-ltb _ _ (omega arith) in

@@ -7,10 +7,6 @@ pub borrowed_length : (xs : List (Bor Text × Bor Text)) → length (borrowed_pa
 borrowed_length [] = refl
 borrowed_length (x ∷ xs) = ap suc (borrowed_length xs)
 
-pub borrowed_more : (xs : List (Bor Text × Bor Text)) (y : Bor Text × Bor Text) → borrowed_pairs (xs ++ y ∷ []) ≡ borrowed_pairs xs ++ (y.0.now, y.1.now) ∷ []
-borrowed_more [] y = refl
-borrowed_more (x ∷ xs) y = ap (λ (zs : List (Text × Text)). (x.0.now, x.1.now) ∷ zs) (borrowed_more xs y)
-
 module _ {P X : Type 0} (f : P → X) where
   step : (ps : List P) (i : ℕ) (p : P) → i < length ps → p ≡ get_or ps i p → map f (take (suc i) ps) ≡ map f (take i ps) ++ f p ∷ []
   step [] i p lt e = absurd (omega arith)

@@ -23,11 +23,11 @@ pub record HasRead {X : Type 0} (f : Format X) (count left : ℕ) (xs : List X) 
   pub value : IsKnown a s → with_front xs (left_of f left (cursor_of b t)) ≡ left_of f count (cursor_of a s)
   pub calls : CallsSource a.ahead s nothing_yet b.ahead t
 
-front_nil : {X : Type 0} (r : Read (List X)) → with_front [] r ≡ r
+pub front_nil : {X : Type 0} (r : Read (List X)) → with_front [] r ≡ r
 front_nil (Ok x) = refl
 front_nil (Err n) = refl
 
-regroup : {X : Type 0} (xs : List X) (x : X) (r : Read (List X)) → with_front xs (r >>= λ ys. done (x ∷ ys.0, ys.1)) ≡ with_front (xs ++ x ∷ []) r
+pub regroup : {X : Type 0} (xs : List X) (x : X) (r : Read (List X)) → with_front xs (r >>= λ ys. done (x ∷ ys.0, ys.1)) ≡ with_front (xs ++ x ∷ []) r
 regroup {X} xs x (Ok ys) = ap (λ (zs : List X). done (zs, ys.1)) (sym (append_assoc xs (x ∷ []) ys.0))
 regroup xs x (Err n) = refl
 

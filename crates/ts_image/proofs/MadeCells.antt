@@ -12,6 +12,7 @@ use Rattle.ts_core.proofs.moves.MovesStand.{key_not}
 use Rattle.ts_core.proofs.plans.PieceCells.{cells_total, same_cell-eq, same_cell-refl}
 use Rattle.ts_store.specs.store.CellCounts.{HoldsFew, HoldFew}
 use Rattle.ts_store.specs.store.CellIndices.{HasIndices, HaveIndices}
+use Rattle.ts_store.proofs.retain.BatchesLeft.{other_cell}
 use Rattle.ts_image.specs.declared.version.Version.{Version}
 use Rattle.ts_image.specs.Images.{ImageRule, ImageSeries, ImageCell, ImageData}
 use Rattle.ts_image.specs.ImageTests.{rule_in, AreLows, AreImageCells, IsImageCell, CellsAre, AreCounted, count_frozen, points_of_measurement}
@@ -27,9 +28,6 @@ cell_at c = c.cell
 
 inserted : (m : CellMap) (c : ImageCell) (k : Cell) → finmap.get (finmap.insert m c.cell (parts_of c)) k ≡ cond (same_cell k c.cell) (Some (parts_of c)) (finmap.get m k)
 inserted m c k = get-insert cells_total m c.cell (parts_of c) k
-
-other_cell : (a b : Cell) → (a ≡ b → ⊥) → same_cell a b ≡ false
-other_cell a b n = elim (same_cell a b) as (λ t. same_cell a b ≡ t → t ≡ false) [ true ↦ λ e. absurd (n (same_cell-eq a b e)) | false ↦ λ e. refl ] refl
 
 -- a cell that isn't in the image stays
 pub elsewhere : (cs : List ImageCell) (m : CellMap) (k : Cell) → (Among k (map cell_at cs) → ⊥) → finmap.get (with_image_cells cs m) k ≡ finmap.get m k

@@ -1,13 +1,13 @@
 -- Lists in ascending order, in which no two items are equal; the number of distinct items of a list, at most the
 -- list's.
-use Rattle.std.proofs.Common.{◌≡◌, ◌≤◌, Bool, true, false, List, [], ◌∷◌, ◌++◌, T, length, map, refl, sym, ◌∙◌, ap, subst, inl, inr, ⊎_elim, true≢false, Ordering, Less, Equal, Greater, is_lt, arith, length-append, ◌&&◌}
+use Rattle.std.proofs.Common.{◌≡◌, Bool, true, false, List, [], ◌∷◌, T, map, refl, sym, ◌∙◌, ap, subst, inl, inr, ⊎_elim, true≢false, Ordering, Less, Equal, Greater, is_lt, ◌&&◌}
 use Rattle.std.specs.Cmp.{IsTotalOrder}
 use Rattle.std.specs.List.{AllByRecursion}
 use Rattle.std.specs.FinMap.{is_sorted}
 use Rattle.std.specs.FinMap.Entries.{below_all}
 use Rattle.std.proofs.lemmas.Cmp.{tied_itself}
 use Rattle.ts_core.specs.lists.Members.{Among, AllDistinct}
-use Rattle.ts_core.proofs.lists.MembersLemmas.{Split, split_at, out_of_middle, Among-map, map_back}
+use Rattle.ts_core.proofs.lists.MembersLemmas.{Among-map, map_back}
 use Rattle.ts_core.proofs.lists.Places.{both_of}
 use Rattle.ts_store.specs.image.SavedContent.{AreRising}
 
@@ -81,19 +81,6 @@ module _ {K X : Type 0} (cmp : K → K → Ordering) where
       of_both (below_all cmp e.0 es) (is_sorted cmp es) (below_each e.0 es (first_before o e.0 (map (λ (f : K × X). f.0) es) r)) (keys_rising o es (rising_rest cmp e.0 (map (λ (f : K × X). f.0) es) r))
 
 -- ---- distinct members
-
-pub distinct_few : {X : Type 0} (xs ys : List X) → AllDistinct xs → ((x : X) → Among x xs → Among x ys) → length xs ≤ length ys
-unfolding Split
-distinct_few [] ys d h = omega arith
-distinct_few {X} (x ∷ xs) ys d h =
-    let s = split_at x ys (h x (inl refl)) in
-    let us : List X = s.0 in
-    let vs : List X = s.1.0 in
-    let rest = distinct_few xs (us ++ vs) d.1 (λ z a. ⊎_elim {C = Among z (us ++ vs)} (λ e. absurd (d.0 (subst (λ w. Among w xs) e a))) (λ k. k) (out_of_middle z x us vs (subst (Among z) s.1.1 (h z (inr a))))) in
-    let whole : length ys ≡ length (us ++ x ∷ vs) = ap length s.1.1 in
-    let left = length-append us (x ∷ vs) in
-    let other = length-append us vs in
-    omega (arith, rest, whole, left, other)
 
 -- members with distinct keys are the same where their keys are
 pub one_of_key : {X K : Type 0} (key : X → K) (xs : List X) → AllDistinct (map key xs) → (x y : X) → Among x xs → Among y xs → key x ≡ key y → x ≡ y

@@ -3,8 +3,8 @@ use Rattle.std.proofs.Common.{◌≡◌, ℕ, zero, suc, ◌+◌, ◌≤◌, Lis
 use Rattle.std.specs.Int.{Width}
 use Rattle.std.proofs.lemmas.List.{length-append, length-replicate}
 use Rattle.ts_image.specs.Formats.{Cursor, concat, Read, ◌>>=◌, Format, spelling, number, nothing, and, iso, FitAlong, read_along, along, times, list_of}
-use Rattle.ts_image.specs.FormatLaws.{AreBytes, reach, ReadsValue, Reaches, IsFormat}
-use Rattle.ts_image.proofs.Fields.{bind_ok, bind_err, done, failed, ok_is, nothing_format}
+use Rattle.ts_image.specs.FormatLaws.{AreBytes, reach, Takes, Reaches, IsFormat}
+use Rattle.ts_image.proofs.Fields.{bind_ok, bind_err, done, ok_is, nothing_format, done_not_failed}
 
 pub concat-append : (fs gs : List (List ℕ)) → concat (fs ++ gs) ≡ concat fs ++ concat gs
 concat-append [] gs = refl
@@ -40,9 +40,6 @@ reach-done (Err n) h = refl
 reach-more : {A B : Type 0} (r : Read A) (k : A × Cursor → Read B) → ((a : A × Cursor) → a.1.at ≤ reach (k a)) → reach r ≤ reach (r >>= k)
 reach-more (Ok x) k h = h x
 reach-more (Err n) k h = omega arith
-
-not_err : {A : Type 0} (x : A) (n : ℕ) → done x ≡ failed n → ⊥
-not_err x n e = cc
 
 -- ---- a part, and then another
 
@@ -117,7 +114,7 @@ module _ {A B : Type 0} (f : Format A) (g : A → Format B) (lf : IsFormat f) (l
         bytes = t.rest ∙ ap (λ (x : List ℕ). spelling f s.0.0 ++ x) r.bytes ∙ sym (append_assoc (spelling f s.0.0) (concat r.before) r.rest) ∙ ap (λ (x : List ℕ). x ++ r.rest) (sym j);
         at = let e2 = ap length j in let l = length-append (spelling f s.0.0) (concat r.before) in let a = r.at in let b = t.at in omega (arith, e2, l, a, b);
       })
-      (λ w. absurd (not_err ((s.0.0, w.0.0), w.0.1) n w.2))
+      (λ w. absurd (done_not_failed ((s.0.0, w.0.0), w.0.1) n w.2))
       (bind_err ((g s.0.0).read s.0.1) (last s.0.0) n s.2))
       (bind_err (f.read p) rest_of n e)
 
@@ -181,7 +178,7 @@ module _ {A X : Type 0} (f : Format A) (h : Format X) (to : A → X) (law : IsFo
       ⊎_elim {C = Reaches h p n}
       (λ s. let r = law.fails p n bytes s in
       record { value = to r.value; fits = mapped.fits r.value r.fits; before = r.before; after = r.after; fields = mapped.fields r.value r.fits ∙ r.fields; rest = r.rest; bytes = r.bytes; at = r.at })
-      (λ s. absurd (not_err (to s.0.0, s.0.1) n s.2))
+      (λ s. absurd (done_not_failed (to s.0.0, s.0.1) n s.2))
       (bind_err (f.read p) stays n (sym (mapped.read p) ∙ e))
 
   mapped_bound : (p : Cursor) (n : ℕ) → Reaches h p n → n ≤ reach (h.read p)

@@ -17,7 +17,7 @@ use Rattle.ts_image.specs.StoresMade.{is_column_waiting, waits_in, cells_in, wit
 use Rattle.ts_image.proofs.Counted.{few_frozen}
 use Rattle.ts_image.proofs.MadeCells.{all_held, all_timed}
 use Rattle.ts_image.proofs.Orders.{all_among, among_all}
-use Rattle.ts_image.proofs.RawPictures.{points_counted}
+use Rattle.ts_image.proofs.RawPictures.{points_counted, not_one}
 
 -- ---- low indices
 
@@ -32,9 +32,6 @@ low_indices v mark (r ∷ rs) [] l = absurd l
 low_indices v mark (r ∷ rs) (low ∷ lows) l = (low_index v mark r low l.0, low_indices v mark rs lows l.1)
 
 -- ---- without an open run no column waits
-
-none_open : (n : ℕ) → (n == 1) ≡ false → n ≤ 1 → n ≡ 0
-none_open n e l = grind (arith, nat_tests)
 
 not_flagged : (n runs : ℕ) → n ≤ runs → runs ≡ 0 → (n == 1) ≡ false
 not_flagged n runs l e = grind (arith, nat_tests)
@@ -60,7 +57,7 @@ buildable v d p = record {
   lows = low_indices v d.marks.raw d.settings.rules d.marks.lows p.lows;
   counts = all_held v d d.marks.raw d.settings.rules d.marks.lows d.cells p.lows p.cells p.counted;
   indices = all_timed v d.marks.raw d.settings.rules d.marks.lows d.cells p.lows p.cells;
-  idle = λ e. idle_series d.marks.raw d.runs (none_open d.runs e p.runs) d.series p.series;
+  idle = λ e. idle_series d.marks.raw d.runs (not_one d.runs e p.runs) d.series p.series;
 }
 
 -- ---- each of its series can be added

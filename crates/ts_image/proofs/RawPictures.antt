@@ -1,8 +1,9 @@
 -- The raw facts of an image that is the picture of a store, and their number.
-use Rattle.std.proofs.Common.{◌≡◌, ◌≤◌, ℤ, Bool, true, false, cond, List, [], ◌∷◌, ◌++◌, length, map, filter, refl, sym, ◌∙◌, ap, subst, inl, inr, ⊎_elim, arith, length-append, ◌==◌}
+use Rattle.std.proofs.Common.{◌≡◌, ◌≤◌, ℤ, Bool, true, false, cond, List, [], ◌∷◌, ◌++◌, length, map, filter, refl, sym, ◌∙◌, ap, subst, inl, inr, ⊎_elim, arith, length-append, ◌==◌, ℕ}
 use Rattle.std.proofs.lemmas.List.{map-append}
 use Rattle.std.proofs.lemmas.List.Sums.{sum_by-cons}
 use Rattle.std.proofs.lemmas.Cmp.{nat_list_cmp_total}
+use Rattle.std.proofs.lemmas.Bool.Decides.{nat_tests}
 use Rattle.ts_core.specs.lists.Members.{Among, AllDistinct}
 use Rattle.ts_core.specs.facts.Facts.{Series, Column, Fact, Text, same_text, text_cmp, series_cmp}
 use Rattle.ts_core.specs.settings.Settings.{Rule}
@@ -14,9 +15,10 @@ use Rattle.ts_core.proofs.facts.Ids.{series_total}
 use Rattle.ts_image.specs.Images.{ImageColumn, ImageSeries}
 use Rattle.ts_image.specs.ImageTests.{points_of_series, points_in_all, points_of_measurement}
 use Rattle.ts_store.specs.image.SavedContent.{AreRising}
+use Rattle.ts_store.proofs.write.StagedColumns.{facts-append}
 use Rattle.ts_image.specs.Pictures.{column_of_image, image_points_in, columns_of_image, waiting_of_image}
 use Rattle.ts_image.proofs.Orders.{rising_distinct, one_of_key, distinct_by}
-use Rattle.ts_image.proofs.Counted.{facts-append, series-length}
+use Rattle.ts_image.proofs.Counted.{series-length}
 use Rattle.ts_image.proofs.CellSums.{number_of}
 
 abbrev pub series_of : ImageSeries → Series
@@ -41,6 +43,10 @@ column_from (t ∷ ts) p a =
     (λ k. let b = map_back (image_points_in t.series) t.columns p k in (t, b.0, inl refl, b.1, b.2))
     (λ k. let r = column_from ts p k in (r.0, r.1, inr r.2, r.3, r.4))
     (Among-append p (map (image_points_in t.series) t.columns) (columns_of_image ts) a)
+
+-- a flag that isn't one is zero
+pub not_one : (n : ℕ) → (n == 1) ≡ false → n ≤ 1 → n ≡ 0
+not_one n e l = grind (arith, nat_tests)
 
 pub waiting_from : (ss : List ImageSeries) (w : Column) → Among w (waiting_of_image ss) → (s : ImageSeries) × (c : ImageColumn) × Among s ss × Among c s.columns × (column_of_image s.series c ≡ w) × ((c.waits == 1) ≡ true)
 waiting_from [] w a = absurd a

@@ -1,6 +1,6 @@
 -- A store that was read back represents the same histories. Columns in another order have all facts and cuts, and cells
 -- with the same frozen parts are those of the same facts.
-use Rattle.std.proofs.Common.{◌≡◌, IsTrue, ℤ, ◌≤ℤ◌, Bool, true, false, cond, not, ◌&&◌, ◌||◌, ◌+◌, ◌<◌, List, [], ◌∷◌, ◌++◌, map, filter, refl, sym, ◌∙◌, ap, ap₂, subst, inl, inr, ⊎_elim, true≢false, arith, Option, Some, None}
+use Rattle.std.proofs.Common.{◌≡◌, IsTrue, ℤ, ◌≤ℤ◌, Bool, true, false, cond, not, ◌&&◌, ◌+◌, ◌<◌, List, [], ◌∷◌, map, filter, refl, sym, ◌∙◌, ap, ap₂, subst, inl, inr, ⊎_elim, true≢false, arith, Option, Some, None}
 use Rattle.std.specs.FinMap as finmap
 use Rattle.std.specs.List.{AllByRecursion}
 use Rattle.ts_core.specs.lists.Members.{Among, AllDistinct}
@@ -10,7 +10,7 @@ use Rattle.ts_core.specs.store.History.{History, accepted, raw_mark}
 use Rattle.ts_core.specs.facts.Latest.{latest_of}
 use Rattle.ts_core.specs.aggregates.Aggregates.{Aggregate, empty_aggregate, aggregate_of}
 use Rattle.ts_core.specs.aggregates.MergeLaws.{aggregate_laws}
-use Rattle.ts_core.specs.store.RawFacts.{same_column, is_waiting, earlier_mark, kept_from, is_kept}
+use Rattle.ts_core.specs.store.RawFacts.{is_waiting, earlier_mark, kept_from, is_kept}
 use Rattle.ts_core.specs.store.Cells.{Cell, cell_of, is_rolled, is_in_cell, same_cell, total_of, frozen_of, live_of}
 use Rattle.ts_core.specs.lists.Changes.{or_else}
 use Rattle.ts_core.specs.store.StoreStates.{ColumnPoints, CellParts, StandsFor, HasCells, column_of, rule_of, lowest_of, facts_at, facts_of}
@@ -19,11 +19,11 @@ use Rattle.ts_core.proofs.aggregates.Folds.{fold-same}
 use Rattle.ts_core.proofs.facts.Latests.{latest-distinct}
 use Rattle.ts_core.proofs.plans.PieceCells.{same_cell-eq, same_cell-refl}
 use Rattle.std.proofs.lemmas.Bool.{and_parts}
-use Rattle.ts_core.proofs.lists.MembersLemmas.{no_members, Among-left, Among-append, AllDistinct-append, AllDistinct-filter, Among-filter_was, Among-filter_passes, Among-filter_stays, map_back}
+use Rattle.ts_core.proofs.lists.MembersLemmas.{no_members, Among-append, AllDistinct-append, AllDistinct-filter, Among-filter_was, Among-filter_passes, Among-filter_stays, map_back}
 use Rattle.ts_core.proofs.store.Cuts.{one_fact, aggregate_where, Holds, CutsAgree, Holds-agree, frozen_of-agree, live_of-held}
-use Rattle.ts_core.proofs.store.StateLemmas.{is_waiting-there, is_waiting-not, same_column-eq, Holds-raw_of, StandsFor-Holds}
+use Rattle.ts_core.proofs.store.StateLemmas.{is_waiting-there, is_waiting-not, Holds-raw_of, StandsFor-Holds}
 use Rattle.ts_core.proofs.moves.MovesStand.{keys_once, key_there}
-use Rattle.ts_core.proofs.store.ColumnFacts.{facts_of-there, column_there}
+use Rattle.ts_core.proofs.store.ColumnFacts.{facts_of-there, column_there, facts_at-column, facts_at-distinct}
 use Rattle.ts_image.specs.Reloading.{HasSameParts, HaveSameParts, IsReloaded, Reloads}
 
 -- ---- facts of columns in another order
@@ -40,28 +40,13 @@ SameMembers {X} xs ys = (x : X) → Among x xs → Among x ys
 pub facts_same : (cs ds : List ColumnPoints) → SameMembers cs ds → SameMembers (facts_of cs) (facts_of ds)
 facts_same cs ds h f a = let s = facts_of-from cs f a in facts_of-there ds s.0 f (h s.0 s.1) s.2
 
--- a fact of a column is of that column
-pub facts_at-of : (c : Column) (ps : List (ℤ × ℤ)) (f : Fact) → Among f (facts_at c ps) → f.column ≡ c
-facts_at-of c [] f a = absurd a
-facts_at-of c (p ∷ ps) f a = ⊎_elim {C = f.column ≡ c} (λ e. ap (λ (g : Fact). g.column) e) (λ k. facts_at-of c ps f k) a
-
-distinct_parts : {X : Type 0} (xs ys : List X) → AllDistinct (xs ++ ys) → AllDistinct xs × AllDistinct ys
-distinct_parts [] ys d = (tt, d)
-distinct_parts (x ∷ xs) ys d = let r = distinct_parts xs ys d.1 in ((λ a. d.0 (Among-left x xs ys a), r.0), r.1)
-
-pub column_once : (cs : List ColumnPoints) (c : ColumnPoints) → AllDistinct (facts_of cs) → Among c cs → AllDistinct (facts_at c.column c.points)
-column_once [] c d m = absurd m
-column_once (b ∷ bs) c d m =
-    let parts = distinct_parts (facts_at b.column b.points) (facts_of bs) d in
-    ⊎_elim {C = AllDistinct (facts_at c.column c.points)} (λ e. subst (λ (x : ColumnPoints). AllDistinct (facts_at x.column x.points)) (sym e) parts.0) (λ k. column_once bs c parts.1 k) m
-
 -- distinct columns, each with distinct facts
 pub facts_once : (cs : List ColumnPoints) → AllDistinct (map column_of cs) → ((c : ColumnPoints) → Among c cs → AllDistinct (facts_at c.column c.points)) → AllDistinct (facts_of cs)
 facts_once [] d h = tt
 facts_once (c ∷ cs) d h =
     AllDistinct-append (facts_at c.column c.points) (facts_of cs) (h c (inl refl)) (facts_once cs d.1 (λ x a. h x (inr a)))
     (λ f a b. let s = facts_of-from cs f b in
-    d.0 (subst (λ x. Among x (map column_of cs)) (sym (facts_at-of s.0.column s.0.points f s.2) ∙ facts_at-of c.column c.points f a) (column_there cs s.0 s.1)))
+    d.0 (subst (λ x. Among x (map column_of cs)) (sym (facts_at-column s.0.column s.0.points f s.2) ∙ facts_at-column c.column c.points f a) (column_there cs s.0 s.1)))
 
 columns_same : (cs ds : List ColumnPoints) → SameMembers cs ds → SameMembers (map column_of cs) (map column_of ds)
 columns_same cs ds h c a = let s = map_back column_of cs c a in subst (λ x. Among x (map column_of ds)) s.2 (column_there ds s.0 (h s.0 s.1))
@@ -75,18 +60,10 @@ total_same fs gs d e h j r k =
 
 -- ---- waiting columns in another order
 
-pub is_waiting-among : (c : Column) (ds : List Column) → is_waiting ds c ≡ true → Among c ds
-is_waiting-among c [] h = absurd (true≢false (sym h))
-is_waiting-among c (d ∷ ds) h =
-    elim (same_column c d) as (λ b. same_column c d ≡ b → b || is_waiting ds c ≡ true → Among c (d ∷ ds)) [
-      | true ↦ λ e q. inl (same_column-eq c d e)
-      | false ↦ λ e q. inr (is_waiting-among c ds q)
-    ] refl h
-
 waiting_same : (ws vs : List Column) → SameMembers ws vs → SameMembers vs ws → (c : Column) → is_waiting ws c ≡ is_waiting vs c
 waiting_same ws vs h j c =
     elim (is_waiting vs c) as (λ b. is_waiting vs c ≡ b → is_waiting ws c ≡ b) [
-      | true ↦ λ e. is_waiting-there c ws (j c (is_waiting-among c vs e))
+      | true ↦ λ e. is_waiting-there c ws (j c (waiting_among c vs e))
       | false ↦ λ e. is_waiting-not c ws (λ a. true≢false (sym (is_waiting-there c vs (h c a)) ∙ e))
     ] refl
 
@@ -193,7 +170,7 @@ parts_stand opening h old new t st =
     let held : Holds cut fs (facts_of old.columns) = StandsFor-Holds opening h (state_of old) st in
     let again : Holds next fs (facts_of old.columns) = Holds-agree cut next fs (facts_of old.columns) agree held in
     let moved : Holds next fs (facts_of new.columns) = record {
-      once = facts_once new.columns t.columns_once (λ c a. column_once old.columns c st.once (forth c a));
+      once = facts_once new.columns t.columns_once (λ c a. facts_at-distinct old.columns c st.once (forth c a));
       all = λ f a k. facts_same old.columns new.columns back f (again.all f a k);
       only = λ f a. again.only f (facts_same new.columns old.columns forth f a);
     } in

@@ -6,6 +6,7 @@ use Rattle.std.specs.List.{AllByRecursion}
 use Rattle.std.proofs.lemmas.List.{length-append}
 use Rattle.ts_core.specs.io.ReadingAhead.{bit}
 use Rattle.ts_core.specs.text.Texts.{owned_pairs}
+use Rattle.ts_core.proofs.lists.ListSteps.{all_push}
 use Rattle.ts_image.specs.SeriesParts.{tag_of}
 
 -- the pairs of tags, in two words
@@ -40,10 +41,6 @@ pub all_middle : {P : Type 0} (Q : P → Type 0) (xs ys : List P) (p : P) → Al
 all_middle Q [] ys p h = h.0
 all_middle Q (x ∷ xs) ys p h = all_middle Q xs ys p h.1
 
-pub all_snoc : {P : Type 0} (Q : P → Type 0) (xs : List P) (p : P) → AllByRecursion Q xs → Q p → AllByRecursion Q (xs ++ p ∷ [])
-all_snoc Q [] p h q = (q, tt)
-all_snoc Q (x ∷ xs) p h q = (h.0, all_snoc Q xs p h.1 q)
-
 -- some of all members are tested and counted, and the others are left
 pub record Tested {P : Type 0} (Q : P → Type 0) (all left : List P) (count : ℕ) : Type 0 where
   pub given : List P
@@ -59,7 +56,7 @@ module _ {P : Type 0} (Q : P → Type 0) where
   tested_more all left rest p n e t q = record {
     given = t.given ++ p ∷ [];
     whole = t.whole ∙ ap (λ (x : List P). t.given ++ x) e ∙ sym (append_assoc t.given (p ∷ []) rest);
-    each = all_snoc Q t.given p t.each q;
+    each = all_push Q t.given p t.each q;
     counted = let l = length-append t.given (p ∷ []) in let c = t.counted in omega (arith, l, c);
   }
 
@@ -80,7 +77,3 @@ module _ {P : Type 0} (Q : P → Type 0) where
 
 pub below_256 : (a b : ℕ) → a ≡ b → (IsTrue (nat_lt a 256) → b < 256) × (b < 256 → IsTrue (nat_lt a 256))
 below_256 a b e = (λ h. grind arith, λ h. grind arith)
-
-pub nothing : {P : Type 0} (ps : List P) → length ps ≡ 0 → ps ≡ []
-nothing [] e = refl
-nothing (p ∷ ps) e = absurd (omega (arith, e))

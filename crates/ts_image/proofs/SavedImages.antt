@@ -19,7 +19,7 @@ use Rattle.ts_core.specs.store.StoreStates.{StandsFor, HasCells, fact_at, facts_
 use Rattle.ts_core.specs.store.StoreData.{CellMap, StoreData, rules_of, state_of}
 use Rattle.ts_core.specs.io.ReadingAhead.{bit}
 use Rattle.ts_core.proofs.lists.Comparisons.{le_from}
-use Rattle.ts_core.proofs.store.ColumnFacts.{facts_of-there, column_there}
+use Rattle.ts_core.proofs.store.ColumnFacts.{facts_of-there, column_there, facts_at-distinct}
 use Rattle.ts_core.proofs.store.Cuts.{Holds}
 use Rattle.ts_core.proofs.aggregates.Folds.{length-same}
 use Rattle.ts_core.proofs.settings.Intervals.{settings_faultless}
@@ -35,14 +35,16 @@ use Rattle.ts_image.specs.declared.version.Version.TheVariants.{V2}
 use Rattle.ts_image.specs.Images.{ImageRule, ImageColumn, ImageSeries, ImageCell, ImageData}
 use Rattle.ts_image.specs.ImageTests.{IsKeyName, rule_in, settings_of_image, IsImageRule, AreImageSettings, AreLows, IsImagePoint, IsImageColumn, IsImageSeries, IsImageCell, AreImageCells, points_in_all, points_of_measurement, count_frozen, AreCounted, CellsAre, IsPossible}
 use Rattle.ts_store.specs.image.SavedContent.{AreRising}
+use Rattle.ts_store.proofs.store.CountsKept.{length-within}
+use Rattle.ts_store.proofs.store.Stands.{waiting_among}
 use Rattle.ts_image.specs.Pictures.{column_of_image, image_points_in, columns_of_image, cell_part_of, part_at, PicturesCells, PictureCells, IsPictureOf}
 use Rattle.ts_image.specs.SavedImages.{IsOrderlyColumn, IsOrderlySeries, AreOrderlyCells, IsOrderly, IsWellFormed, SavedImagesArePossible}
 use Rattle.ts_image.proofs.CellSums.{number_of, AreFrom, latest-few, rule_counted}
 use Rattle.ts_image.proofs.FrozenPictures.{latest_valid, frozen_some, frozen_cell}
 use Rattle.ts_image.proofs.NamedKeys.{name_of, key_of}
-use Rattle.ts_image.proofs.Orders.{all_among, among_all, rising_distinct, distinct_few}
-use Rattle.ts_image.proofs.RawPictures.{series_of, field_of, column_here, waiting_from, waiting_here, series_once, fields_once, columns_once, one_column, points_counted, points_rolled}
-use Rattle.ts_image.proofs.ReloadLemmas.{SameMembers, facts_same, column_once, facts_once, is_waiting-among}
+use Rattle.ts_image.proofs.Orders.{all_among, among_all, rising_distinct}
+use Rattle.ts_image.proofs.RawPictures.{series_of, field_of, column_here, waiting_from, waiting_here, series_once, fields_once, columns_once, one_column, points_counted, points_rolled, not_one}
+use Rattle.ts_image.proofs.ReloadLemmas.{SameMembers, facts_same, facts_once}
 
 -- ---- lists that go by the rules
 
@@ -91,9 +93,6 @@ frozen_sum m (c ∷ cs) each =
 one_of : (n : ℕ) → (n == 1) ≡ true → n ≡ 1
 one_of n e = grind (arith, nat_tests)
 
-not_one : (n : ℕ) → (n == 1) ≡ false → n ≤ 1 → n ≡ 0
-not_one n e l = grind (arith, nat_tests)
-
 module _ (opening : Settings) (h : History) (k : StoreData) (d : ImageData) (st : StandsFor opening h (state_of k)) (well : IsWellFormed k) (p : IsPictureOf k d) (o : IsOrderly d) where
   abbrev cut : Column → ℤ
   cut = kept_from opening h k.waiting
@@ -139,7 +138,7 @@ module _ (opening : Settings) (h : History) (k : StoreData) (d : ImageData) (st 
   few_series : length d.series ≤ 1000000
   few_series =
       let few = well.sized.series in
-      let most = distinct_few (map series_of d.series) k.series keys_distinct (λ s a. (p.series s).0 a) in
+      let most = length-within (map series_of d.series) k.series keys_distinct (λ s a. (p.series s).0 a) in
       let same = length-map d.series series_of in
       omega (arith, few, most, same)
 
@@ -178,7 +177,7 @@ module _ (opening : Settings) (h : History) (k : StoreData) (d : ImageData) (st 
       let only = held.only (fact_at w q) (raw_fact s c q a b i) in (
         latest_valid opening h st.lawful (fact_at w q) only.0,
         elim (is_waiting k.waiting w) as (λ t. is_waiting k.waiting w ≡ t → (c.waits ≡ 1) ⊎ (raw_mark opening h ≤ℤ q.0)) [
-          | true ↦ λ e. inl (flag_of_waiting s c a b (is_waiting-among w k.waiting e))
+          | true ↦ λ e. inl (flag_of_waiting s c a b (waiting_among w k.waiting e))
           | false ↦ λ e. inr (le_from (raw_mark opening h) q.0 (ap (λ t. int_le (cond t (earlier_mark opening h) (raw_mark opening h)) q.0) (sym e) ∙ only.1))
         ] refl,
       )
@@ -209,11 +208,11 @@ module _ (opening : Settings) (h : History) (k : StoreData) (d : ImageData) (st 
   back c a = (p.columns c).1 a
 
   facts_distinct : AllDistinct (facts_of (columns_of_image d.series))
-  facts_distinct = facts_once (columns_of_image d.series) (columns_once d.series keys_distinct fields_distinct) (λ c a. column_once k.columns c st.once (forth c a))
+  facts_distinct = facts_once (columns_of_image d.series) (columns_once d.series keys_distinct fields_distinct) (λ c a. facts_at-distinct k.columns c st.once (forth c a))
 
   points_few : points_in_all d.series ≤ d.accepted
   points_few =
-      let most = distinct_few (facts_of (columns_of_image d.series)) (latest_of h) facts_distinct (λ f a. (held.only f (facts_same (columns_of_image d.series) k.columns forth f a)).0) in
+      let most = length-within (facts_of (columns_of_image d.series)) (latest_of h) facts_distinct (λ f a. (held.only f (facts_same (columns_of_image d.series) k.columns forth f a)).0) in
       let points = points_counted d.series in
       let latest = latest-few (accepted h) in
       let same = p.accepted in

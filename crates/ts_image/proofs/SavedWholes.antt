@@ -1,9 +1,8 @@
 -- Saving an image, with success or without.
-use Rattle.std.proofs.Common.{◌≡◌, ◌<◌, ℕ, zero, suc, List, [], ◌∷◌, ◌++◌, length, map, refl, subst, append-nil, arith, Result, Ok, Err, inl, inr}
+use Rattle.std.proofs.Common.{◌≡◌, ◌<◌, ℕ, zero, suc, List, [], ◌∷◌, ◌++◌, length, map, refl, subst, append-nil, arith, Result, Ok, Err}
 use Rattle.std.proofs.lemmas.List.{length-map}
 use Rattle.std.specs.List.{AllByRecursion}
 use Rattle.std.specs.Io.KnownBytes.{Appends}
-use Rattle.ts_core.specs.lists.Members.{Among}
 use Rattle.ts_core.specs.lists.Numbered.{IsAt}
 use Rattle.ts_core.specs.facts.Facts.{Text}
 use Rattle.ts_core.specs.io.Devices.{Output, AppendsFront, IsPut}
@@ -19,6 +18,7 @@ use Rattle.ts_image.specs.Images.{image, image_text}
 use Rattle.ts_store.specs.image.SavedContent.{SavedColumn, SavedSeries, SavesColumns}
 use Rattle.ts_image.specs.Saving.{store_image, HasItsColumns, FitsImage, IsOrder, IsSaved}
 use Rattle.ts_image.proofs.Putting.{Answer}
+use Rattle.ts_image.proofs.Orders.{among_all}
 
 -- ---- through the write buffer
 
@@ -62,10 +62,6 @@ is_in [] n x e = absurd cc
 is_in (y ∷ ys) zero x e = omega arith
 is_in (y ∷ ys) (suc n) x e = let lt = is_in ys n x e in omega (arith, lt)
 
-all_among : {X : Type 0} (P : X → Type 0) (xs : List X) → ((x : X) → Among x xs → P x) → AllByRecursion P xs
-all_among P [] h = tt
-all_among P (x ∷ xs) h = (h x (inl refl), all_among P xs (λ y a. h y (inr a)))
-
 all_into : {X : Type 0} (P Q : X → Type 0) (xs : List X) → ((x : X) → P x → Q x) → AllByRecursion P xs → AllByRecursion Q xs
 all_into P Q [] f h = tt
 all_into P Q (x ∷ xs) f h = (f x h.0, all_into P Q xs f h.1)
@@ -73,4 +69,4 @@ all_into P Q (x ∷ xs) f h = (f x h.0, all_into P Q xs f h.1)
 pub columns_there : (k : StoreData) (order : List SavedSeries) → IsOrder k order → AllByRecursion (HasItsColumns k) order
 columns_there k order o =
     all_into (SavesColumns (map column_of k.columns)) (HasItsColumns k) order
-    (λ s h. all_among (λ (x : SavedColumn). x.number < length k.columns) s.columns (λ x a. subst (λ (n : ℕ). x.number < n) (length-map k.columns column_of) (is_in (map column_of k.columns) x.number _ ((h.each x).0 a)))) o.columns
+    (λ s h. among_all (λ (x : SavedColumn). x.number < length k.columns) s.columns (λ x a. subst (λ (n : ℕ). x.number < n) (length-map k.columns column_of) (is_in (map column_of k.columns) x.number _ ((h.each x).0 a)))) o.columns

@@ -8,18 +8,14 @@ use Rattle.std.proofs.lemmas.List.Sums.{sum_by-cons, sum_by-take-le}
 use Rattle.std.proofs.lemmas.List.{take-map}
 use Rattle.std.proofs.lemmas.List.{take_all}
 use Rattle.ts_core.specs.facts.Facts.{Text, same_text}
+use Rattle.ts_raw.proofs.TagLemmas.{same_member}
 use Rattle.ts_image.specs.Images.{ImageRule, ImageSeries, ImageCell, ImageData}
 use Rattle.ts_image.specs.TestParts.{points_if, IsSubtracted, AreCountedAll}
 use Rattle.ts_image.specs.ImageTests.{AreCounted, points_of_series, points_of_measurement}
 use Rattle.ts_store.specs.image.SavedContent.{AreRising}
 
-same_there : {P : Type 0} (ps : List P) (i : ℕ) (d e : P) → i < length ps → get_or ps i d ≡ get_or ps i e
-same_there [] i d e lt = absurd (omega arith)
-same_there (x ∷ xs) zero d e lt = refl
-same_there (x ∷ xs) (suc i) d e lt = same_there xs i d e (omega arith)
-
 pub there : {P : Type 0} (ps : List P) (i : ℕ) (d : P) → i < length ps → get_or ps i d ≡ get_or ps i (get_or ps i d)
-there ps i d lt = same_there ps i d (get_or ps i d) lt
+there ps i d lt = same_member ps i d (get_or ps i d) lt
 
 module _ {P X : Type 0} (Q : X → Type 0) (v : P → X) where
   pub all_more : (ps : List P) (i : ℕ) (p : P) → i < length ps → p ≡ get_or ps i p → AllByRecursion Q (map v (take i ps)) → Q (v p) → AllByRecursion Q (map v (take (suc i) ps))
@@ -65,14 +61,14 @@ module _ {P X : Type 0} (cmp : X → X → Ordering) (v : P → X) where
   rising_next ps zero x y some lt e f h q = absurd (omega arith)
   rising_next ps (suc j) x y some lt e f h q =
       let e2 : x ≡ get_or ps j x = e ∙ ap (λ (n : ℕ). get_or ps n x) (let k : suc j - 1 ≡ j = omega arith in k) in
-      let f2 : y ≡ get_or ps (suc j) x = f ∙ same_there ps (suc j) y x lt in
+      let f2 : y ≡ get_or ps (suc j) x = f ∙ same_member ps (suc j) y x lt in
       subst (λ (n : ℕ). AreRising cmp (map v (take n ps))) (sym (add-one (suc j))) (rising_more ps j x lt h (ap₂ (λ (a b : P). is_lt (cmp (v a) (v b))) (sym e2) (sym f2) ∙ q))
 
   pub never_rising : (ps : List P) (i : ℕ) (x y : P) → 0 < i → i < length ps → x ≡ get_or ps (i - 1) x → y ≡ get_or ps i y → (is_lt (cmp (v x) (v y)) ≡ true → ⊥) → AreRising cmp (map v ps) → ⊥
   never_rising ps zero x y some lt e f n h = absurd (omega arith)
   never_rising ps (suc j) x y some lt e f n h =
       let e2 : x ≡ get_or ps j x = e ∙ ap (λ (n : ℕ). get_or ps n x) (let k : suc j - 1 ≡ j = omega arith in k) in
-      let f2 : y ≡ get_or ps (suc j) x = f ∙ same_there ps (suc j) y x lt in
+      let f2 : y ≡ get_or ps (suc j) x = f ∙ same_member ps (suc j) y x lt in
       rising_not ps j x lt (λ q. n (ap₂ (λ (a b : P). is_lt (cmp (v a) (v b))) e2 f2 ∙ q)) h
 
 -- a list with one more member

@@ -1,7 +1,6 @@
 -- All parts of an image, in a store under construction.
 use Rattle.std.proofs.Common.{◌≡◌, ◌==◌, length, map, sym, ap, ◌∙◌}
 use Rattle.std.proofs.lemmas.List.{length-map}
-use Rattle.std.specs.Prelude.{Result, Ok, Err, IfOk}
 use Rattle.ts_core.specs.settings.Settings.{Settings}
 use Rattle.ts_store.specs.image.Building.{Built, new_built}
 use Rattle.ts_image.specs.Images.{ImageData}
@@ -27,7 +26,3 @@ all_added d even i = record {
 
 pub whole : (d : ImageData) (s : Settings) → s ≡ settings_of_image d.settings → length d.cells ≡ length d.settings.rules → with_all_cells d.cells (with_all_series d.series (begun s d)) ≡ built_in d
 whole d s e even = ap (λ (x : Settings). with_all_cells d.cells (with_all_series d.series (begun x d))) e ∙ all_added d even
-
-pub if_ok : {X E : Type 0} {P Q : X → Type 0} (r : Result X E) → ((x : X) → P x → Q x) → IfOk r P → IfOk r Q
-if_ok (Ok x) h p = h x p
-if_ok (Err e) h p = tt

@@ -29,9 +29,9 @@ use Rattle.ts_core.proofs.lists.Comparisons.{le_from, le_true}
 use Rattle.ts_core.proofs.moves.LiveWays.{facts_possible}
 use Rattle.ts_core.proofs.lists.MembersLemmas.{Among-map, map_back, at_map_of, Among-filter_was, Among-filter_passes, Among-filter_stays}
 use Rattle.ts_core.proofs.lists.NumberedLemmas.{at_among, among_at}
-use Rattle.ts_core.proofs.plans.PieceCells.{cells_total, exact_cells}
+use Rattle.ts_core.proofs.plans.PieceCells.{exact_cells}
 use Rattle.ts_core.proofs.lists.Places.{both_of}
-use Rattle.ts_core.proofs.lists.Sorted.{found_among, among_found}
+use Rattle.ts_core.proofs.lists.Sorted.{among_found}
 use Rattle.ts_core.proofs.store.StateLemmas.{is_waiting-there, same_head, same_rest, cons_not}
 use Rattle.ts_raw.specs.PlainColumns.{IsRising}
 use Rattle.ts_image.specs.Images.{ImageRule, ImageColumn, ImageSeries, ImageCell}
@@ -42,11 +42,12 @@ use Rattle.ts_image.specs.SavedImages.{IsOrderlyColumn, IsOrderlySeries, AreOrde
 use Rattle.ts_store.specs.image.SavedContent.{SavedColumn, SavedSeries, saved_field, saved_key, SavesColumns, SavesSeries, FrozenCell, frozen_from}
 use Rattle.ts_store.specs.read.ViewResults.{no_points}
 use Rattle.ts_store.specs.store.SizedStores.{IsSized}
+use Rattle.ts_store.proofs.store.Stands.{waiting_among}
+use Rattle.ts_store.proofs.read.ShownCells.{entry_found}
 use Rattle.ts_image.specs.SavedParts.{image_rule_of, image_settings_of, extremes_in}
 use Rattle.ts_image.specs.Saving.{image_cell_of, frozen_cells_at, image_cells_from, column_at, image_column_of, image_series_of, store_image}
 use Rattle.ts_image.proofs.Orders.{all_among, among_all, rising_keys, of_both}
 use Rattle.ts_image.proofs.RawPictures.{series_of, field_of, column_here, column_from, waiting_here, waiting_from}
-use Rattle.ts_image.proofs.ReloadLemmas.{is_waiting-among}
 
 -- ---- settings
 
@@ -143,7 +144,7 @@ module _ (k : StoreData) (order : List SavedSeries) (w : SavesSeries k.series (m
       let q = saved_as t.0 t.1 t.2 t.3 in
       let flag : is_waiting k.waiting (column_at k t.1).column ≡ true = bit_one (is_waiting k.waiting (column_at k t.1).column) (ap (λ (x : ImageColumn). x.waits == 1) t.5 ∙ f.5) in
       let name : (column_at k t.1).column ≡ c = ap column_of q.1.at ∙ sym q.1.name ∙ (λ i. column_of_image (t.4 i).series (t.5 i)) ∙ f.4 in
-      subst (λ (x : Column). Among x k.waiting) name (is_waiting-among (column_at k t.1).column k.waiting flag)
+      subst (λ (x : Column). Among x k.waiting) name (waiting_among (column_at k t.1).column k.waiting flag)
 
   waiting_back : ((c : Column) → Among c (map column_of k.columns) → Among c.series k.series) → ((c : Column) → Among c k.waiting → Among c (map column_of k.columns)) → (c : Column) → Among c k.waiting → Among c (waiting_of_image all)
   waiting_back registered there c a =
@@ -207,11 +208,8 @@ entry_of low m c a =
     let test = and_parts (int_le low e.0.0.index) (nat_lt 0 e.0.1.frozen.count) (Among-filter_passes (is_saved low) e.0 (finmap.entries m) e.1) in
     (e.0, Among-filter_was (is_saved low) e.0 (finmap.entries m) e.1, le_from low e.0.0.index test.0, some_from e.0.1.frozen.count test.1, ap image_cell_of e.2 ∙ z.2)
 
-entry_at : (m : CellMap) (e : Cell × CellParts) → Among e (finmap.entries m) → finmap.get m e.0 ≡ Some e.1
-entry_at m e a = get-entries m e.0 ∙ found_among cells_total (finmap.entries m) (entries_sorted m) e a
-
 part_is : (m : CellMap) (e : Cell × CellParts) → Among e (finmap.entries m) → part_at m e.0 ≡ e.1.frozen
-part_is m e a = ap (λ (o : Option CellParts). (or_else no_parts o).frozen) (entry_at m e a)
+part_is m e a = ap (λ (o : Option CellParts). (or_else no_parts o).frozen) (entry_found m e a)
 
 module _ (cut : Column → ℤ) (fs : List Fact) (r : Rule) (low : ℤ) (m : CellMap) (h : HasCells cut fs (rule_cells r low m)) where
   part_sound : (q : Cell) → low ≤ℤ q.index → IsSound (part_at m q)

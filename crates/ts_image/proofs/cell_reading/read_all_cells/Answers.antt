@@ -2,11 +2,12 @@ use Rattle.std.proofs.Common.{◌≡◌, ◌+◌, List, [], ◌∷◌, ◌++◌,
 use Rattle.std.specs.Int.{w64}
 use Rattle.std.proofs.lemmas.Result.{err_from_is_err_and}
 use Rattle.std.proofs.lemmas.List.{map_push}
+use Rattle.ts_core.proofs.lists.Remaining.{first_left, none_left}
 use Rattle.ts_image.specs.Formats.{list_of}
 use Rattle.ts_image.specs.Images.{ImageRule, ImageCell, image_cell}
 use Rattle.ts_image.specs.RuleParts.{rule_from_parts}
 use Rattle.ts_image.specs.CellParts.{cells_of_parts, all_cells_of}
-use Rattle.ts_image.proofs.Alongs.{HasReadAlong, along_starts, along_goes_on, along_breaks, along_no_memory, along_finishes, first_left, none_left}
+use Rattle.ts_image.proofs.Alongs.{HasReadAlong, along_starts, along_goes_on, along_breaks, along_no_memory, along_finishes}
 use Rattle.ts_image.proofs.cell_reading.read_all_cells.Goals as goal
 
 pub loop-rule-init : goal.loop-rule-init

@@ -1,13 +1,13 @@
 use Rattle.std.proofs.Common.{◌≡◌, ◌+◌, suc, List, ◌∷◌, length, map, ap, subst, arith}
 use Rattle.std.specs.Int.{w64}
 use Rattle.std.proofs.lemmas.Result.{err_from_is_err_and}
+use Rattle.std.proofs.lemmas.List.{nil_from_length}
 use Rattle.ts_core.specs.store.StoreData.{StoreData}
 use Rattle.ts_image.specs.Formats.{Format, list_of}
 use Rattle.ts_image.specs.Images.{ImageRule, ImageCell, image_cell}
 use Rattle.ts_image.specs.SavedParts.{image_rule_of}
 use Rattle.ts_image.specs.Saving.{FitCellsFrom, image_cells_from}
 use Rattle.ts_image.proofs.Putting.{along_none, along_more, along_stops}
-use Rattle.ts_image.proofs.Saved.{nothing}
 use Rattle.ts_image.proofs.cell_saving.+put_cells_from.Goals as goal
 
 abbrev cells_format : ImageRule → Format (List ImageCell)
@@ -23,7 +23,7 @@ overflow_add-number g t c =
 pub returns-in-None : goal.returns-in-None
 returns-in-None g t c =
     let n = c.in-None.ensures.cases in
-    rw (nothing c.args.rules.now (omega (arith, n))) (along_none cells_format c.args.sink.now c.args.out.now)
+    rw (nil_from_length c.args.rules.now (omega (arith, n))) (along_none cells_format c.args.sink.now c.args.out.now)
 
 pub returns-in_err-put_rule_cells-in-Some : goal.returns-in_err-put_rule_cells-in-Some
 returns-in_err-put_rule_cells-in-Some g t c =

@@ -1,8 +1,9 @@
 use Rattle.std.proofs.Common.{◌≡◌, ◌<◌, ◌∷◌, ◌++◌, [], List, length, string_bytes, sym, ap, ap₂, ◌∙◌, arith}
 use Rattle.ts_core.specs.facts.Facts.{Text}
 use Rattle.ts_core.specs.text.Texts.{borrowed_pairs}
+use Rattle.ts_core.proofs.text.PairTexts.{borrowed_push}
 use Rattle.ts_image.specs.SeriesParts.{tag_of}
-use Rattle.ts_image.proofs.Lending.{borrowed_length, borrowed_more, map_step, map_length}
+use Rattle.ts_image.proofs.Lending.{borrowed_length, map_step, map_length}
 use Rattle.ts_image.proofs.part_making.borrow_tags.Goals as goal
 
 pub push-requires : goal.push-requires
@@ -19,5 +20,5 @@ loop-tag-preserved g c =
     let k : c.as_str.result.now ≡ string_bytes t.0 = c.as_str.ensures.value in
     let v : c.as_str-in-loop-tag.result.now ≡ string_bytes t.1 = c.as_str-in-loop-tag.ensures.value in
     let p : List (Text × Text) = borrowed_pairs c.loop-tag.borrowed.items in
-    ap borrowed_pairs c.push.ensures.items ∙ borrowed_more c.loop-tag.borrowed.items _ ∙ ap₂ (λ (a b : Text). p ++ (a, b) ∷ []) k v ∙ ap (λ (xs : List (Text × Text)). xs ++ tag_of t ∷ []) c.loop-tag.invariant
+    ap borrowed_pairs c.push.ensures.items ∙ borrowed_push c.loop-tag.borrowed.items _ ∙ ap₂ (λ (a b : Text). p ++ (a, b) ∷ []) k v ∙ ap (λ (xs : List (Text × Text)). xs ++ tag_of t ∷ []) c.loop-tag.invariant
     ∙ sym (map_step tag_of c.args.tags.now c.loop-tag.tag-index t c.loop-tag-test.true c.tag-item.is)

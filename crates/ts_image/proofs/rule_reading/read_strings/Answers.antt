@@ -1,8 +1,9 @@
-use Rattle.std.proofs.Common.{◌≡◌, ◌<◌, ◌-◌, ◌+◌, ℕ, suc, List, [], ◌∷◌, ◌++◌, map, ap, sym, subst, arith, refl}
+use Rattle.std.proofs.Common.{◌≡◌, ◌-◌, ◌+◌, ℕ, List, [], ◌∷◌, ◌++◌, map, ap, sym, subst, arith, refl}
 use Rattle.std.specs.Prelude.{string_bytes}
 use Rattle.std.proofs.lemmas.Result.{err_from_is_err_and}
 use Rattle.std.proofs.lemmas.List.{map_push}
 use Rattle.ts_core.specs.facts.Facts.{Text}
+use Rattle.ts_core.proofs.lists.Remaining.{one_left}
 use Rattle.ts_image.specs.Formats.{text}
 use Rattle.ts_image.specs.RuleParts.{texts_of}
 use Rattle.ts_image.proofs.Loops.{HasRead, starts, goes_on, breaks, no_memory_left, finishes}
@@ -14,10 +15,6 @@ loop-init g c =
     let all : c.args.count ≡ c.args.count - 0 = omega arith in
     subst (λ (k : ℕ). HasRead text c.args.count k (map string_bytes c.new-texts.result.items) c.args.reader.now c.args.source.now c.args.reader.now c.args.source.now) all
     (subst (λ (xs : List Text). HasRead text c.args.count c.args.count xs c.args.reader.now c.args.source.now c.args.reader.now c.args.source.now) (sym none) (starts text c.args.count c.args.reader.now c.args.source.now c.requires))
-
--- one is left, and the rest
-one_left : (n i : ℕ) → i < n → n - i ≡ suc (n - (i + 1))
-one_left n i lt = omega arith
 
 pub returns-in_err-text : goal.returns-in_err-text
 returns-in_err-text g c =

@@ -1,8 +1,9 @@
-use Rattle.std.proofs.Common.{◌≡◌, ◌<◌, ◌-◌, ◌+◌, ℕ, suc, List, [], ◌∷◌, ◌++◌, map, ap, sym, subst, arith, refl}
+use Rattle.std.proofs.Common.{◌≡◌, ◌-◌, ◌+◌, ℕ, List, [], ◌∷◌, ◌++◌, map, ap, sym, subst, arith, refl}
 use Rattle.ts_image.specs.SeriesParts.{column_of_parts, column_parts_of}
 use Rattle.ts_image.specs.Images.{ImageColumn, image_column}
 use Rattle.std.proofs.lemmas.Result.{err_from_is_err_and}
 use Rattle.std.proofs.lemmas.List.{map_push}
+use Rattle.ts_core.proofs.lists.Remaining.{one_left}
 use Rattle.ts_image.proofs.Loops.{HasRead, starts, goes_on, breaks, no_memory_left, finishes}
 use Rattle.ts_image.proofs.series_reading.read_columns.Goals as goal
 
@@ -12,10 +13,6 @@ loop-init g c =
     let all : c.args.count ≡ c.args.count - 0 = omega arith in
     subst (λ (k : ℕ). HasRead (image_column c.args.version) c.args.count k (map column_of_parts c.new-columns.result.items) c.args.reader.now c.args.source.now c.args.reader.now c.args.source.now) all
     (subst (λ (xs : List ImageColumn). HasRead (image_column c.args.version) c.args.count c.args.count xs c.args.reader.now c.args.source.now c.args.reader.now c.args.source.now) (sym none) (starts (image_column c.args.version) c.args.count c.args.reader.now c.args.source.now c.requires))
-
--- one is left, and the rest
-one_left : (n i : ℕ) → i < n → n - i ≡ suc (n - (i + 1))
-one_left n i lt = omega arith
 
 pub returns-in_err-column : goal.returns-in_err-column
 returns-in_err-column g c =

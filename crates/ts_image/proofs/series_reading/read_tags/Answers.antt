@@ -1,9 +1,10 @@
-use Rattle.std.proofs.Common.{◌≡◌, ◌<◌, ◌-◌, ◌+◌, ℕ, suc, List, [], ◌∷◌, ◌++◌, map, ap, sym, subst, arith, refl}
+use Rattle.std.proofs.Common.{◌≡◌, ◌-◌, ◌+◌, ℕ, List, [], ◌∷◌, ◌++◌, map, ap, sym, subst, arith, refl}
 use Rattle.ts_image.specs.SeriesParts.{tag_of, tags_of_parts}
 use Rattle.ts_core.specs.facts.Facts.{Text}
 use Rattle.ts_image.specs.Formats.{text, also}
 use Rattle.std.proofs.lemmas.Result.{err_from_is_err_and}
 use Rattle.std.proofs.lemmas.List.{map_push}
+use Rattle.ts_core.proofs.lists.Remaining.{one_left}
 use Rattle.ts_image.proofs.Loops.{HasRead, starts, goes_on, breaks, no_memory_left, finishes}
 use Rattle.ts_image.proofs.series_reading.read_tags.Goals as goal
 
@@ -13,10 +14,6 @@ loop-init g c =
     let all : c.args.count ≡ c.args.count - 0 = omega arith in
     subst (λ (k : ℕ). HasRead (also text text) c.args.count k (map tag_of c.new-tags.result.items) c.args.reader.now c.args.source.now c.args.reader.now c.args.source.now) all
     (subst (λ (xs : List (Text × Text)). HasRead (also text text) c.args.count c.args.count xs c.args.reader.now c.args.source.now c.args.reader.now c.args.source.now) (sym none) (starts (also text text) c.args.count c.args.reader.now c.args.source.now c.requires))
-
--- one is left, and the rest
-one_left : (n i : ℕ) → i < n → n - i ≡ suc (n - (i + 1))
-one_left n i lt = omega arith
 
 pub returns-in_err-tag : goal.returns-in_err-tag
 returns-in_err-tag g c =

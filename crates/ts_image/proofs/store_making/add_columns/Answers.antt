@@ -3,6 +3,7 @@ use Rattle.std.proofs.lemmas.List.{map-append}
 use Rattle.std.specs.Vec.Iter.{into_iter_items}
 use Rattle.ts_core.specs.facts.Facts.{Series, text_cmp}
 use Rattle.ts_core.specs.lists.Numbered.{IsAt}
+use Rattle.ts_core.proofs.lists.Indices.{item_at}
 use Rattle.ts_store.specs.image.Building.{Built, with_built_column}
 use Rattle.ts_image.specs.declared.series_reading.ColumnParts.{ColumnParts}
 use Rattle.ts_image.specs.Images.{ImageColumn}
@@ -11,12 +12,12 @@ use Rattle.ts_image.specs.Pictures.{image_points_in}
 use Rattle.ts_image.specs.SeriesParts.{column_of_parts}
 use Rattle.ts_image.specs.StoresMade.{IsAddedColumn, AreAddedColumns, is_column_waiting, with_image_columns}
 use Rattle.ts_image.proofs.Rising.{all_mid}
-use Rattle.ts_image.proofs.ColumnMaking.{split_next, split_more, split_all, some_at, no_columns, columns_more, column_absent}
+use Rattle.ts_image.proofs.ColumnMaking.{split_next, split_more, split_all, no_columns, columns_more, column_absent}
 use Rattle.ts_image.proofs.store_making.add_columns.Goals as goal
 
 pub add_column-requires-clause-registered : goal.add_column-requires-clause-registered
 add_column-requires-clause-registered g c =
-    let s = some_at c.args.builder.now.series c.args.series c.requires.registered in
+    let s = item_at c.args.builder.now.series c.args.series c.requires.registered in
     let e : c.loop-parts.builder.series ≡ c.args.builder.now.series = ap (λ (b : Built). b.series) (c.loop-parts.invariant.built s.0 s.1) in
     let n = ap length e in
     omega (arith, n, c.requires.registered)
@@ -24,7 +25,7 @@ add_column-requires-clause-registered g c =
 pub add_column-requires-clause-absent : goal.add_column-requires-clause-absent
 add_column-requires-clause-absent g c s at =
     let b = c.args.builder.now in
-    let x = some_at b.series c.args.series c.requires.registered in
+    let x = item_at b.series c.args.series c.requires.registered in
     let e : c.loop-parts.builder.series ≡ b.series = ap (λ (z : Built). z.series) (c.loop-parts.invariant.built x.0 x.1) in
     let here = subst (λ (ss : List Series). IsAt ss c.args.series s) e at in
     let w = split_next c.loop-parts.yielded (into_iter_items c.loop-parts.parts-iterator) (into_iter_items c.next.new.self) _ c.args.columns.items c.in-Some.parts c.in-Some.ensures.steps.0 c.loop-parts.invariant.split c.into_iter-parts-iterator.ensures.into_iter_gives.0 in

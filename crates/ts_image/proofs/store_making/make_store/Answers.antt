@@ -4,6 +4,7 @@ use Rattle.std.specs.FinMap as finmap
 use Rattle.std.specs.List.{AllByRecursion}
 use Rattle.ts_core.specs.settings.Settings.{Rule}
 use Rattle.ts_core.specs.store.StoreData.{StoreData}
+use Rattle.ts_raw.proofs.TagLemmas.{if_ok}
 use Rattle.ts_store.specs.image.Building.{Built, IsBuildable, IsBuiltFrom}
 use Rattle.ts_image.specs.declared.cell_reading.CellParts.{CellParts}
 use Rattle.ts_image.specs.CellParts.{cells_of_parts}
@@ -12,7 +13,7 @@ use Rattle.ts_image.specs.ImageTests.{rule_in}
 use Rattle.ts_image.specs.StoresMade.{AreAddedCells, with_all_series, with_all_cells}
 use Rattle.ts_image.proofs.BuiltStores.{built_store}
 use Rattle.ts_image.proofs.PossibleStores.{buildable, added_series, added_cells}
-use Rattle.ts_image.proofs.WholeStores.{whole, if_ok}
+use Rattle.ts_image.proofs.WholeStores.{whole}
 use Rattle.ts_image.proofs.store_making.make_store.Goals as goal
 
 pub add_all_series-requires-clause-none : goal.add_all_series-requires-clause-none
