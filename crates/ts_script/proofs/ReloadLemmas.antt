@@ -1,23 +1,18 @@
 -- The contents of a store that is loaded from the image of another.
-use Rattle.std.proofs.Common.{◌≡◌, ◌↔◌, ℕ, zero, suc, ◌+◌, ◌==◌, ℤ, pos, ◌≤ℤ◌, Bool, true, false, cond, List, [], ◌∷◌, ◌++◌, length, map, filter, drop, refl, sym, ◌∙◌, ap, subst, Some, None, Option, inl, inr, arith}
+use Rattle.std.proofs.Common.{◌≡◌, ◌==◌, Bool, true, false, cond, List, [], ◌∷◌, ◌++◌, map, filter, refl, ◌∙◌, ap, inl, inr}
 use Rattle.std.specs.FinMap as finmap
 use Rattle.std.specs.List.{AllByRecursion}
-use Rattle.std.proofs.lemmas.Bool.{and_parts}
-use Rattle.std.proofs.lemmas.Option.{same_Some, get_or_from_slice_get}
-use Rattle.ts_core.specs.lists.Members.{Among, AllDistinct}
-use Rattle.ts_core.specs.lists.Numbered.{IsAt}
-use Rattle.ts_core.specs.facts.Facts.{Series, Column, Fact}
-use Rattle.ts_core.specs.settings.Settings.{Rule, Settings}
-use Rattle.ts_core.specs.store.History.{History}
-use Rattle.ts_core.specs.facts.Latest.{latest_of}
-use Rattle.ts_core.specs.store.RawFacts.{is_waiting, kept_from}
-use Rattle.ts_core.specs.store.Cells.{Cell, is_in_cell, cell_of, is_rolled, same_cell}
+use Rattle.std.proofs.lemmas.Option.{get_or_from_slice_get}
+use Rattle.ts_core.specs.lists.Members.{Among}
+use Rattle.ts_core.specs.facts.Facts.{Series, Column}
+use Rattle.ts_core.specs.store.RawFacts.{is_waiting}
 use Rattle.ts_core.specs.io.ReadingAhead.{bit}
-use Rattle.ts_core.specs.store.StoreStates.{ColumnPoints, StandsFor, HasCells, column_of}
-use Rattle.ts_core.specs.store.StoreData.{CellMap, StoreData, rule_cells, rules_of, state_of}
-use Rattle.ts_store.specs.image.SavedContent.{SavedColumn, SavedSeries, saved_key, SavesColumns, SavesSeries}
+use Rattle.ts_core.specs.store.StoreStates.{ColumnPoints, column_of}
+use Rattle.ts_core.specs.store.StoreData.{StoreData}
+use Rattle.ts_core.proofs.lists.Indices.{at_map_back}
+use Rattle.ts_store.specs.image.SavedContent.{SavedColumn, SavedSeries, SavesColumns}
 use Rattle.ts_store.specs.read.ViewResults.{no_points}
-use Rattle.ts_image.specs.Images.{ImageColumn, ImageSeries}
+use Rattle.ts_image.specs.Images.{ImageColumn}
 use Rattle.ts_image.specs.Pictures.{image_points_in, column_of_image, columns_of_image, waiting_of_image}
 use Rattle.ts_image.specs.Saving.{column_at, image_column_of, image_series_of}
 use Rattle.ts_script.specs.Reloads.{saved_column_named, saved_columns}
@@ -36,14 +31,9 @@ all_named k (s ∷ ss) = named s.series k s.columns (columns_of_image (map (imag
 abbrev AreThere : StoreData → SavedSeries → Type 0
 AreThere k s = (x : SavedColumn) → Among x s.columns → (column_at k x).column ≡ saved_column_named s.series x
 
-pub at_back : {X Y : Type 0} (f : X → Y) (xs : List X) (n : ℕ) (y : Y) → IsAt (map f xs) n y → (x : X) × IsAt xs n x × (f x ≡ y)
-at_back f [] n y e = absurd (let none : None ≡ Some y = e in cc)
-at_back f (x ∷ xs) zero y e = (x, refl, same_Some (f x) y e)
-at_back f (x ∷ xs) (suc n) y e = at_back f xs n y e
-
 are_there : (k : StoreData) (s : SavedSeries) → SavesColumns (map column_of k.columns) s → AreThere k s
 are_there k s w x a =
-    let p = at_back column_of k.columns x.number (saved_column_named s.series x) ((w.each x).0 a) in
+    let p = at_map_back column_of k.columns x.number (saved_column_named s.series x) ((w.each x).0 a) in
     ap column_of (get_or_from_slice_get k.columns x.number p.0 no_points p.1) ∙ p.2
 
 waits_one : (b : Bool) → (bit b == 1) ≡ b

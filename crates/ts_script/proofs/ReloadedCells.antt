@@ -6,9 +6,9 @@ use Rattle.std.specs.List.{AllByRecursion}
 use Rattle.std.proofs.lemmas.Bool.{and_parts, and_from}
 use Rattle.std.proofs.lemmas.List.{length-map}
 use Rattle.std.proofs.lemmas.Option.{same_Some, get_or_from_slice_get}
-use Rattle.ts_core.specs.lists.Members.{Among, AllDistinct}
+use Rattle.ts_core.specs.lists.Members.{Among}
 use Rattle.ts_core.specs.lists.Numbered.{IsAt}
-use Rattle.ts_core.specs.facts.Facts.{Column, Fact}
+use Rattle.ts_core.specs.facts.Facts.{Fact}
 use Rattle.ts_core.specs.settings.Settings.{Rule, Settings}
 use Rattle.ts_core.specs.store.Marks.{Marks}
 use Rattle.ts_core.specs.store.History.{History}
@@ -20,6 +20,7 @@ use Rattle.ts_core.specs.store.StoreData.{CellMap, StoreData, rule_cells, rules_
 use Rattle.ts_core.proofs.lists.MembersLemmas.{Among-filter_was}
 use Rattle.ts_core.proofs.moves.MovesStand.{key_not}
 use Rattle.ts_core.proofs.plans.PieceCells.{same_cell-eq, same_cell-refl}
+use Rattle.ts_core.proofs.lists.Indices.{at_map_back}
 use Rattle.ts_store.specs.write.LinesPut.{IsOfFacts, PutsCells}
 use Rattle.ts_store.specs.store.Inventories.{AreFilled, OfRules}
 use Rattle.ts_store.specs.image.SavedContent.{SavedSeries}
@@ -32,7 +33,6 @@ use Rattle.ts_image.specs.StoresMade.{cells_in, IsStoreOf}
 use Rattle.ts_image.proofs.FrozenPictures.{frozen_some}
 use Rattle.ts_image.proofs.MadeCells.{from_image}
 use Rattle.ts_image.proofs.WrittenPictures.{written, written_each, entry_of}
-use Rattle.ts_script.proofs.ReloadLemmas.{at_back}
 
 -- the cells of an image, by the number of their rule
 cells_from : (k : StoreData) (n : ℕ) (rs : List Rule) (i : ℕ) (r : Rule) → IsAt rs i r → IsAt (map cells_in (image_cells_from k n rs)) i (cells_in (map image_cell_of (frozen_cells_at k (n + i))))
@@ -113,7 +113,7 @@ module _ (opening : Settings) (h : History) (k n : StoreData) (order : List Save
   all_filled each = (
     length-map n.cells (λ (m : CellMap). finmap.keys m) ∙ made.cells.0 ∙ length-map (store_image k order).cells cells_in ∙ lists_from k 0 k.settings.rules ∙ sym each ∙ sym (length-map k.cells (λ (m : CellMap). finmap.keys m)),
     λ i r low before after a b c d.
-        let m = at_back (λ (m : CellMap). finmap.keys m) k.cells i before c in
-        let m' = at_back (λ (m : CellMap). finmap.keys m) n.cells i after d in
+        let m = at_map_back (λ (m : CellMap). finmap.keys m) k.cells i before c in
+        let m' = at_map_back (λ (m : CellMap). finmap.keys m) n.cells i after d in
         subst (AreFilled (latest_of h) r low) m'.2 (filled i r low m.0 m'.0 a b m.1 m'.1),
   )
