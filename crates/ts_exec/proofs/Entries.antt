@@ -1,5 +1,5 @@
 -- A table: its groups in order, each with its rows; and rows as an answer has them.
-use Rattle.std.proofs.Common.{◌≡◌, ℕ, suc, ◌<◌, ℤ, pos, ◌+ℤ◌, ◌*ℤ◌, T, List, [], ◌∷◌, map, length, get_or, refl, sym, ◌∙◌, ap, ap₂, subst, Option, Some, None, is_some, Bool, true, false, cond, is_lt, ◌||◌, ◌&&◌, arith}
+use Rattle.std.proofs.Common.{◌≡◌, ℕ, suc, ◌<◌, ℤ, pos, ◌+ℤ◌, ◌*ℤ◌, T, List, [], ◌∷◌, map, length, get_or, refl, sym, ◌∙◌, ap, ap₂, subst, Option, Some, None, is_some, true, false, cond, is_lt, ◌||◌, ◌&&◌, arith}
 use Rattle.std.proofs.lemmas.Int.{ints}
 use Rattle.std.specs.List.{list_any}
 use Rattle.std.specs.FinMap.{find, is_sorted}
@@ -8,6 +8,7 @@ use Rattle.ts_core.specs.facts.Facts.{Text}
 use Rattle.ts_core.specs.aggregates.Aggregates.{Aggregate, empty_aggregate}
 use Rattle.ts_core.specs.queries.Answers.{Row, group_cmp, same_group, numbers_from, all_groups}
 use Rattle.ts_core.proofs.queries.GroupsInOrder.{groups_total, exact_groups, same_group-eq, all_groups-among, entries, AreInOrder, all_groups-in_order, any_among, among_any}
+use Rattle.ts_core.proofs.lists.Comparisons.{same_bool}
 use Rattle.ts_exec.specs.RowParts.{BucketGrid}
 use Rattle.ts_exec.specs.GroupTables.{Table, IsGroupTable, rows_or, rows_for, rows_from}
 
@@ -39,14 +40,9 @@ module _ (rows : List Text → List Aggregate) where
 
 same_any : (g : List Text) (gs : List (List Text)) → list_any (same_group g) (all_groups gs) ≡ list_any (same_group g) gs
 same_any g gs =
-    same (list_any (same_group g) (all_groups gs)) (list_any (same_group g) gs)
+    same_bool (list_any (same_group g) (all_groups gs)) (list_any (same_group g) gs)
     (λ t. among_any g gs ((all_groups-among g gs).0 (any_among g (all_groups gs) t)))
     (λ t. among_any g (all_groups gs) ((all_groups-among g gs).1 (any_among g gs t)))
-  where
-    same : (a b : Bool) → (a ≡ true → b ≡ true) → (b ≡ true → a ≡ true) → a ≡ b
-    same true b f h = sym (f refl)
-    same false true f h = h refl
-    same false false f h = refl
 
 shown_some : (n : ℕ) (o : Option (List Aggregate)) → o ≡ cond (is_some o) (Some (rows_or n o)) None
 shown_some n (Some rows) = refl

@@ -32,6 +32,7 @@ use Rattle.ts_core.proofs.queries.BucketsInRange.{at_least_none-is}
 use Rattle.ts_core.proofs.lists.Comparisons.{le_true, lt_true, same_bool}
 use Rattle.ts_core.proofs.queries.GroupsInOrder.{same_group-eq, same_group-refl}
 use Rattle.ts_core.proofs.aggregates.Folds.{fold-append}
+use Rattle.ts_core.proofs.plans.PiecesTogether.{last_first}
 use Rattle.ts_store.specs.read.ViewResults.{ColumnRef, column_refs_from, column_refs_where, no_points, points_at, SeenCell, with_parts, cells_within}
 use Rattle.ts_exec.specs.declared.aggregate_parts.AggregateParts.TheVariants.{Whole}
 use Rattle.ts_exec.specs.RowParts.{bucket_grid, row_index_at}
@@ -295,14 +296,7 @@ module _ (q : Query) (r : RuleCells) (a b : ℤ) (h : pos 1 ≤ℤ r.rule.interv
     both_is k =
         let m : Bool = matches q (representative r.rule k) && is_within a b (start_of r.rule k.index) in
         let s : Bool = is_share g j (cell_share_of k) in
-        swapped m (not ((shown_total r k).count == 0)) s ∙ ap (λ x. x && not ((shown_total r k).count == 0)) (in_row q wide g j a b (representative r.rule k))
-      where
-        swapped : (x y z : Bool) → ((x && y) && z) ≡ ((x && z) && y)
-        swapped true true true = refl
-        swapped true true false = refl
-        swapped true false true = refl
-        swapped true false false = refl
-        swapped false y z = refl
+        last_first m (not ((shown_total r k).count == 0)) s ∙ ap (λ x. x && not ((shown_total r k).count == 0)) (in_row q wide g j a b (representative r.rule k))
 
     sums : (ks : List Cell) → fold_by empty_aggregate merged (shown_total r) (filter in_both ks) ≡ fold_by empty_aggregate merged (shown_total r) (filter (λ (k : Cell). row_test (representative r.rule k)) ks)
     sums [] = refl

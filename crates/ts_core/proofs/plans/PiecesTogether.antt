@@ -23,7 +23,7 @@ part_of_row q fs g k a b = aggregate_of (filter (is_in_row (over_range q a b) g 
 abbrev row_test : Query → List Text → ℤ → Fact → Bool
 row_test q g k f = same_group (group_of q f) g && int_eq (bucket_in q f.time) k
 
-last_first : (x y z : Bool) → ((x && y) && z) ≡ ((x && z) && y)
+pub last_first : (x y z : Bool) → ((x && y) && z) ≡ ((x && z) && y)
 last_first false y z = refl
 last_first true true true = refl
 last_first true true false = refl
