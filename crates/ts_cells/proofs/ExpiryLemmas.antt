@@ -127,7 +127,7 @@ module _ {P : Type 0} where
 pub unchanged : {X : Type 0} (xs : List X) (n : ℕ) (x : X) → x ≡ get_or xs n x → set xs n x ≡ xs
 unchanged xs n x e = ap (set xs n) e ∙ set-get_or xs n x
 
--- a row in place of one of the same bucket
+-- a row instead of one of the same bucket
 module _ {P : Type 0} (rows : List (RowOf P)) (n : ℕ) (d r : RowOf P) (s : RowsRise rows) (h : n < length rows) (e : d ≡ get_or rows n d) where
   its_tie : int_cmp (get_or rows n d).0 d.0 ≡ Equal
   its_tie = ap (λ (x : RowOf P). int_cmp x.0 d.0) (sym e) ∙ tied_itself int_cmp_total d.0

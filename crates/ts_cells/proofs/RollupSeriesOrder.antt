@@ -33,7 +33,7 @@ exact_series_list a b h =
 found_inside : (ls : List RollupSeries) (n : ℕ) (l : RollupSeries) → n < length ls → found_cmp (slice_get ls n) l ≡ rollup_series_cmp (get_or ls n no_rollup_series) l
 found_inside ls n l h = ap (λ o. found_cmp o l) (slice_get-get_or ls n no_rollup_series h)
 
--- the rollup series at a place of the order
+-- the rollup series at an index of the order
 entry_at : (ls : List RollupSeries) (order : List ℕ) (i d : ℕ) (e : RollupSeries × ℕ) → i < length order → get_or (series_numbered ls order) i e ≡ (get_or ls (get_or order i d) no_rollup_series, get_or order i d)
 entry_at ls [] i d e h = absurd (omega arith)
 entry_at ls (n ∷ ns) zero d e h = refl
@@ -70,7 +70,7 @@ length-numbered ls [] = refl
 length-numbered ls (n ∷ ns) = ap suc (length-numbered ls ns)
 
 module _ (ls : List RollupSeries) (order : List ℕ) (is : IsOrdered ls order) (l : RollupSeries) where
-  -- the comparison of the search at a place
+  -- the comparison of the search at an index
   compared : (i d : ℕ) (e : RollupSeries × ℕ) → i < length order → found_cmp (slice_get ls (get_or order i d)) l ≡ rollup_series_cmp (get_or (series_numbered ls order) i e).0 l
   compared i d e h =
       found_inside ls (get_or order i d) l (all_at (λ n. n < length ls) order i d h is.inside)

@@ -53,13 +53,13 @@ module _ {P : Type 0} where
   no_part (x ∷ xs) zero h e = let f : Some x ≡ None = e in cc
   no_part (x ∷ xs) (suc q) h e = no_part xs q (omega arith) e
 
-  -- the part of a rollup series is at its place
+  -- the part of a rollup series is at its slot
   pub held_at : (parts : List P) (slots : List ℕ) (j : ℕ) → length parts ≤ no_slot → held (by_series parts slots) j ≡ slice_get parts (slot_of slots j)
   held_at parts [] j h = sym (slice_get_past parts no_slot h)
   held_at parts (p ∷ ps) zero h = refl
   held_at parts (p ∷ ps) (suc j) h = held_at parts ps j h
 
--- ---- places
+-- ---- slots
 
 -- a rollup series more, that had no cell
 module _ (slots series_list after : List ℕ) (series count : ℕ) (is : IsSlotMap slots series_list count) (absent : count ≤ slot_of slots series) (spare : count < no_slot) (put : (j : ℕ) → slot_of after j ≡ cond (j == series) count (slot_of slots j)) where
@@ -118,7 +118,7 @@ module _ (slots series_list front : List ℕ) (series count : ℕ) (is : IsSlotM
   last_slot : slot_of slots series ≡ length front
   last_slot = ap (slot_of slots) (sym (ap (λ ls. get_or ls (length front) 0) last ∙ get_or-append_seam front series [] 0)) ∙ is.there (length front) (let m = one_more in omega arith)
 
-  -- no other rollup series has that place
+  -- no other rollup series has that slot
   last_alone : (j : ℕ) → slot_of slots j ≡ length front → j ≡ series
   last_alone j e =
       sym (is.back j (let m = one_more in omega arith)) ∙ ap (λ k. get_or series_list k 0) e ∙ ap (λ ls. get_or ls (length front) 0) last ∙ get_or-append_seam front series [] 0
@@ -172,7 +172,7 @@ module _ (slots series_list front : List ℕ) (series count : ℕ) (is : IsSlotM
 -- ---- the parts afterwards
 
 module _ {P : Type 0} where
-  -- a rollup series without a place has no cell
+  -- a rollup series without a slot has no cell
   pub none_held : (parts : List P) (slots : List ℕ) (series : ℕ) → length parts ≤ no_slot → length parts ≤ slot_of slots series → held (by_series parts slots) series ≡ None
   none_held parts slots series f h = held_at parts slots series f ∙ slice_get_past parts (slot_of slots series) h
 
@@ -191,13 +191,13 @@ module _ {P : Type 0} where
         | false ↦ λ e. refl
       ] refl
 
-  -- a cell that is there stays where room is made
+  -- a cell that exists stays when capacity is reserved
   pub some_kept : (parts : List P) (slots : List ℕ) (series j : ℕ) (x : P) → length parts ≤ no_slot → slot_of slots series < length parts
       → held (by_series parts slots) j ≡ cond (j == series) (Some (or_else x (held (by_series parts slots) series))) (held (by_series parts slots) j)
   some_kept parts slots series j x f h =
       stays (by_series parts slots) series j x (get_or parts (slot_of slots series) x) (held_at parts slots series f ∙ slice_get-get_or parts (slot_of slots series) x h)
 
-  -- the same places, for more rollup series
+  -- the same slots, for more rollup series
   pub same_held : (parts : List P) (slots after : List ℕ) (j : ℕ) → length parts ≤ no_slot → ((j : ℕ) → slot_of after j ≡ slot_of slots j) → held (by_series parts after) j ≡ held (by_series parts slots) j
   same_held parts slots after j f same = held_at parts after j f ∙ ap (slice_get parts) (same j) ∙ sym (held_at parts slots j f)
 
@@ -213,7 +213,7 @@ module _ {P : Type 0} where
             ∙ sym (held_at parts slots j is.few)
       ] refl
 
-  -- one cell is made
+  -- one cell is created
   pub part_made : (parts : List P) (slots series_list after : List ℕ) (series : ℕ) (x : P) → IsSlotMap slots series_list (length parts) → length parts ≤ slot_of slots series → length parts < no_slot
       → ((j : ℕ) → slot_of after j ≡ cond (j == series) (length parts) (slot_of slots j)) → (j : ℕ) → held (by_series (parts ++ x ∷ []) after) j ≡ cond (j == series) (Some x) (held (by_series parts slots) j)
   part_made parts slots series_list after series x is absent spare put j =

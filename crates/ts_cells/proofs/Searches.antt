@@ -7,7 +7,7 @@ use Rattle.std.specs.Cmp.{IsTotalOrder}
 use Rattle.std.specs.FinMap.{find}
 use Rattle.std.specs.List.Sorted.{IsPartitionPoint, IsBinarySearchResult, IsNonDecreasingBy}
 
--- a place, or one between those before and those after
+-- an index, or one between those before and those after
 pub slot_found : {X : Type 0} (ord : X → Ordering) (xs : List X) (r : Result ℕ ℕ) → IsNonDecreasingBy (λ y. ordering_index (ord y)) xs → IsBinarySearchResult ord xs r
     → MatchResult r (HoldsAt (λ y. ord y ≡ Equal) xs) (IsPartitionPoint (λ y. ord y ≡ Less) (λ y. ord y ≡ Greater) xs)
 slot_found ord xs (Ok i) up h = h

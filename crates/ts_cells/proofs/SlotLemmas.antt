@@ -3,14 +3,14 @@ use Rattle.std.proofs.Common.{◌≡◌, ℕ, ◌≤◌, ◌+◌, ◌-◌, List,
 use Rattle.std.proofs.lemmas.List.{take_all, take_at, drop_at, length-replicate, replicate-append-replicate}
 use Rattle.ts_cells.specs.Rows.{no_slot, from_first}
 
--- rollup series without a place more at the front
+-- more rollup series without a slot at the front
 pub front_from : (first more : ℕ) (slots : List ℕ) → more ≤ first → from_first (first - more) (replicate more no_slot ++ slots) ≡ from_first first slots
 front_from first more slots h =
     sym (append_assoc (replicate (first - more) no_slot) (replicate more no_slot) slots)
     ∙ ap (λ ps. ps ++ slots) (replicate-append-replicate (first - more) more no_slot)
     ∙ ap (λ n. replicate n no_slot ++ slots) (omega arith)
 
--- places with more after them, turned to the front; count and size are their lengths
+-- slots with more after them, rotated to the front; count and size are their lengths
 pub moved_front : (slots longer turned : List ℕ) (len count size more : ℕ) → len ≡ length slots → count ≡ length slots → size ≡ length longer → longer ≡ take (len + more) slots ++ replicate (len + more - count) no_slot
     → turned ≡ drop (size - more) longer ++ take (size - more) longer → turned ≡ replicate more no_slot ++ slots
 moved_front slots longer turned len count size more is_len is_count is_size grown t =

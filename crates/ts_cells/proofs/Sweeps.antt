@@ -6,7 +6,7 @@ use Rattle.ts_cells.specs.RowChanges.{NoWider, IsSweptTo}
 use Rattle.ts_cells.proofs.GridMoves.{grid_kept}
 use Rattle.ts_cells.proofs.ExpiryLemmas.{removes, inside_of, no_front, rising_drop, all_drop, cells_drop, above_all}
 
--- so many cells were removed, and so many rows at the front are empty
+-- n cells were removed, and n rows at the front are empty
 pub record IsSwept {P : Type 0} (low : ℤ) (before : List (RowOf P)) (removed emptied : ℕ) (rows : List (RowOf P)) : Type 0 where
   pub rising : RowsRise rows
   pub front : HasEmptyFront emptied rows

@@ -180,14 +180,14 @@ total-append g j xs ys =
     ap (fold_by empty_aggregate merged (λ (s : Share). s.part)) (filter-append (is_share g j) xs ys)
     ∙ fold-append aggregate_laws (λ (s : Share). s.part) (filter (is_share g j) xs) (filter (is_share g j) ys)
 
--- ---- places and buckets
+-- ---- indices and buckets
 
 same_group_comm : (g k : List Text) → same_group g k ≡ same_group k g
 same_group_comm g k = same_bool _ _
     (λ e. subst (λ x. same_group x g ≡ true) (same_group-eq g k e) (same_group-refl g))
     (λ e. subst (λ x. same_group x k ≡ true) (same_group-eq k g e) (same_group-refl k))
 
--- the place of a time of the range is j just where its bucket is the j-th
+-- the index of a time of the range is j exactly if its bucket is the j-th
 row_index_is : (q : Query) (t : ℤ) (j : ℕ) → pos 1 ≤ℤ q.interval → q.from ≤ℤ t → (row_index_at (bucket_grid q) t == j) ≡ int_eq (bucket_in q t) (bucket_in q q.from +ℤ pos j)
 row_index_is q t j h l =
     let first : ℤ = bucket_in q q.from in

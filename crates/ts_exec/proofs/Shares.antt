@@ -60,7 +60,7 @@ pub column-shares : (grid : BucketGrid) (n : ℕ) (g : List Text) (ps : List (�
 column-shares grid n g [] t h = refl
 column-shares grid n g (p ∷ ps) t h = sym (column_from grid n g ps (with_part (row_index_at grid p.0) (point_share grid g p).part (rows_for n g t)) t h)
 
--- ---- what stands in a group
+-- ---- the rows of a group
 
 abbrev pub rows_after : List Text → List Share → List Aggregate → List Aggregate
 rows_after g [] rows = rows
@@ -86,7 +86,7 @@ pub length-rows_after : (g : List Text) (ss : List Share) (rows : List Aggregate
 length-rows_after g [] rows = refl
 length-rows_after g (s ∷ ss) rows = length-rows_after g ss (cond (same_group g s.group) (with_part s.row_index s.part rows) rows) ∙ length_step (same_group g s.group) s.row_index s.part rows
 
--- ---- what stands in a bucket
+-- ---- the aggregate of a bucket
 
 abbrev pub held_at : List Text → ℕ → List Share → Aggregate → Aggregate
 held_at g j [] x = x
@@ -142,7 +142,7 @@ found-after n g (s ∷ ss) t =
     swapped false true r o = refl
     swapped false false r o = refl
 
--- ---- a place past the last row
+-- ---- an index past the last row
 
 far_part : (i : ℕ) (a : Aggregate) (rows : List Aggregate) → length rows ≤ i → with_part i a rows ≡ rows
 far_part i a [] l = refl

@@ -109,7 +109,7 @@ module _ (r : Rule) (p : Fact → Bool) where
       let rest = counts-few ks d fs in
       omega (arith, a, b, c, rest)
 
--- ---- of what stands for a history
+-- ---- of a store that represents a history
 
 at_most : (a b : Bool) → one_if (a && not b) + one_if (a && b) ≤ 1
 unfolding one_if

@@ -89,7 +89,7 @@ module _ (A : Type 0) (s : Input) (reads : ℕ) (t : Input) where
       spent = λ z. absurd (no_memory_left (LoadedImage A) z);
     }
 
--- ---- the store that is made of it
+-- ---- the store that is created from it
 
 module _ (s : Input) (reads : ℕ) (t : Input) where
   -- an image that isn't loaded gives no store
@@ -119,7 +119,7 @@ module _ (s : Input) (reads : ℕ) (t : Input) where
       spent = λ z. absurd (no_memory_left StoreData z);
     }
 
-    -- the image of a store is loaded as a store that stands for the same
+    -- the image of a store is loaded as a store that represents the same histories
     pub as_saved : (k : StoreData) → IsStoreOf (image_of image.parts) k → StandsAsSaved s k
     as_saved k made =
         if_some s.remaining (λ bytes. AreBytes bytes → IsImageOf image.version (image_of image.parts) bytes)

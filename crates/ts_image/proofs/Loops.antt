@@ -13,11 +13,11 @@ use Rattle.ts_image.proofs.Reading.{fine, faulty, nothing_yet, calls_nothing, ca
 abbrev pub with_front : {X : Type 0} → List X → Read (List X) → Read (List X)
 with_front xs r = r >>= λ ys. done (xs ++ ys.0, ys.1)
 
--- so many
+-- n values
 abbrev pub left_of : {X : Type 0} → Format X → ℕ → Cursor → Read (List X)
 left_of f n p = read_along (λ (i : ℕ). f) (replicate n 0) p
 
--- of so many values some were read: these, and those that are left, are all
+-- of n values some were read: these and the remaining ones are all
 pub record HasRead {X : Type 0} (f : Format X) (count left : ℕ) (xs : List X) (a : FieldsRead) (s : Input) (b : FieldsRead) (t : Input) : Type 0 where
   pub stays : IsKnown a s → IsKnown b t
   pub value : IsKnown a s → with_front xs (left_of f left (cursor_of b t)) ≡ left_of f count (cursor_of a s)

@@ -243,7 +243,7 @@ module _ {X Y : Type 0} (f : Y → Format X) (law : (y : Y) → IsFormat (f y)) 
     back = λ xs k. uncons y ys xs k;
   })
 
--- so many, and how many
+-- n values, and their number
 
 pub times_format : {X : Type 0} (f : Format X) → IsFormat f → (n : ℕ) → IsFormat (times n f)
 times_format f law n = along_format (λ (i : ℕ). f) (λ i. law) (replicate n 0)

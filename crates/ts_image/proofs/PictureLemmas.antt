@@ -78,6 +78,6 @@ read_back k n d p m =
       live = subst (λ (x : Settings). AreLive n.columns x.rules n.cells) settings m.live;
     }
 
--- so it stands for whatever the other one stood for
+-- so it represents each history that the other one represented
 pub pictured_stands : (k n : StoreData) (d : ImageData) → IsPictureOf k d → IsMadeOf d n → StaysFor k n
 pictured_stands k n d p m = reloads k n (read_back k n d p m)

@@ -48,7 +48,7 @@ idle_series : (mark : ℤ) (runs : ℕ) → runs ≡ 0 → (ss : List ImageSerie
 idle_series mark runs e [] h = tt
 idle_series mark runs e (s ∷ ss) h = both_all (map is_column_waiting s.columns) (waits_in ss) (idle_columns mark runs e s.columns h.0.columns) (idle_series mark runs e ss h.1)
 
--- ---- a store can be made of the parts
+-- ---- a store can be created from the parts
 
 pub buildable : (v : Version) (d : ImageData) → IsPossible v d → IsBuildable (built_in d)
 buildable v d p = record {

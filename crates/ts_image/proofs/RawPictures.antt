@@ -93,7 +93,7 @@ columns_once (s ∷ ss) d h =
     let same : z.0.series ≡ s.series = ap (λ (p : ColumnPoints). p.column.series) z.4 ∙ ap (λ (c : Column). c.series) (y.2 ∙ sym x.2) in
     d.0 (subst (λ (k : Series). Among k (map series_of ss)) same (Among-map series_of z.0 ss z.2))))
 
--- a column stands in one place
+-- a column has one index
 pub one_column : (ss : List ImageSeries) → AllDistinct (map series_of ss) → ((s : ImageSeries) → Among s ss → AllDistinct (map field_of s.columns))
     → (s t : ImageSeries) (c b : ImageColumn) → Among s ss → Among t ss → Among c s.columns → Among b t.columns → column_of_image s.series c ≡ column_of_image t.series b → c ≡ b
 one_column ss d h s t c b i j k l e =

@@ -56,7 +56,7 @@ module _ {P X : Type 0} (cmp : X → X → Ordering) (v : P → X) where
   pub rising_done : (ps : List P) (i : ℕ) → length ps ≤ i → AreRising cmp (map v (take i ps)) → AreRising cmp (map v ps)
   rising_done ps i le h = subst (λ (xs : List P). AreRising cmp (map v xs)) (take_all i ps le) h
 
-  -- where the second of two neighbours stands at i
+  -- where the second of two neighbours is at i
   pub rising_next : (ps : List P) (i : ℕ) (x y : P) → 0 < i → i < length ps → x ≡ get_or ps (i - 1) x → y ≡ get_or ps i y → AreRising cmp (map v (take i ps)) → is_lt (cmp (v x) (v y)) ≡ true → AreRising cmp (map v (take (i + 1) ps))
   rising_next ps zero x y some lt e f h q = absurd (omega arith)
   rising_next ps (suc j) x y some lt e f h q =

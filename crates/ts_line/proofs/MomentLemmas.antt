@@ -38,7 +38,7 @@ past_units (negsuc m) (pos u) h e =
 past_units (pos m) (negsuc u) h e = absurd (omega (arith, ints))
 past_units (negsuc m) (negsuc u) h e = absurd (omega (arith, ints))
 
--- so it tells no moment
+-- so it is no moment
 pub no_moment : (unit : ℤ) (text : Text) → pos 1 ≤ℤ unit → None ≡ whole_of text → None ≡ time_of unit text
 unfolding time_of
 no_moment unit text h none =

@@ -84,7 +84,7 @@ unfolding tags_at
 tags_inside zero before line at r le e = let same : (before, at) ≡ r = cc in subst (λ (x : List (LinePart × LinePart) × ℕ). x.1 ≤ length line) same le
 tags_inside (suc n) before line at r le e = inside_by n before line at r (eqb (slice_index line at) 44) refl le (λ before' at'. tags_inside n before' line at' r) e
 
--- ---- the parts from a place on
+-- ---- the parts from an offset on
 
 pub record ArePartsAt (unit now : ℤ) (line : Text) (n : ℕ) (parts : Parts) : Type 0 where
   pub m : LinePart × ℕ

@@ -97,7 +97,7 @@ among_starts [] x h = absurd h
 among_starts (g ∷ gs) x (inl e) = or_left _ _ ((Decides-int_eq g.from x.from).1 (ap (λ y. y.from) (sym e)))
 among_starts (g ∷ gs) x (inr h) = or_right (int_eq g.from x.from) _ (among_starts gs x h)
 
--- the step that a good place below the mark has
+-- the step that an instant below the mark has if it reaches the end
 pub record StepAt (t : QueryContext) (e : ℤ) : Type 0 where
   pub step : Step
   pub good : IsGoodStep t step

@@ -21,7 +21,7 @@ abbrev pub left_to : ℤ → Option ℤ → ℕ
 left_to b None = 0
 left_to b (Some p) = 1 + unsigned_abs (b -ℤ p)
 
--- the steps of the rule that start before the next place are in
+-- the steps of the rule that start before the next instant are in
 pub record Scanned (t : QueryContext) (n : ℕ) (r : MarkedRule) (next : Option ℤ) (old new : List Step) : Type 0 where
   pub instant : MatchOption next (Unit {0}) (λ p. IsBoundary r.rule p × (t.query.from ≤ℤ p) × (p ≤ℤ t.query.to))
   pub sound : AllByRecursion (IsStep t) old → AllByRecursion (IsStep t) new

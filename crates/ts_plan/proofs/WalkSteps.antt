@@ -43,7 +43,7 @@ bucket_walk t p n r bs s a l at v w b =
     let leads : LeadsOn t n p e = record { rule = r; there = at; one = refl; valid = v; good = (bs, walk_valid t e bs s w) } in
     (l, refl, (a, record { n = n; leads = leads; named = refl; first = b }, w))
 
--- where no rule leads on, the place isn't good
+-- where no rule leads on, the end isn't reached
 pub no_lead : (t : QueryContext) (p : ℤ) (n : ℕ) → IsWide t → p <ℤ t.mark → p <ℤ t.query.to → length t.rules ≤ n → NoneBefore t p n → ReachesEnd t p → ⊥
 no_lead t p n s a l h b g =
     let k = good_leads t p s a l g in

@@ -134,7 +134,7 @@ moment_end_answers now s kinds.Plus t e = placed_answers states.AfterMoment now 
 moment_end_answers now s kinds.Minus t e = placed_answers states.AfterMoment now s t tt
 moment_end_answers now s k t e = finish_time_answers now s t (moment_fault s) refl
 
--- ---- each place
+-- ---- each state
 
 answers_at : (p : State) (now : ℤ) (s : Progress) (t : Lexeme) → SoundAt p (at p s)
     → Answer now (at p s) t (after_finishing_time now t (at p s) (finish_time_at p t.kind s.builder))

@@ -169,7 +169,7 @@ moment_leads_on now s (c ∷ cs) q t ts reach suits some v =
     subst (λ (r : BuilderResult). Leads now (at states.AfterMoment s) (c ∷ cs, q) ts reach (moment_steps_on now s t r)) (sym (goes_on s t c.less v.0))
     (change_leads now s c cs q t ts reach suits v)
 
--- ---- each place
+-- ---- each state
 
 leads_at : (p : State) (now : ℤ) (s : Progress) (q : Rest p) (t : Lexeme) (ts : List Lexeme) (reach : Reach) → SoundAt p (at p s) → SuitsAt p (at p s) q → CountedAt p s.count
     → ReadsTokens (left_at p now (at p s) q) (t ∷ ts) reach → Leads now (at p s) q ts reach (after_finishing_time now t (at p s) (finish_time_at p t.kind s.builder))

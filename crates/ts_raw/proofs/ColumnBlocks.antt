@@ -217,7 +217,7 @@ all_dropped t zero ps h = h
 all_dropped t (suc k) [] h = h
 all_dropped t (suc k) (p ∷ ps) h = all_dropped t k ps h.1
 
--- ---- a rewritten block takes the place of the old one
+-- ---- a rewritten block replaces the old one
 
 module _ (bytes : List ℕ) (ms : List BlockHandle) (total cut : ℕ) (p : ℤ × ℤ) (r : Rewritten) (c : AreCountedBlocks bytes ms total) (f : CutFits cut (blocks_at bytes ms)) (w : IsRewritten bytes ms cut p r) where
   abbrev F : List (ℤ × ℤ)

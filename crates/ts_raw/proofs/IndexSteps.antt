@@ -100,7 +100,7 @@ module _ (series : List Series) (fields : List FieldKey) (t t' : ColumnNumbers) 
           (Among-append y t.columns (x ∷ []) (subst (λ (cs : List (ℕ × ℕ)). Among y cs) pushed (at_among t'.columns n y at)));
     }
 
--- ---- a column is made: there is room for its field, and the field has a number
+-- ---- a column is created: there is capacity for its field, and the field has a number
 
 pub record IsMaking (series : List Series) (fields fields' : List FieldKey) (t t' : ColumnNumbers) (s : ℕ) (m field : Text) (f : ℕ) : Type 0 where
   pub is : IsIndexOfParts series fields t

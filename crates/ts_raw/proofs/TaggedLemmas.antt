@@ -9,7 +9,7 @@ use Rattle.ts_core.proofs.lists.NumberedLemmas.{at_within, same_place}
 use Rattle.ts_raw.specs.Tagged.{IsTaggedAt, AreTaggedAt}
 use Rattle.ts_raw.proofs.TagLemmas.{among_end, among_before}
 
--- one place is of the numbers
+-- one index is of the numbers
 pub one_index : {X : Type 0} (xs : List X) (x : X) (i j : ℕ) → AllDistinct xs → IsAt xs i x → IsAt xs j x → i ≡ j
 one_index xs x i j once h k =
     same_place xs x i j once (at_within xs i x h) (at_within xs j x k) (get_or_from_slice_get xs i x x h ∙ sym (get_or_from_slice_get xs j x x k))

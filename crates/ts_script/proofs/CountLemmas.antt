@@ -66,7 +66,7 @@ told_late_no_memory opening h m f a b s is = counts_no_memory is.1
 
 -- ---- plans of a store
 
--- a fact about the settings and marks of a store is one about those of each history that it stands for
+-- a fact about the settings and marks of a store is one about those of each history that it represents
 pub of_history : (k : StoreData) (P : Settings → Marks → Type 0) → ShowsEach k → P k.settings k.marks → OfEachHistory k (λ opening h. P (settings_of opening h) (marks_of opening h))
 of_history k P shows p = λ opening h stands.
     let s = shows opening h stands in

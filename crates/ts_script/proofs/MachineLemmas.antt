@@ -219,7 +219,7 @@ stepped answer s m k i t = stepped_by m.kept.running answer s m k refl i t
 
 -- ---- certificates and queries
 
--- a machine with this certificate in place of its own
+-- a machine with this certificate instead of its own
 abbrev pub holding : Option Text → MachineState → MachineState
 holding certificate m = record m { certificate = certificate }
 

@@ -75,7 +75,7 @@ sum_past sum n name text high = past (added_up sum n name text) (λ m is. let re
 pub number_past : (sum n : ℕ) (name text : Text) → 2 ^ 64 ≤ n → option_and_then in_64_bits (added_up sum n name text) ≡ None
 number_past sum n name text high = past (added_up sum n name text) (λ m is. let reached = reaches sum n m name text is in omega (arith, reached.begun))
 
--- ---- one byte more, at a place of the text; the name begins at another
+-- ---- one byte more, at an offset of the text; the name begins at another
 
 pub letter_step : (sum n from at : ℕ) (text : Text) → from ≤ at → at < length text → is_ascii_digit (get_or text at 0) ≡ false
     → added_up sum n (slice_range text from at) (drop at text) ≡ added_up sum n (slice_range text from (at + 1)) (drop (at + 1) text)
@@ -114,7 +114,7 @@ not_in_64_bits : (s k : ℕ) → option_map (paired k) (in_64_bits s) ≡ None �
 unfolding paired
 not_in_64_bits s k e = grind arith
 
--- a sum that is told in 64 bits is the sum
+-- a sum that is returned in 64 bits is the sum
 kept : (s k : ℕ) (p : ℕ × ℕ) → option_map (paired k) (in_64_bits s) ≡ Some p → Some (paired k s) ≡ Some p
 unfolding paired
 kept s k p e = grind arith
@@ -130,7 +130,7 @@ unfolding paired
 whole_over b bs None e = refl
 whole_over b bs (Some p) e = sum_past p.0 (p.1 * 10 + (b - 48)) [] bs (not_in_64_bits p.0 p.1 e)
 
--- a digit is read behind a term that is none, or past 64 bits
+-- a digit is read after a term that is none, or past 64 bits
 pub whole_past : (sum n from at : ℕ) (text : Text) (whole : Option ℕ) → at < length text → is_ascii_digit (get_or text at 0) ≡ true
     → added_up sum n (slice_range text from at) (drop at text) ≡ whole → None ≡ option_and_then sum_in_64_bits (before_digit sum n (slice_range text from at))
     → None ≡ option_and_then in_64_bits whole
@@ -138,7 +138,7 @@ whole_past sum n from at text whole lt digit so over =
     sym (ap (option_and_then in_64_bits) (sym so ∙ digit_step sum n from at text lt digit)
     ∙ whole_over (get_or text at 0) (drop (at + 1) text) (before_digit sum n (slice_range text from at)) (sym over))
 
--- a digit read behind its number
+-- a digit read after its number
 pub digit_read : (sum n from at s k : ℕ) (text : Text) (whole : Option ℕ) → at < length text → is_ascii_digit (get_or text at 0) ≡ true
     → added_up sum n (slice_range text from at) (drop at text) ≡ whole → Some (s, k) ≡ option_and_then sum_in_64_bits (before_digit sum n (slice_range text from at))
     → added_up s (k * 10 + (get_or text at 0 - 48)) [] (drop (at + 1) text) ≡ whole

@@ -54,7 +54,7 @@ module _ (hashes : List ℕ) (hash : ℕ) where
           (λ (before : i < s.below). other_hash i (last_below-none (λ m. nat_eq (get_or hashes m 0) hash) s.below (sym s.next_is) i before) (hashed i is))
           (λ (behind : s.below ≤ i). s.none_behind i behind l is) (cases_lt i s.below)
 
-  -- the next place is nearer to the oldest
+  -- the next index is nearer to the oldest
   pub places_fall : (i : ℕ) → places_left (newest_of hashes hash i) < i + 1
   places_fall i = fall (newest_of hashes hash i) refl
     where

@@ -7,7 +7,7 @@ use Rattle.ts_core.specs.lists.LastBelow.{last_below, newest_of}
 use Rattle.ts_core.specs.lists.Links.{hashes_of, AreChained}
 use Rattle.ts_core.proofs.lists.LastBelows.{last_with-before, last_with-push}
 
--- a hash behind the others changes nothing before it
+-- a hash after the others changes nothing before it
 pub newest_of-before : (hashes : List ℕ) (more hash n : ℕ) → n ≤ length hashes → newest_of (hashes ++ more ∷ []) hash n ≡ newest_of hashes hash n
 newest_of-before hashes more hash n l = last_with-before 0 (λ h. nat_eq h hash) hashes more n l
 

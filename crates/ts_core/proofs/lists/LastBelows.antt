@@ -59,7 +59,7 @@ last_below-gap p (suc n) i h j a l =
     (gap_case p n i (p n) (last_below p n) refl h)
 
 module _ {X : Type 0} (d : X) (p : X → Bool) (xs : List X) (x : X) where
-  -- a member behind the others changes nothing before it
+  -- a member after the others changes nothing before it
   pub last_with-before : (n : ℕ) → n ≤ length xs → last_with d p (xs ++ x ∷ []) n ≡ last_with d p xs n
   last_with-before n l =
       last_below-same (λ i. p (get_or (xs ++ x ∷ []) i d)) (λ i. p (get_or xs i d)) n (λ i k. ap p (get_or_append_left xs (x ∷ []) d i (omega (arith, l, k))))

@@ -4,7 +4,7 @@ use Rattle.std.specs.List.{slice_get}
 use Rattle.std.proofs.lemmas.Option.{same_Some}
 use Rattle.ts_core.specs.lists.Members.{Among, AllDistinct}
 
--- a place of x in a list
+-- an index of x in a list
 unfoldable pub Split : {X : Type 0} → X → List X → Type 0
 Split {X} x ys = (us : List X) × ((vs : List X) × (ys ≡ us ++ x ∷ vs))
 

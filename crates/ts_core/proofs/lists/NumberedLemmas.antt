@@ -52,7 +52,7 @@ module _ {X : Type 0} (p : X → Bool) where
       numbers_from-push (n + 1) ys x ∙ ap (λ m. numbers_where_from p (n + 1) ys ++ cond (p x) (m ∷ []) []) (let e : n + 1 + length ys ≡ n + suc (length ys) = omega arith in e) in
       ap (λ ns. cond (p y) (n ∷ ns) ns) rest ∙ push_case n x (p y) (numbers_where_from p (n + 1) ys) (cond (p x) ((n + length (y ∷ ys)) ∷ []) [])
 
-  -- one more behind the others
+  -- one more after the others
   pub numbers_where-push : (xs : List X) (x : X) → numbers_where p (xs ++ x ∷ []) ≡ numbers_where p xs ++ cond (p x) (length xs ∷ []) []
   numbers_where-push xs x = numbers_from-push 0 xs x ∙ ap (λ m. numbers_where p xs ++ cond (p x) (m ∷ []) []) (zero-add (length xs))
 
@@ -69,10 +69,10 @@ module _ {X : Type 0} (p : X → Bool) where
       ap (λ b. cond b (n ∷ numbers_where_from p (n + 1) (map f ys)) (numbers_where_from p (n + 1) (map f ys))) (alike y (inl refl))
       ∙ ap (λ ns. cond (q y) (n ∷ ns) ns) (numbers_from-map f q (n + 1) ys (λ z k. alike z (inr k)))
 
--- ---- members and places
+-- ---- members and indices
 
 module _ {X : Type 0} where
-  -- of distinct ones each has one place
+  -- of distinct ones each has one index
   pub same_place : (xs : List X) (d : X) (i j : ℕ) → AllDistinct xs → i < length xs → j < length xs → get_or xs i d ≡ get_or xs j d → i ≡ j
   same_place [] d i j once l k e = absurd (omega arith)
   same_place (x ∷ xs) d zero zero once l k e = refl
@@ -88,7 +88,7 @@ module _ {X Y : Type 0} (f : X → Y) where
     AllDistinct-map xs once.1 (λ y z a b e. apart y z (inr a) (inr b) e),
   )
 
-  -- where no member is told apart
+  -- where no member is distinguished
   pub map_alike : (g : X → Y) (xs : List X) → ((x : X) → Among x xs → f x ≡ g x) → map f xs ≡ map g xs
   map_alike g [] h = refl
   map_alike g (x ∷ xs) h = ap (λ y. y ∷ map f xs) (h x (inl refl)) ∙ ap (λ ys. g x ∷ ys) (map_alike g xs (λ y k. h y (inr k)))

@@ -10,7 +10,7 @@ use Rattle.ts_core.proofs.lists.NumberedLemmas.{at_within, at_map, among_at, onc
 use Rattle.ts_core.proofs.lists.ChainSearches.{IsSearched, search_within, search_goes_on, search_ends}
 
 module _ {X : Type 0} (hash_of : X → ℕ) (names : List X) (hashes : List ℕ) (table : IsTable hash_of names hashes) (name : X) where
-  -- the name is sought, and the next place is this
+  -- the name is searched for, and the next index is this
   abbrev pub IsSought : Option ℕ → Type 0
   IsSought next = IsSearched hashes (hash_of name) (λ (n : ℕ). IsAt names n name) next
 

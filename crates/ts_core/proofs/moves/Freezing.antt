@@ -203,7 +203,7 @@ refolded_live r c k facts (p ∷ ps) m there else_same =
           refolded_live r c k facts ps (changed m q f) (λ y n. t y (sym now ∙ n)) (λ y. ap live_in now ∙ u y)
     ] refl there else_same
 
--- ---- what goes, of all that is held
+-- ---- the facts removed, of all that are kept
 
 goes_not : (mark t : ℤ) → not (int_le mark t) ≡ int_lt t mark
 goes_not mark t = grind (arith, ints)
@@ -246,7 +246,7 @@ module _ (c : Column) (mark : ℤ) (p : Fact → Bool) where
       filter-append goes (facts_at s.column s.points) (facts_of ss)
       ∙ ap₂ (λ xs ys. xs ++ ys) (other_stays s.column s.points (not_same s.column c (λ e. n (inl (sym e))))) (others_stay ss (λ a. n (inr a)))
 
-  -- of all that is held, what goes is what the column has below the mark
+  -- of all facts that are kept, those of the column below the mark are removed
   pub gone_held : (ss : List ColumnPoints) (ps : List (ℤ × ℤ)) → AllDistinct (map column_of ss) → Among (record { column = c; points = ps }) ss
       → filter goes (facts_of ss) ≡ filter p (facts_at c (points_below mark ps))
   gone_held [] ps d a = absurd a

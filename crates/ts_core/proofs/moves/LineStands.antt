@@ -60,7 +60,7 @@ same_columns before after f d a e = record {
   stays = λ c b. subst (Among c) (sym e) b;
 }
 
--- the move of what has been put of a line: with these columns and cells, and so many facts
+-- the move of the inserted facts of a line: with these columns and cells, and n facts
 line_more : (opening : Settings) (h : History) (k : StoreData) (n : ℕ) (us vs facts : List Fact) (before after : List ColumnPoints) (ms ns : List CellMap) → us ++ vs ≡ facts → n ≡ length us → map column_of before ≡ map column_of k.columns
     → StandsFor opening (Line us ∷ h) (state_of (put_facts before ms n k)) → HaveCellsOf k.settings.rules k.marks.lows facts ms → ((f : Fact) → Among f facts → Among f.column (map column_of k.columns))
     → PutsFacts k.settings.rules before ms after ns vs → IsLawful opening (Line facts ∷ h) → StandsFor opening (Line facts ∷ h) (state_of (put_facts after ns (length facts) k))

@@ -85,7 +85,7 @@ live_grown cut fs before after same holds r low facts m n spare has a k p s =
       | Some q ↦ λ g e. ap (λ (x : CellParts). x.live) (sym e) ∙ a k q g ∙ facts_same
     ] refl parts
 
--- cells are made, without raw facts
+-- cells are created, without raw facts
 pub lives_grown : (cut : Column → ℤ) (fs : List Fact) (before after : List ColumnPoints) → facts_of after ≡ facts_of before → Holds cut fs (facts_of before) → (rs : List Rule) (lows : List ℤ) (facts : List Fact) (ms ns : List CellMap)
     → map rule_of (rules_of rs lows ms) ≡ rs → GainEmptyCells rs lows facts ms ns → AllByRecursion (HasCells cut fs) (rules_of rs lows ms) → AreLive before rs ms → AreLive after rs ns
 lives_grown cut fs before after same holds [] lows facts ms ns e spare has a = tt

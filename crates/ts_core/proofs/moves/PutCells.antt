@@ -50,7 +50,7 @@ module _ (before after : List ColumnPoints) (f : Fact) (once : AllDistinct (fact
       λ i. record { frozen = p.frozen; live = now i })
       ∙ put_is (total_of r (cell_of r f) (facts_of after)) refl
 
-  -- in place of an old fact: the rest, where it is determined, with the new one
+  -- instead of an old fact: the rest, where it is determined, with the new one
   pub correct_puts : (g : Fact) → IsOldOf before f g → (rest : Aggregate) → IsOnlyRest IsSound merged (total_of r (cell_of r f) (facts_of before)) (one_fact g) rest
       → changed m (cell_of r f) (with_live (merged (one_fact f) rest)) ≡ put_cell r f (facts_of after) m
   correct_puts g old rest is = put_is (merged (one_fact f) rest) (replaced_total before after f once put r (cell_of r f) its_cell g old.there old.same old.only rest is)

@@ -185,9 +185,9 @@ even_added k r low m e =
 pub even_dropped : (k : StoreData) (name : Text) → IsEven k → IsEven (rule_dropped name k)
 even_dropped k name e = record { lows = beside_length (is_unnamed name) k.settings.rules k.marks.lows e.lows; cells = beside_length (is_unnamed name) k.settings.rules k.cells e.cells }
 
--- ---- a rule is dropped by its place
+-- ---- a rule is dropped by its index
 
--- the test fails at this place alone
+-- the test fails at this index alone
 abbrev pub FailsAt : (Rule → Bool) → List Rule → ℕ → Type 0
 FailsAt p [] n = ⊥
 FailsAt p (r ∷ rs) zero = (p r ≡ false) × AllByRecursion (λ (x : Rule). p x ≡ true) rs
@@ -224,7 +224,7 @@ name_among [] n r e = absurd (none-some r e)
 name_among (x ∷ rs) zero r e = let q : Some x ≡ Some r = e in let k : x ≡ r = cc in inl (ap (λ (y : Rule). y.name) (sym k))
 name_among (x ∷ rs) (suc n) r e = inr (name_among rs n r e)
 
--- of rules with names of their own, the one of a name is the one at its place
+-- of rules with names of their own, the one of a name is the one at its index
 pub fails_at : (rs : List Rule) (n : ℕ) (r : Rule) → IsAt rs n r → AllDistinct (map (λ (x : Rule). x.name) rs) → FailsAt (is_unnamed r.name) rs n
 fails_at [] n r e d = absurd (none-some r e)
 fails_at (x ∷ rs) zero r e d =

@@ -7,7 +7,7 @@ use Rattle.ts_core.specs.store.StoreStates.{ColumnPoints, RuleCells, StoreState,
 use Rattle.ts_core.specs.moves.Runs.{batches_of, expired_count, batches_left, steps_left}
 use Rattle.ts_core.proofs.store.Moves.{AllTwo, begun, IsMoved, columns_left, moved, expired, closed, written}
 
--- 256 fewer, or none, are one turn fewer
+-- 256 fewer, or none, are one batch fewer
 batches_of-less : (n : ℕ) → 0 < n → batches_of n ≡ batches_of (n - 256) + 1
 batches_of-less n h = omega arith
 

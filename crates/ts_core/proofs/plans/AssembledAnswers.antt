@@ -189,7 +189,7 @@ module _ (opening : Settings) (h : History) (seen : ViewState) (q : Query) (show
 pub assembled-answer : (opening : Settings) (h : History) (seen : ViewState) (q : Query) (ps : List Piece) → Shows opening h seen → IsQuery q → IsValid seen.settings seen.marks q ps → assembled_answer seen q ps ≡ answer_of (latest_of h) q
 assembled-answer opening h seen q ps shows is valid = same_answer opening h seen q shows (shown_wide opening h seen q shows is) ps valid
 
--- and so do those of a store that stands for the history
+-- and so do those of a store that represents the history
 pub stands-answer : (opening : Settings) (h : History) (s : StoreState) (q : Query) (ps : List Piece) → StandsFor opening h s → IsQuery q → IsValid s.settings s.marks q ps
     → assembled_answer (view_state_of s) q ps ≡ answer_of (latest_of h) q
 stands-answer opening h s q ps st is valid = assembled-answer opening h (view_state_of s) q ps (stands_shows opening h s st) is valid

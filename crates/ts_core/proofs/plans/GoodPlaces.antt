@@ -102,7 +102,7 @@ pub record SomeLead (t : QueryContext) (p : ℤ) : Type 0 where
   pub end : ℤ
   pub leads : LeadsOn t n p end
 
--- below the mark a good place has a rule that leads on
+-- below the mark, an instant that reaches the end has a rule that leads on
 from_piece : (t : QueryContext) (src : Source) (a b : ℤ) (ps : List Piece) → IsWide t → a <ℤ t.mark → a <ℤ b → b ≤ℤ t.query.to → Covers b t.query.to ps → SourceServes t src a b → AllByRecursion (IsValidPiece t) ps → SomeLead t a
 from_piece t Raw a b ps s m l u c v w = absurd (omega (arith, ints))
 from_piece t (Rollup name) a b ps s m l u c v w =

@@ -20,7 +20,7 @@ use Rattle.ts_core.proofs.plans.Walks.{walk_valid, plan_valid, plan_same}
 abbrev Decided : QueryContext → ℤ → Type 0
 Decided t p = ((bs : List Piece) × IsWalk t p bs) ⊎ (ReachesEnd t p → ⊥)
 
--- rule n, as it stands in the list, leads on to a good place by a valid bucket
+-- rule n of the list leads by a valid bucket to an instant that reaches the end
 pub record Leads (t : QueryContext) (r : MarkedRule) (p : ℤ) : Type 0 where
   pub valid : IsValidPiece t (rollup_piece r.rule.name p (p +ℤ r.rule.interval))
   pub good : ReachesEnd t (p +ℤ r.rule.interval)
@@ -46,7 +46,7 @@ one_more t p n b h m d l k =
     (λ x. b m d (omega (arith, ints)) k)
     (λ x. let e : m ≡ n = omega (arith, ints) in h d (subst (λ z. LeadsOn t z p d) e k))
 
--- the rules rs stand from number n on
+-- the rules rs have the numbers from n on
 abbrev pub StandFrom : QueryContext → ℕ → List MarkedRule → Type 0
 StandFrom t n rs = (m : ℕ) → slice_get t.rules (n + m) ≡ slice_get rs m
 

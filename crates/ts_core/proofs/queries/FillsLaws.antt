@@ -38,7 +38,7 @@ filled_rows-data NoneFill fs r rows h d = Among-map (shown fs) r (filter has_dat
 filled_rows-data PreviousFill fs r rows h d = previous_data fs None r rows h d
 filled_rows-data (NumberFill n) fs r rows h d = subst (λ x. Among x (map (numbered fs n) rows)) (numbered_data fs n r d) (Among-map (numbered fs n) r rows h)
 
--- ---- and at its place, but where rows are left out
+-- ---- and at its index, unless rows are left out
 
 place_previous : (fs : List Function) (e : Option Aggregate) (rows : List Row) (i : ℕ) (r : Row) → slice_get rows i ≡ Some r → has_data r ≡ true → slice_get (with_previous fs e rows) i ≡ Some (shown fs r)
 place_previous fs e [] i r h d = absurd (let q : None ≡ Some r = h in cc)

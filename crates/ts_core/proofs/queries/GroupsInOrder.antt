@@ -97,7 +97,7 @@ same_found None (Some x) h = absurd (true≢false (sym h))
 same_found (Some x) None h = absurd (true≢false h)
 same_found (Some x) (Some y) h = refl
 
--- lists of the same groups are the same, once they stand in order
+-- lists of the same groups are the same if they are in order
 pub all_groups-same : (gs hs : List (List Text)) → ((g : List Text) → Among g gs → Among g hs) → ((g : List Text) → Among g hs → Among g gs) → all_groups gs ≡ all_groups hs
 unfolding AreInOrder
 all_groups-same gs hs a b =
@@ -133,6 +133,6 @@ groups_of-match q facts g = (
   λ h. (all_groups-among g (map (group_of q) (filter (matches q) facts))).1 (to_map q g h.fact (filter (matches q) facts) (Among-filter_stays (matches q) h.fact facts h.among h.matching) h.group),
 )
 
--- groups stand in byte order, each once
+-- groups are in byte order, each once
 pub groups_of-in_order : (q : Query) (facts : List Fact) → AreInOrder (groups_of q facts)
 groups_of-in_order q facts = all_groups-in_order (map (group_of q) (filter (matches q) facts))

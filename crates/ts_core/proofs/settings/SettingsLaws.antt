@@ -113,7 +113,7 @@ is_named-among (r ∷ rs) e name a n =
     (λ k. ap (λ b. b || is_named rs name) (ap (λ (x : Rule). same_text x.name name) (sym k) ∙ ap (same_text e.name) (sym n) ∙ same_text-refl e.name))
     (λ k. or_right (same_text r.name name) (is_named rs name) (is_named-among rs e name k n)) a
 
--- no rule behind others has the name of one of these
+-- no rule after others has the name of one of these
 others_named : (raw : ℕ) (earlier rs : List Rule) (e : Rule) → rules_fault raw earlier rs ≡ None → Among e earlier → Among e.name (map (λ (r : Rule). r.name) rs) → ⊥
 others_named raw earlier [] e h a n = n
 others_named raw earlier (r ∷ rs) e h a n =

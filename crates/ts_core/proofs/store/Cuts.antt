@@ -123,9 +123,9 @@ frozen_of-untouched cut next h r k fs e =
 pub live_of-untouched : (cut next : Column → ℤ) → CutRises cut next → (r : Rule) (k : Cell) (fs : List Fact) → passed_of cut next r k fs ≡ empty_aggregate → live_of next r k fs ≡ live_of cut r k fs
 live_of-untouched cut next h r k fs e = sym (live_of-loses cut next h r k fs ∙ ap (λ a. merged a (live_of next r k fs)) e ∙ aggregate_laws.unit (live_of next r k fs))
 
--- ---- what is held of the facts from a cut on
+-- ---- the facts that are kept from a cut on
 
--- the held facts are just those that are kept, each once
+-- they are exactly the latest ones, each once
 pub record Holds (cut : Column → ℤ) (fs held : List Fact) : Type 0 where
   pub once : AllDistinct held
   pub all : (f : Fact) → Among f fs → is_kept cut f ≡ true → Among f held
@@ -141,7 +141,7 @@ aggregate_where-held cut fs held s d p =
     (λ f a. let n = s.only f (Among-filter_was p f held a) in
     Among-filter_stays (λ (g : Fact). p g && is_kept cut g) f fs n.0 (ap₂ (λ x y. x && y) (Among-filter_passes p f held a) n.1))
 
--- so the live part of a cell is the aggregate of what is held in it
+-- so the live part of a cell is the aggregate of its facts that are kept
 pub live_of-held : (cut : Column → ℤ) (fs held : List Fact) → Holds cut fs held → AllDistinct fs → (r : Rule) (k : Cell) → live_of cut r k fs ≡ aggregate_where (is_in_cell r k) held
 live_of-held cut fs held s d r k = aggregate_where-held cut fs held s d (is_in_cell r k)
 

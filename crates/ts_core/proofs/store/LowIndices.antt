@@ -67,7 +67,7 @@ first_from-is r t w =
           (λ n. let p = b.from_start in let q = times_le k (index_of r (t -ℤ pos 1)) i w n in absurd (omega (arith, ints)));
     }
 
--- the bucket of a time is not behind it
+-- the bucket of a time is not after it
 index_of-first : (r : Rule) (t : ℤ) → pos 1 ≤ℤ r.interval → index_of r t ≤ℤ first_from r t
 index_of-first r t w =
     subst (λ k. index_of r t ≤ℤ k) (bucket_of-start (first_from r t) r.interval r.offset w)

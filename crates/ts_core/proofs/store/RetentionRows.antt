@@ -250,7 +250,7 @@ m1 = 109 ∷ 49 ∷ []
 abbrev all_cpu : Rule
 all_cpu = record { name = 103 ∷ []; measurement = cpu; interval = pos 60000000000; offset = pos 0; kept_tags = []; duration = 0 }
 
--- the raw mark stands at 80 s: the first bucket is the minute from 120 s on
+-- the raw mark is at 80 s: the first bucket is the minute from 120 s on
 abbrev g_added : History
 g_added = AddRule all_cpu ∷ three_points
 

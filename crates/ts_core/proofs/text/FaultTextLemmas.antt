@@ -4,7 +4,7 @@ use Rattle.std.proofs.lemmas.List.{append_assoc}
 use Rattle.ts_core.specs.facts.Facts.{Text}
 use Rattle.ts_core.specs.text.FaultTexts.{parts_joined, EndsEarly}
 
--- nothing of them stands there
+-- nothing of them is appended
 pub ends_at_once : (text old new : Text) → new ≡ old → EndsEarly text old new
 ends_at_once text old new e = record { written = []; missing = text; stands = e ∙ sym (append-nil old); whole = refl }
 

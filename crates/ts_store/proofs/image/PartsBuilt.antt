@@ -78,7 +78,7 @@ rollups-set (r ∷ rs) cs (x ∷ ss) zero s t e more same h =
     (one.0, h.1)
 rollups-set (r ∷ rs) cs (x ∷ ss) (suc n) s t e more same h = (h.0, rollups-set rs cs ss n s t e more same h.1)
 
--- ---- a column behind the others
+-- ---- a column after the others
 
 pub with_points-push : (cs : List Column) (ms : List PointMap) (c : Column) (m : PointMap) → length ms ≡ length cs → with_points (cs ++ c ∷ []) (ms ++ m ∷ []) ≡ with_points cs ms ++ record { column = c; points = finmap.entries m } ∷ []
 with_points-push [] [] c m l = refl
@@ -116,7 +116,7 @@ idle-at [] n h = λ k p e. absurd (none-some p (sym (get-empty cell_cmp k) ∙ e
 idle-at (x ∷ ms) zero h = h.0
 idle-at (x ∷ ms) (suc n) h = idle-at ms n h.1
 
--- ---- what is held, with a series or a column more
+-- ---- the content with a series or a column more
 
 pub series_held : (index after : Indexed) (ss : List ColumnState) → IsSoundIndex after → after.columns ≡ index.columns → IsSoundContent index ss → IsSoundContent after ss
 series_held index after ss sound same held = record { sound = sound; each = held.each ∙ sym (ap length same) }
@@ -186,7 +186,7 @@ its_absent index ss us held series field kept is within absent among =
     subst (λ (h : StoreContent). ((s : Series) → IsAt h.series series s → Among (record { series = s; field = field }) (map column_of h.columns) → ⊥) → ⊥) is
     (λ none. none (column_in index series field).series at (subst (Among (column_in index series field)) (sym (names_held index ss kept.each)) among)) absent
 
--- no column is made
+-- no column is created
 pub column_refused : (index after : Indexed) (ss ss' : List ColumnState) → IsSoundContent index ss → (after.columns ≡ index.columns) × (ss' ≡ ss) → IsSoundIndex after → IsSoundContent after ss'
 column_refused index after ss ss' held same sound = record { sound = sound; each = ap length same.1 ∙ held.each ∙ sym (ap length same.0) }
 

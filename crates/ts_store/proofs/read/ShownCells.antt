@@ -104,7 +104,7 @@ live_at columns (x ∷ rs) [] n r s all at here = absurd (none-some s here)
 live_at columns (x ∷ rs) (y ∷ ss) zero r s all at here = subst (λ q. IsLive columns q s.grid.cells) (same_Some x r at) (subst (λ t. IsLive columns x t.grid.cells) (same_Some y s here) all.0)
 live_at columns (x ∷ rs) (y ∷ ss) (suc n) r s all at here = live_at columns rs ss n r s all.1 at here
 
--- it is shown by its place
+-- it is shown by its index
 shown_at : (rs : List Rule) (lows : List ℤ) (ss : List RollupState) (n : ℕ) (r : Rule) (s : RollupState) → IsAt rs n r → IsAt ss n s → length lows ≡ length rs
     → (low : ℤ) × (get_or (rules_of rs lows (cells_of ss)) n no_rule ≡ rule_cells r low s.grid.cells)
 shown_at [] lows ss n r s at here l = absurd (none-some r at)

@@ -70,7 +70,7 @@ none_below low m above =
     let least : low ≤ℤ q.index = above q (key_not m q (Among-filter_was p q (finmap.keys m) a)) in
     omega (arith, ints)))
 
--- a turn takes 256, or all
+-- a batch is 256, or all
 turn_taken : (low : ℤ) (m n : CellMap) → LosesCells low m n → batches_of (below_count low m) ≡ batches_of (below_count low n) + 1
 turn_taken low m n l =
     let fewer : below_count low m ≡ l.count + below_count low n = below_fewer low l.count m n l.below.removed in
@@ -168,7 +168,7 @@ of-loses (low ∷ lows) (m ∷ ms) (n ∷ ns) l =
     ⊎_elim {C = AreOf (m ∷ ms) (n ∷ ns)} (λ q. (of-all low q.0.count m n q.0.below.removed, subst (AreOf ms) (sym q.1) (of-same ms)))
     (λ q. (λ k p e. ap (λ (x : CellMap). finmap.get x k) (sym q.1) ∙ e, of-loses lows ms ns q.2)) l
 
--- ---- no turn is left where no rule has cells below its low index
+-- ---- no batch is left where no rule has cells below its low index
 
 pub batches_left-above : (rs : List Rule) (lows : List ℤ) (ms : List CellMap) → AreAbove lows ms → batches_left (rules_of rs lows ms) ≡ 0
 batches_left-above [] lows ms a = refl

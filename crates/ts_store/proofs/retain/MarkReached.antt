@@ -20,7 +20,7 @@ none_below mark p (q ∷ ps) s e =
     let rest : List (ℤ × ℤ) = points_below mark (q ∷ ps) in
     ap (λ b. cond b (p ∷ rest) rest) e ∙ none_below mark q ps (both_of _ _ s).1 (after_too p.0 q.0 mark (later p q ps s) e)
 
--- nor among those behind it
+-- nor among those after it
 pub none_left : (mark : ℤ) (p : ℤ × ℤ) (ps : List (ℤ × ℤ)) → IsRising (p ∷ ps) → int_lt p.0 mark ≡ false → points_below mark ps ≡ []
 none_left mark p ps s e =
     let rest : List (ℤ × ℤ) = points_below mark ps in

@@ -138,7 +138,7 @@ all_moved-more r rs rs' cs states n c ps facts s t ss ts ss' d e each once a fit
     ap₂ (λ u us. u ∷ us) (one (record { each = each; once = once; series_list = a'.0 }) fit'.0) (others a'.1 fit'.1)
     ∙ sym (ap₂ (λ (qs : List Rule) (us : List RollupState). with_frozen_all (all_moved qs c ps facts (cells_of us)) us) d e)
 
--- ---- a column of what is held
+-- ---- a column of the content
 
 pub one_of-points : (ss : List ColumnState) (n : ℕ) (d : ColumnState) → n < length ss → finmap.len (get_or ss n d).points ≤ number_of_points ss
 one_of-points [] n d l = absurd (omega arith)

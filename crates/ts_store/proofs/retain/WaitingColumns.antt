@@ -31,7 +31,7 @@ unflagged_next (suc n) [] x xs e = refl
 unflagged_next zero (b ∷ bs) x xs e = ap (λ c. if c then unflagged bs xs else x ∷ unflagged bs xs) e
 unflagged_next (suc n) (b ∷ bs) x xs e = unflagged_next n bs x xs e
 
--- all that are left from a place on
+-- all that are left from an index on
 left_from : {X : Type 0} → List Bool → List X → ℕ → List X
 left_from bs xs n = unflagged (drop n bs) (drop n xs)
 
@@ -130,7 +130,7 @@ waiting_names (Some run) columns =
 pub same_waiting : (run : Option Run) (before after : List ColumnPoints) → map column_of before ≡ map column_of after → waiting_in run before ≡ waiting_in run after
 same_waiting run before after e = waiting_names run before ∙ ap (names_waiting run) e ∙ sym (waiting_names run after)
 
--- more columns behind the others
+-- more columns after the others
 abbrev pub NamesMore : List ColumnPoints → List ColumnPoints → List Column → Type 0
 NamesMore before after made = map column_of after ≡ map column_of before ++ made
 

@@ -31,7 +31,7 @@ list_made [] (suc l) = refl
 list_made (m ∷ ms) zero = refl
 list_made (m ∷ ms) (suc l) = list_made ms l
 
--- a number is added behind those of a list
+-- a number is added after those of a list
 grown_list : (ms : List (List ℕ)) (n k : ℕ) → n < length ms → (l : ℕ) (b : Bool) → (n == l) ≡ b → get_or (set ms n (get_or ms n [] ++ k ∷ [])) l [] ≡ get_or ms l [] ++ cond b (k ∷ []) []
 grown_list ms n k within l true e =
     subst (λ m. get_or (set ms n (get_or ms n [] ++ k ∷ [])) m [] ≡ get_or ms m [] ++ k ∷ []) (eqb-true n l e) (get_or-set_same ms n (get_or ms n [] ++ k ∷ []) [] within)
@@ -43,7 +43,7 @@ true_within [] n e = cc
 true_within (b ∷ bs) zero e = omega arith
 true_within (b ∷ bs) (suc n) e = let w = true_within bs n e in omega (arith, w)
 
--- a rollup series without columns is made
+-- a rollup series without columns is created
 pub rollup_series_made : (ls : List ColumnList) (new : ColumnList) → new.items ≡ [] → (l : ℕ) → get_or (lists_in (ls ++ new ∷ [])) l [] ≡ get_or (lists_in ls) l []
 rollup_series_made ls new e l =
     ap (λ (xs : List (List ℕ)). get_or xs l []) (map-append (λ (w : ColumnList). w.items) ls (new ∷ [])) ∙ ap (λ (xs : List ℕ). get_or (lists_in ls ++ xs ∷ []) l []) e
@@ -74,11 +74,11 @@ module _ (ls : List ColumnList) (n : ℕ) where
   pub place_within : HasCapacityAt ls n → n < length ls
   place_within h = let w = true_within (capacities_in ls) n h in let e = length-map ls (λ (v : ColumnList). v.has_capacity) in omega (arith, w, e)
 
-  -- columns with a place for one more
+  -- columns with capacity for one more
   pub place_at : (v : ColumnList) → v ≡ get_or ls n v → HasCapacityAt ls n → v.has_capacity ≡ true
   place_at v is h = ap (λ (w : ColumnList). w.has_capacity) is ∙ sym (get_or-map (λ (w : ColumnList). w.has_capacity) ls n v false (place_within h)) ∙ h
 
-  -- a place was made
+  -- capacity was reserved
   pub place_taken : (v : ColumnList) → n < length ls → v.has_capacity ≡ true → HasCapacityAt (set ls n v) n
   place_taken v within capacity =
       ap (λ bs. get_or bs n false) (map-set (λ (w : ColumnList). w.has_capacity) ls n v)
@@ -121,7 +121,7 @@ module _ (series_list : List RollupSeries) (os : List (Option ℕ)) (ms : List (
       let w = members_within ms l n there in
       omega (arith, w, kept.each)
 
-  -- a column of no rollup series is made
+  -- a column of no rollup series is created
   pub made_apart : (os' : List (Option ℕ)) (next' : Option (Option ℕ)) (spare' : Bool) (spares' : List Bool) → os' ≡ os ++ None ∷ [] → next' ≡ None → IsRollup series_list os' ms next' spare' spares'
   made_apart os' next' spare' spares' e none = record {
     once = kept.once;

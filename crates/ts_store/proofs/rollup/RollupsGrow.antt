@@ -69,7 +69,7 @@ series_list-length r series_list [] (o ∷ os) h = absurd h
 series_list-length r series_list (c ∷ cs) [] h = absurd h
 series_list-length r series_list (c ∷ cs) (o ∷ os) h = ap suc (series_list-length r series_list cs os h.1)
 
--- each number of a column is one of a rollup series' place
+-- each number of a column is the index of a rollup series
 pub numbers_inside : (rs : List Rule) (cs : List Column) (ss : List RollupState) (ns : List ℕ) → AreRollups rs cs ss → AllByRecursion (λ n. n < length cs) ns → AllByRecursion (λ (s : RollupState). AllByRecursion (λ n. n < length s.series_list) ns) ss
 numbers_inside [] cs [] ns h a = tt
 numbers_inside [] cs (s ∷ ss) ns h a = absurd h
@@ -95,7 +95,7 @@ pub cells_made : (ss : List RollupState) → cells_of (map with_next ss) ≡ cel
 cells_made [] = refl
 cells_made (s ∷ ss) = ap (λ ms. s.grid.cells ∷ ms) (cells_made ss)
 
--- a column behind the others can be made
+-- a column after the others can be created
 pub ready_to_make : (rs : List Rule) (cs : List Column) (c : Column) (n : ℕ) (ss : List RollupState) → AreRollups rs cs ss → HaveNext rs c ss → n ≡ length cs
     → AllByRecursion (λ (s : RollupState). IsSome s.next × (n ≡ length s.series_list)) ss
 ready_to_make [] cs c n [] h k e = tt
@@ -106,7 +106,7 @@ ready_to_make (r ∷ rs) cs c n (s ∷ ss) h k e = (
   ready_to_make rs cs c n ss h.1 k.1 e,
 )
 
--- a column that wasn't there is made behind the others
+-- a column that wasn't there is created after the others
 pub made_behind : (cs cs' : List Column) (c : Column) (n : ℕ) → (Among c cs → ⊥) → Gains cs cs' c → IsAt cs' n c → (cs' ≡ cs ++ c ∷ []) × (n ≡ length cs)
 made_behind cs cs' c n away gains at =
     ⊎_elim {C = (cs' ≡ cs ++ c ∷ []) × (n ≡ length cs)} (λ old. absurd (away old.0))

@@ -278,7 +278,7 @@ idle-made facts (r ∷ rs) (low ∷ lows) (m ∷ ms) (o ∷ os) l n h idle = (
 
 -- ---- the whole
 
--- cells are made under these rules, and filled
+-- cells are created under these rules, and filled
 abbrev pub Makes : List Rule → List ℤ → List RollupState → List ColumnState → List RollupState → Type 0
 Makes rs lows vs ss us = (cs : List Column) → length ss ≡ length cs → AreRollups rs cs us → OfEachRule (MakesCells (facts_of (with_points cs (point_maps ss)))) rs lows (cells_of us) (cells_of vs)
 

@@ -92,7 +92,7 @@ rollup_made index ss us r low s t held first same fills =
       indices = (fills.indices (subst (HasIndices r) (sym first.cells) (no_indices r), tt)).0;
     }
 
--- ---- one rollup, made and filled
+-- ---- one rollup, created and filled
 
 -- a list of one that ends in an item is this item alone
 pub alone : {X : Type 0} (xs ys : List X) (x : X) → length xs ≡ 1 → xs ≡ ys ++ x ∷ [] → xs ≡ x ∷ []

@@ -153,7 +153,7 @@ columns_puts (b ∷ cs) (m ∷ ms) (suc n) c t v d l e =
 no_entries : entries (finmap.empty {X = ℤ} {R = int_cmp}) ≡ []
 no_entries = nil_from_length _ (sym (len-entries (finmap.empty {X = ℤ} {R = int_cmp})) ∙ len-empty int_cmp ℤ)
 
--- each column stands with its points
+-- each column with its points
 pub names_of : (cs : List Column) (ms : List PointMap) → length ms ≡ length cs → map column_of (with_points cs ms) ≡ cs
 names_of [] ms l = refl
 names_of (c ∷ cs) [] l = absurd (omega (arith, l))

@@ -70,7 +70,7 @@ counts-put n rs before ms after ns (f ∷ fs) put few =
     subst (λ (k : ℕ). HoldFew k after rs ns) (let e : n + 1 + length fs ≡ n + length (f ∷ fs) = omega arith in e)
     (counts-put (n + 1) rs put.0 (put_cells rs f (facts_of put.0) ms) after ns fs put.2 (counts-one n before put.0 f put.1.1 rs ms few))
 
--- columns and cells are made, without facts
+-- columns and cells are created, without facts
 pub counts-grown : (n : ℕ) (before after : List ColumnPoints) → facts_of after ≡ facts_of before → (facts : List Fact) (rs : List Rule) (lows : List ℤ) (ms ns : List CellMap) → length lows ≡ length rs → GainEmptyCells rs lows facts ms ns → HoldFew n before rs ms → HoldFew n after rs ns
 counts-grown n before after same facts [] lows ms ns l capacity few = tt
 counts-grown n before after same facts (r ∷ rs) lows ms [] l capacity few = tt

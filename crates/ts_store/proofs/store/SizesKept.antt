@@ -161,7 +161,7 @@ rules_gone mark facts (r ∷ rs) (low ∷ lows) (m ∷ ms) (n ∷ ns) e s = (
   rules_gone mark facts rs lows ms ns e.1 s.1,
 )
 
--- room is made
+-- capacity is reserved
 rules_grown : (mark : ℤ) (made facts : List Fact) (rs : List Rule) (lows : List ℤ) (ms ns : List CellMap) → GainEmptyCells rs lows made ms ns → AreSizedRules mark facts rs lows ms → AreSizedRules mark facts rs lows ns
 rules_grown mark made facts [] lows ms ns capacity s = tt
 rules_grown mark made facts (r ∷ rs) [] ms ns capacity s = tt
@@ -314,7 +314,7 @@ sized_grown k series columns ms facts few distinct registered named keys same ca
   rules = subst (λ (fs : List Fact). AreSizedRules k.marks.raw fs k.settings.rules k.marks.lows ms) (sym same) (rules_grown k.marks.raw facts (facts_of k.columns) k.settings.rules k.marks.lows k.cells ms capacity s.rules);
 }
 
--- facts are put where there is room for them: this was made in other cells
+-- facts are inserted where there is capacity for them: it was reserved in other cells
 pub sized_put : (k : StoreData) (columns : List ColumnPoints) (facts : List Fact) (ms ns : List CellMap) → GainEmptyCells k.settings.rules k.marks.lows facts ms k.cells → PutsFacts k.settings.rules k.columns k.cells columns ns facts
     → k.accepted + length facts ≤ 2 ^ 62 → IsSized k → IsSized (put_facts columns ns (length facts) k)
 sized_put k columns facts ms ns capacity put few s =

@@ -206,7 +206,7 @@ column_new before facts f a =
       | false ↦ λ e. Among-right f.column names (new_columns names facts) (Among-filter_stays q f.column (map (λ (g : Fact). g.column) facts) there (ap not e))
     ] refl)
 
--- the columns of a line are made, and its facts put
+-- the columns of a line are created, and its facts inserted
 line_names : (rs : List Rule) (before : List ColumnPoints) (ms : List CellMap) (after : List ColumnPoints) (ns : List CellMap) (fs : List Fact) → PutsFacts rs (with_columns before (new_columns (map column_of before) fs)) ms after ns fs → NamesMore before after (new_columns (map column_of before) fs)
 line_names rs before ms after ns fs puts =
     let made : List Column = new_columns (map column_of before) fs in
@@ -249,7 +249,7 @@ accepted_by settings marks n before after run p kept put taken few =
       left = ap (λ (k : StoreData). steps_left (state_of k)) others ∙ left-puts cells_between after.columns fs (cells_of after.rollups) (length fs) put.facts ∙ left-grows old after.series (with_columns before.columns made) put.cells_between fs put.has_cells;
     }
 
--- live parts stay those of the raw facts, when room is made
+-- live parts stay those of the raw facts when capacity is reserved
 pub stay_live : (settings : Settings) (marks : Marks) (n : ℕ) (before : StoreContent) (run : Option Run) → IsSoundStore (data_of_parts settings marks n before run) before run → StayLive settings.rules marks.lows before.columns (cells_of before.rollups)
 stay_live settings marks n before run kept = λ facts ms capacity. lives_grown marks.raw before.columns before.columns refl settings.rules marks.lows facts (cells_of before.rollups) ms kept.sized.lows capacity kept.sized.rules kept.live
 
@@ -279,7 +279,7 @@ kept_accepted settings marks n before after run p kept registers named keys put 
           (sized_put (grown after.series columns put.cells_between k) after.columns fs ms ns put.has_cells put.facts few sized);
     }
 
--- ---- what is told
+-- ---- the results
 
 -- where no column waits, as many facts are kept as are latest from the raw mark on
 pub raw_stands : (opening : Settings) (h : History) (k : StoreData) → k.waiting ≡ [] → StandsFor opening h (state_of k) → length (facts_of k.columns) ≡ length (raw_facts opening h)

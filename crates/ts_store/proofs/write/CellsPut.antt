@@ -75,7 +75,7 @@ module _ (r : Rule) (cs : List Column) (states : List ColumnState) (before : Lis
           | Some p ↦ λ e. absurd (none-some p.live (sym e))
         ] gone)
 
-    -- in place of a value, where the rest is determined
+    -- instead of a value, where the rest is determined
     pub put_corrected : (v : ℤ) (a rest new : Aggregate) → old ≡ Some v → option_map live_part (finmap.get s.grid.cells (cell_in s.grid.series_list index l)) ≡ Some a → IsOnlyRest IsSound merged a (aggregate_of_one f.time v) rest
         → new ≡ merged (aggregate_of_one f.time f.value) rest → corrected_in s l index new ≡ put_cell r f (facts_of after) s.grid.cells
     put_corrected v a rest new was there determined made =

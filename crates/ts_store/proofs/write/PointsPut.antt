@@ -251,12 +251,12 @@ line_puts rs cs ss ss' n ns ns' x xs xs' time value after us us' ends (f ∷ fs)
     (λ lives. others fs of.2 (ap length is ∙ length-set ss n s ∙ each) (subst (AreRollups rs cs) (sym series_list) (rollups_with rs cs (cells_of us') us have))
     (subst (λ (ys : List ColumnState). AreStaged cs ys ns fs) (sym is) (staged_others cs ss ns fs n s away put.2)) lives)
 
--- the facts of columns and fields, which are aside, bring columns and cells to an end
+-- the facts of columns and fields, which are staged, bring columns and cells to an end
 abbrev pub PutsRest : List Rule → ℤ → List ℕ → List (LinePart × ℤ) → List Column → List ColumnState → List RollupState → List ColumnPoints → List CellMap → Type 0
 PutsRest rs time ns xs cs ss us after ends = (gs : List Fact) → AreOfFields time xs gs → length ss ≡ length cs → AreRollups rs cs us → AreStaged cs ss ns gs → AreLive (with_points cs (point_maps ss)) rs (cells_of us)
     → PutsFacts rs (with_points cs (point_maps ss)) (cells_of us) after ends gs
 
--- nothing is aside
+-- nothing is staged
 none_puts : (rs : List Rule) (cs : List Column) (ss : List ColumnState) (ns : List ℕ) (columns : List ColumnPoints) (ms : List CellMap) (fs : List Fact) → length ns ≡ 0 → AreStaged cs ss ns fs → PutsFacts rs columns ms columns ms fs
 none_puts rs cs ss [] columns ms [] e a = (refl, refl)
 none_puts rs cs ss [] columns ms (f ∷ fs) e a = absurd a

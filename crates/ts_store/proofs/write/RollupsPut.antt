@@ -23,7 +23,7 @@ use Rattle.ts_store.proofs.write.CellsMade.{parts_gain}
 pub rollups_held : (rs : List Rule) (index : Indexed) (ss : List ColumnState) (us : List RollupState) → length ss ≡ length index.columns → AreRollups rs index.columns us → AreRollups rs (map column_of (columns_in index ss)) us
 rollups_held rs index ss us each h = subst (λ (cs : List Column). AreRollups rs cs us) (sym (names_held index ss each)) h
 
--- the columns in which points are aside are there
+-- the columns in which points are staged are there
 pub staged_inside : (cs : List Column) (ss : List ColumnState) (ns : List ℕ) (fs : List Fact) → AreStaged cs ss ns fs → AllByRecursion (λ n. n < length cs) ns
 staged_inside cs ss [] fs a = tt
 staged_inside cs ss (n ∷ ns) [] a = absurd a
@@ -41,7 +41,7 @@ staged_at cs ss time [] (f ∷ fs) same a = absurd a
 staged_at cs ss time (n ∷ ns) [] same a = absurd a
 staged_at cs ss time (n ∷ ns) (f ∷ fs) same a = (a.0, same f (inl refl), staged_at cs ss time ns fs (λ g k. same g (inr k)) a.2)
 
--- room is made for those that are aside
+-- capacity is reserved for those that are staged
 pub line_rooms : (rs : List Rule) (lows : List ℤ) (cs : List Column) (ss : List ColumnState) (p : Parts) (time : ℤ) (ns : List ℕ) (old : List CellMap) (us ts : List RollupState) → AreRollups rs cs us → AreStaged cs ss ns (line_facts p) → time ≡ p.time
     → cells_of us ≡ old → ts ≡ cells_created_under rs lows time ns us → GainEmptyCells rs lows (line_facts p) old (cells_of ts)
 line_rooms rs lows cs ss p time ns old us ts h a at same made =
@@ -50,7 +50,7 @@ line_rooms rs lows cs ss p time ns old us ts h a at same made =
     subst (λ (ms : List CellMap). GainEmptyCells rs lows fs ms (cells_of ts)) same
     (subst (λ (xs : List RollupState). GainEmptyCells rs lows fs (cells_of us) (cells_of xs)) (sym (made ∙ ap (λ (t : ℤ). cells_created_under rs lows t ns us) at)) has_cells)
 
--- and no other cell is created, even if room is made for some of them only
+-- and no other cell is created, even if capacity is reserved for some of them only
 pub line_gains : (rs : List Rule) (lows : List ℤ) (cs : List Column) (ss : List ColumnState) (p : Parts) (time : ℤ) (ns : List ℕ) (old : List CellMap) (us ts : List RollupState) → AreRollups rs cs us → AreStaged cs ss ns (line_facts p) → time ≡ p.time
     → cells_of us ≡ old → AreCreatedInPart rs lows time ns us ts → OfEachRule (GainsCells (line_facts p)) rs lows old (cells_of ts)
 line_gains rs lows cs ss p time ns old us ts h a at same part =

@@ -50,7 +50,7 @@ staged_others cs ss (m ∷ ns) (f ∷ fs) n s away a = (
   staged_others cs ss ns fs n s (λ k. away (inr k)) a.2,
 )
 
--- the column of a number that has something aside is the column of one of the facts
+-- the column of a number that has a staged point is the column of one of the facts
 column_of_number : (cs : List Column) (ss : List ColumnState) (ns : List ℕ) (fs : List Fact) (n : ℕ) (c : Column) → AreStaged cs ss ns fs → slice_get cs n ≡ Some c → Among n ns
     → Among c (map (λ (f : Fact). f.column) fs)
 column_of_number cs ss [] fs n c a at k = absurd k
@@ -86,7 +86,7 @@ slice_get_left [] ys n x e = absurd (none-some x e)
 slice_get_left (y ∷ xs) ys zero x e = e
 slice_get_left (y ∷ xs) ys (suc n) x e = slice_get_left xs ys n x e
 
--- columns that are made behind leave what is aside
+-- columns created after them leave the staged points
 pub staged_grown : (cs : List Column) (ss : List ColumnState) (ns : List ℕ) (fs : List Fact) (c : Column) (s : ColumnState) → length ss ≡ length cs → AreStaged cs ss ns fs → AreStaged (cs ++ c ∷ []) (ss ++ s ∷ []) ns fs
 staged_grown cs ss [] [] c s l a = tt
 staged_grown cs ss [] (f ∷ fs) c s l a = absurd a
@@ -160,7 +160,7 @@ field_at [] i x l e = absurd (omega arith)
 field_at (f ∷ fields) zero x l e = inl e
 field_at (f ∷ fields) (suc i) x l e = inr (field_at fields i x (omega (arith, l)) e)
 
--- the name of a field doesn't stand before it
+-- the name of a field isn't before it
 fresh : (fields : List (LinePart × ℤ)) (i : ℕ) (x : LinePart × ℤ) → AllDistinct (map field_text fields) → i < length fields → x ≡ get_or fields i x → Among (field_text x) (map field_text (take i fields)) → ⊥
 fresh [] i x d l e a = absurd (omega arith)
 fresh (f ∷ fields) zero x d l e a = absurd a
@@ -182,7 +182,7 @@ grown_staged c cs cs' ss ss' ns fs l grown a =
     ))
     grown
 
--- ---- columns that are made
+-- ---- columns that are created
 
 names_without : (made : List Column) → map column_of (map without_points made) ≡ made
 names_without [] = refl
@@ -224,7 +224,7 @@ new_more cs fs f =
 with_more : (before : List ColumnPoints) (made : List Column) (c : Column) → with_columns before (made ++ c ∷ []) ≡ with_columns before made ++ without_points c ∷ []
 with_more before made c = ap (λ (ds : List ColumnPoints). before ++ ds) (map-append without_points made (c ∷ [])) ∙ sym (append_assoc before (map without_points made) (without_points c ∷ []))
 
--- the columns of the first fields are made, and then that of one more
+-- the columns of the first fields are created, and then that of one more
 pub next_made : (p : Parts) (before : List ColumnPoints) (cs cs' : List Column) (ss ss' : List ColumnState) (i : ℕ) (x : LinePart × ℤ) → length ss ≡ length cs → MayGrow (fact_of p x).column cs ss cs' ss' → i < length p.fields
     → x ≡ get_or p.fields i x → AllDistinct (map field_text p.fields) → with_points cs (point_maps ss) ≡ with_columns before (new_columns (map column_of before) (map (fact_of p) (take i p.fields)))
     → with_points cs' (point_maps ss') ≡ with_columns before (new_columns (map column_of before) (map (fact_of p) (take (i + 1) p.fields)))
@@ -251,7 +251,7 @@ next_made p before cs cs' ss ss' i x l grown within is once so =
     ∙ sym (ap (with_columns before) (more ∙ ap (λ cs. made ++ cs) one) ∙ with_more before made f.column))
     grown
 
--- the column that an index gives for a field of the line is there or made
+-- the column that an index gives for a field of the line exists or is created
 pub made_next : (p : Parts) (index : Indexed) (series : ℕ) (field : Text) (before : List ColumnPoints) (cs' : List Column) (ss ss' : List ColumnState) (fields : List (LinePart × ℤ)) (i : ℕ) (x : LinePart × ℤ)
     → MayGrow (column_in index series field) index.columns ss cs' ss' → slice_get index.series series ≡ Some (series_of p) → field ≡ x.0.text → fields ≡ p.fields → AllDistinct (map field_text fields) → i < length fields → x ≡ get_or fields i x
     → length ss ≡ length index.columns → MakesAll before (columns_in index ss) (map (fact_of p) (take i fields)) → MakesAll before (with_points cs' (point_maps ss')) (map (fact_of p) (take (i + 1) fields))
@@ -280,7 +280,7 @@ first_made p before after fields i e so =
       columns = so;
     }
 
--- each fact that is aside has its column
+-- each fact that is staged has its column
 pub columns_there : (cs : List Column) (ss : List ColumnState) (ns : List ℕ) (fs : List Fact) → AreStaged cs ss ns fs → (f : Fact) → Among f fs → Among f.column cs
 columns_there cs ss ns [] a f k = absurd k
 columns_there cs ss [] (g ∷ fs) a f k = absurd a

@@ -3,7 +3,7 @@ use Rattle.ts_block.specs.Varints.{digits_text}
 use Rattle.ts_block.proofs.NumbersLemmas.{limit}
 use Rattle.ts_block.proofs.number.append_number.Given as goal
 
--- whatever stands for the rest completes the number
+-- any text of the rest completes the number
 abbrev pub invariant-loop-rest : goal.invariant-loop-rest
 invariant-loop-rest g l = record {
   more : ℕ;

@@ -18,7 +18,7 @@ returns-in-Some-clause-registered g c =
       kept = search rules;
     }
 
--- the key stands behind the others
+-- the key is after the others
 pushed : (g : Over) (c : goal.After-unwrap g) → c.push-2.new.self.items ≡ c.self.inside.keys.items ++ field_key c.args.measurement.now c.args.field.now ∷ []
 pushed g c =
     let before : List FieldKey = c.self.inside.keys.items in

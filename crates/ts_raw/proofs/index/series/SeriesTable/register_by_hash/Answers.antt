@@ -28,7 +28,7 @@ returns-in-Some-clause-full g c =
     let key : Series = c.args.key.now in
     (λ e. absurd (cc), λ p. absurd (p.1 (at_among c.args.self.now c.in-Some.series key c.in-Some.ensures.found)))
 
--- the key stands behind the others
+-- the key is after the others
 pushed : (g : Over) (c : goal.After-unwrap-2 g) → c.push-2.new.self.items ≡ c.self.inside.keys.items ++ c.args.key.now ∷ []
 pushed g c =
     let before : List Series = c.self.inside.keys.items in

@@ -58,7 +58,7 @@ returns-in_err-column-clause-cells g c =
     let long : length vs ≡ c.self.inside.rollups.len = cc (c.make_column.auto.rollups, c.as_mut_slice.ensures.value, counted) in
     ap cells_of (with_items_is c.self.inside.rollups vs long) ∙ c.in_err-column.ensures.cells ∙ ap cells_of c.as_mut_slice.ensures.value ∙ ap (λ (h : StoreContent). cells_of h.rollups) c.self.view_is
 
--- ---- the column is made
+-- ---- the column is created
 
 pub index_mut-requires : goal.index_mut-requires
 index_mut-requires g c =

@@ -35,7 +35,7 @@ use Rattle.ts_store.proofs.store.ColumnsLemmas.{known_of, names_held}
 use Rattle.ts_store.proofs.store.column_facts.ColumnFacts.insert_line.Goals as goal
 use Rattle.ts_store.proofs.image.PartsBuilt.{series_held}
 
--- no column is made
+-- no column is created
 none_made : (columns : List ColumnPoints) (facts : List Fact) → MakesFirst columns columns facts
 none_made columns facts = record { made = []; others = new_columns (map column_of columns) facts; order = refl; columns = sym (append-nil columns) }
 
