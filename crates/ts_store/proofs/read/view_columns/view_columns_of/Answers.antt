@@ -12,7 +12,7 @@ loop-id-preserved g c =
     let id : ℕ = c.id-item.result in
     let column_refs : List ColumnRef = c.loop-id.columns.items in
     let rest : List ColumnRef = map (column_ref_in cs) (drop (i + 1) ids) in
-    let pushed : c.push.new.self.items ≡ column_refs ++ column_ref_in cs id ∷ [] = c.in_ok-push.ensures.items ∙ ap (λ (s : ColumnRef). column_refs ++ s ∷ []) c.seen.ensures in
+    let pushed : c.push.new.self.items ≡ column_refs ++ column_ref_in cs id ∷ [] = c.in_ok-push.ensures.items ∙ ap (λ (s : ColumnRef). column_refs ++ s ∷ []) c.view_column.ensures in
     let next : id ∷ drop (i + 1) ids ≡ drop i ids = ap (λ (n : ℕ). n ∷ drop (i + 1) ids) c.id-item.is ∙ sym (drop_more ids i _ c.loop-id-test.true) in
     ap (λ (ss : List ColumnRef). ss ++ rest) pushed ∙ append_assoc column_refs (column_ref_in cs id ∷ []) rest
     ∙ ap (λ (ns : List ℕ). column_refs ++ map (column_ref_in cs) ns) next ∙ c.loop-id.invariant
