@@ -24,6 +24,7 @@ use Rattle.ts_core.proofs.store.Cuts.{one_fact, aggregate_where, Holds, CutsAgre
 use Rattle.ts_core.proofs.store.StateLemmas.{is_waiting-there, is_waiting-not, Holds-raw_of, StandsFor-Holds}
 use Rattle.ts_core.proofs.moves.MovesStand.{keys_once, key_there}
 use Rattle.ts_core.proofs.store.ColumnFacts.{facts_of-there, column_there, facts_at-column, facts_at-distinct}
+use Rattle.ts_store.proofs.store.Stands.{waiting_among}
 use Rattle.ts_image.specs.Reloading.{HasSameParts, HaveSameParts, IsReloaded, Reloads}
 
 -- ---- facts of columns in another order
