@@ -203,7 +203,7 @@ last_over bytes line true kept e = cc
 last_over bytes [] false kept e = sym kept.0
 last_over bytes (b ∷ line) false kept e = let r = result_at_end-cons b line in cc
 
--- ---- the turns of the loop: start is the reader with its line cleared, and now the reader at the loop's head
+-- ---- the passes of the loop: start is the reader with its line cleared, and now the reader at the loop's head
 
 abbrev pub Kept : ReaderState → ReaderState → Type 0
 Kept now new = (before : List ℕ) → LineIs before now.line now.long → LineIs (before ++ first_line now.ahead.buffered) new.line new.long

@@ -139,7 +139,7 @@ retained answer s m k i idle r told =
     let marks : answer ≡ line (current_marks_text new) = told ∙ (λ j. line (marks_text (stands.settings j) (stands.marks j))) in
     let lows : k.marks.lows ≡ lows_in (with_begin s) = ap (λ (z : Marks). z.lows) (stands.marks ∙ steps_marks s.store.opening r.steps (Begin s.moment ∷ s.store.history)) in
     let whole : RunsWhole s r.steps (inventory_of k) = record {
-      count = r.reads ∙ (λ j. steps_in (lows j) (all_waiting (i.inventory j)));
+      count = r.inventory_steps ∙ (λ j. steps_in (lows j) (all_waiting (i.inventory j)));
       left = subst (λ (z : Inventory). LeavesRecent (rules_in s) (lows_in (with_begin s)) z (inventory_of k)) i.inventory
           (subst (λ (ls : List ℤ). LeavesRecent (rules_in s) ls (inventory_of m.kept) (inventory_of k)) lows
           (subst (λ (z : Settings). LeavesRecent z.rules k.marks.lows (inventory_of m.kept) (inventory_of k)) i.store.stands.settings r.inventory));

@@ -107,7 +107,7 @@ module _ (settings : Settings) (marks : Marks) (n : ℕ) where
     moved-steps =
         let one : length before.waiting ≡ length rest + 1 = ap (λ (ws : List Column). length ws) waits ∙ (let m : length (s.column ∷ rest) ≡ length rest + 1 = omega arith in m) in
         let others : length moved.waiting ≡ length rest = ap (λ (k : StoreData). length k.waiting) (sym is_moved) in
-        let turns : batches_left (rules_of settings.rules marks.lows moved.cells) ≡ batches_left (rules_of settings.rules marks.lows (cells_of held.rollups)) =
+        let batches : batches_left (rules_of settings.rules marks.lows moved.cells) ≡ batches_left (rules_of settings.rules marks.lows (cells_of held.rollups)) =
         ap (λ (ms : List CellMap). batches_left (rules_of settings.rules marks.lows ms)) cells
         ∙ batches_left-moved s.column (points_below marks.raw s.points) (facts_of (map (kept_points s.column marks.raw) held.columns)) settings.rules marks.lows (cells_of held.rollups) in
         omega arith
@@ -147,7 +147,7 @@ module _ (settings : Settings) (marks : Marks) (n : ℕ) where
     pub removed-steps : steps_left (state_of full) ≡ steps_left (state_of (data_of_parts settings marks n left (Some run))) + 1
     removed-steps =
         let many : length (cells_of held.rollups) ≡ length settings.rules = length-map held.rollups (λ (u : RollupState). u.grid.cells) ∙ rollups-length settings.rules (map column_of held.columns) held.rollups kept.rollups in
-        let turns = batches_left-loses settings.rules marks.lows (cells_of held.rollups) (cells_of left.rollups) many loses in
+        let batches = batches_left-loses settings.rules marks.lows (cells_of held.rollups) (cells_of left.rollups) many loses in
         let same = ap (λ (k : StoreData). steps_left (state_of k)) is_removed in
         omega arith
 
@@ -327,7 +327,7 @@ module _ (settings : Settings) (marks : Marks) (n : ℕ) (held after : StoreCont
   end_last None all above = absurd (true≢false (sym all.running))
   end_last (Some r) all above =
       let waits : length (waiting_in (Some r) held.columns) ≡ 0 = ap (λ (ws : List Column). length ws) all.none in
-      let turns = batches_left-above settings.rules marks.lows (cells_of held.rollups) above in
+      let batches = batches_left-above settings.rules marks.lows (cells_of held.rollups) above in
       let one : steps_left (state_of (data_of_parts settings marks n held (Some r))) ≡ 1 = omega arith in
       subst (λ (k : StoreData). steps_left (state_of k) ≡ 1) all.shown one
 

@@ -182,7 +182,7 @@ one_taken lows old s t taken answer since moved (StepsTo.removes cells waits fir
     let one = first_turn lows s.cells cells first in
     let before = since.count in
     record { columns = since.columns; cells = all_kept_then lows old.cells s.cells cells since.cells (first_kept lows s.cells cells first); count = omega (arith, one, before) }
-one_taken lows old s t taken answer since moved (StepsTo.ends waits turns) = absurd cc
+one_taken lows old s t taken answer since moved (StepsTo.ends waits batches) = absurd cc
 
 -- ---- a whole run
 
@@ -226,14 +226,14 @@ pub record HasEnded (rules : List Rule) (lows : List ℤ) (old new : Inventory) 
 ended_now : (rules : List Rule) (lows : List ℤ) (old s : Inventory) (ns : List CellMap) (taken : ℕ) → s.cells ≡ all_keys ns → s.waiting ≡ [] → batches_in lows s.cells ≡ 0 → KeptSince lows old s taken → HasEnded rules lows old s taken
 ended_now rules lows old s ns taken keys waits none since =
     let kept : KeepAll lows old.cells (all_keys ns) = subst (KeepAll lows old.cells) keys since.cells in
-    let turns : batches_in lows (all_keys ns) ≡ 0 = sym (ap (batches_in lows) keys) ∙ none in
+    let batches : batches_in lows (all_keys ns) ≡ 0 = sym (ap (batches_in lows) keys) ∙ none in
     let before = since.count in
     let no_column : length s.waiting ≡ 0 = ap length waits in
     record {
       recent = record {
         columns = since.columns;
         waiting = waits;
-        cells = subst (OfRules (λ r. LeavesFrom) rules lows old.cells) (sym keys) (kept_length lows old.cells (all_keys ns) kept, λ i r low a b at_rule at_low at_old at_new. recent_at lows old.cells ns kept turns i low a b at_low at_old at_new);
+        cells = subst (OfRules (λ r. LeavesFrom) rules lows old.cells) (sym keys) (kept_length lows old.cells (all_keys ns) kept, λ i r low a b at_rule at_low at_old at_new. recent_at lows old.cells ns kept batches i low a b at_low at_old at_new);
       };
       count = omega (arith, before, none, no_column);
     }
@@ -241,7 +241,7 @@ ended_now rules lows old s ns taken keys waits none since =
 over : (rules : List Rule) (lows : List ℤ) (old s t : Inventory) (ns : List CellMap) (taken : ℕ) (answer : StepAnswer) → t.cells ≡ all_keys ns → KeptSince lows old s taken → answer ≡ Done → StepsTo lows s answer t → HasEnded rules lows old t taken
 over rules lows old s t ns taken answer keys since done (StepsTo.moves column others waits) = absurd cc
 over rules lows old s t ns taken answer keys since done (StepsTo.removes cells waits first) = absurd cc
-over rules lows old s t ns taken answer keys since done (StepsTo.ends waits turns) = ended_now rules lows old s ns taken keys waits turns since
+over rules lows old s t ns taken answer keys since done (StepsTo.ends waits batches) = ended_now rules lows old s ns taken keys waits batches since
 
 pub run_over : (rules : List Rule) (lows : List ℤ) (old s : Inventory) (new : StoreData) (taken : ℕ) (answer : StepAnswer) → KeptSince lows old s taken → answer ≡ Done → StepsTo lows s answer (inventory_of new) → HasEnded rules lows old (inventory_of new) taken
 run_over rules lows old s new taken answer since done step = over rules lows old s (inventory_of new) new.cells taken answer refl since done step

@@ -77,7 +77,7 @@ pub record Retains (now : ℤ) (old new : StoreData) : Type 0 where
   pub steps : ℕ
   -- with the last step, as many as were left after the begin
   pub count : steps + 1 ≡ steps_left (state_of (run_begun now old))
-  pub turns : steps + 1 ≡ steps_in new.marks.lows (all_waiting (inventory_of old))
+  pub inventory_steps : steps + 1 ≡ steps_in new.marks.lows (all_waiting (inventory_of old))
   pub history : OfEachHistory old (λ opening h. StandsFor opening (whole_run now steps h) (state_of new))
   pub marks : new.marks ≡ (run_begun now old).marks
   pub idle : new.running ≡ false
