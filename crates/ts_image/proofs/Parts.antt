@@ -3,7 +3,7 @@ use Rattle.std.proofs.Common.{◌≡◌, ℕ, zero, suc, ◌+◌, ◌≤◌, Lis
 use Rattle.std.specs.Int.{Width}
 use Rattle.std.proofs.lemmas.List.{length-append, length-replicate}
 use Rattle.ts_image.specs.Formats.{Cursor, concat, Read, ◌>>=◌, Format, spelling, number, nothing, and, iso, FitAlong, read_along, along, times, list_of}
-use Rattle.ts_image.specs.FormatLaws.{AreBytes, reach, Takes, Reaches, IsFormat}
+use Rattle.ts_image.specs.FormatLaws.{AreBytes, reach, ReadsValue, Reaches, IsFormat}
 use Rattle.ts_image.proofs.Fields.{bind_ok, bind_err, done, ok_is, nothing_format, done_not_failed}
 
 pub concat-append : (fs gs : List (List ℕ)) → concat (fs ++ gs) ≡ concat fs ++ concat gs
