@@ -7,6 +7,7 @@ use Rattle.std.specs.Cmp.{int_cmp_total}
 use Rattle.std.specs.FinMap as map
 use Rattle.std.specs.FinMap.{put, entries, entries-insert}
 use Rattle.std.specs.FinMap.Entries.{where_key, is_sorted-where_key}
+use Rattle.ts_raw.specs.BlockColumns.{BlockColumnState}
 use Rattle.ts_raw.specs.Columns.{ColumnState, points_from}
 use Rattle.ts_raw.specs.PlainColumns.{IsRising}
 use Rattle.ts_raw.specs.BufferedColumns.{both_points, one_staged, AreBefore, IsLate, IsBufferedColumn}
@@ -19,7 +20,7 @@ none_some x e h = true≢false (sym h ∙ ap is_some e)
 
 -- ---- where no point is staged
 
-module _ (b u : ColumnState) (b_none : b.staged ≡ None) (u_none : u.staged ≡ None) where
+module _ (b : BlockColumnState) (u : ColumnState) (b_none : b.staged ≡ None) (u_none : u.staged ≡ None) where
   pub settled : IsRising (entries b.points ++ entries u.points) → (length (entries u.points) ≡ 0 → length (entries b.points) ≡ 0)
       → length (entries u.points) ≤ 512 → length (entries b.points) + length (entries u.points) ≤ 18446744073709551615 → IsBufferedColumn b u
   settled rising some fits few = record {
@@ -34,7 +35,7 @@ module _ (b u : ColumnState) (b_none : b.staged ≡ None) (u_none : u.staged ≡
   }
 
 -- the same points, and none is staged
-pub unstaged : (b u c v : ColumnState) → IsBufferedColumn b u → c.points ≡ b.points → v.points ≡ u.points → c.staged ≡ None → v.staged ≡ None → IsBufferedColumn c v
+pub unstaged : (b : BlockColumnState) (u : ColumnState) (c : BlockColumnState) (v : ColumnState) → IsBufferedColumn b u → c.points ≡ b.points → v.points ≡ u.points → c.staged ≡ None → v.staged ≡ None → IsBufferedColumn c v
 unstaged b u c v h e f c_none v_none =
     let xs : entries c.points ≡ entries b.points = ap entries e in
     let ys : entries v.points ≡ entries u.points = ap entries f in
@@ -49,7 +50,7 @@ unstaged b u c v h e f c_none v_none =
 
 -- ---- the staged point is inserted
 
-module _ (b u : ColumnState) (p : ℤ × ℤ) (h : IsBufferedColumn b u) where
+module _ (b : BlockColumnState) (u : ColumnState) (p : ℤ × ℤ) (h : IsBufferedColumn b u) where
   abbrev xs : List (ℤ × ℤ)
   xs = entries b.points
 
@@ -59,7 +60,7 @@ module _ (b u : ColumnState) (p : ℤ × ℤ) (h : IsBufferedColumn b u) where
   one_more : one_staged b.staged u.staged ≡ Some p → length xs + length ys < 18446744073709551615
   one_more e = h.one_more (ap is_some e)
 
-  module _ (c : ColumnState) (staged : b.staged ≡ Some p) (is : c.points ≡ map.insert b.points p.0 p.1) (none : c.staged ≡ None) where
+  module _ (c : BlockColumnState) (staged : b.staged ≡ Some p) (is : c.points ≡ map.insert b.points p.0 p.1) (none : c.staged ≡ None) where
     late : IsLate p u
     late = subst (λ (x : Option (ℤ × ℤ)). IfSome x (λ q. IsLate q u)) staged h.late
 
@@ -104,11 +105,11 @@ module _ (b u : ColumnState) (p : ℤ × ℤ) (h : IsBufferedColumn b u) where
 
 -- ---- the same where it is asked which of the two has a staged point
 
-module _ (b u : ColumnState) (h : IsBufferedColumn b u) where
-  abbrev IsPutBoth : ColumnState → ColumnState → Type 0
+module _ (b : BlockColumnState) (u : ColumnState) (h : IsBufferedColumn b u) where
+  abbrev IsPutBoth : BlockColumnState → ColumnState → Type 0
   IsPutBoth c v = IfSome (one_staged b.staged u.staged) (λ p. both_points c.points v.points ≡ map.insert (both_points b.points u.points) p.0 p.1)
 
-  pub commit_late : (c : ColumnState) → is_some b.staged ≡ true → IfSome b.staged (λ p. c.points ≡ map.insert b.points p.0 p.1) → c.staged ≡ None → IsBufferedColumn c u × IsPutBoth c u
+  pub commit_late : (c : BlockColumnState) → is_some b.staged ≡ true → IfSome b.staged (λ p. c.points ≡ map.insert b.points p.0 p.1) → c.staged ≡ None → IsBufferedColumn c u × IsPutBoth c u
   commit_late c some put none = by_staged b.staged refl some put
     where
       by_staged : (x : Option (ℤ × ℤ)) → b.staged ≡ x → is_some x ≡ true → IfSome x (λ p. c.points ≡ map.insert b.points p.0 p.1) → IsBufferedColumn c u × IsPutBoth c u
@@ -131,7 +132,7 @@ module _ (b u : ColumnState) (h : IsBufferedColumn b u) where
 
 -- ---- the first points of the buffer are moved into a block
 
-module _ (b u c v : ColumnState) (h : IsBufferedColumn b u) (k : ℕ) (more : k < length (entries u.points))
+module _ (b : BlockColumnState) (u : ColumnState) (c : BlockColumnState) (v : ColumnState) (h : IsBufferedColumn b u) (k : ℕ) (more : k < length (entries u.points))
     (pushed : entries c.points ≡ entries b.points ++ take k (entries u.points)) (left : entries v.points ≡ drop k (entries u.points)) where
   same : entries c.points ++ entries v.points ≡ entries b.points ++ entries u.points
   same =
@@ -155,7 +156,7 @@ module _ (b u c v : ColumnState) (h : IsBufferedColumn b u) (k : ℕ) (more : k 
 pub fewer : (p : ℤ × ℤ → Bool) (xs : List (ℤ × ℤ)) → length (filter p xs) ≤ length xs
 fewer p xs = let e = length-filter_both p (λ x. not (p x)) (λ x. refl) xs in omega arith
 
-module _ (b u c v : ColumnState) (h : IsBufferedColumn b u) (handle : ℤ) (e : c.points ≡ points_from b.points handle) (f : v.points ≡ points_from u.points handle) where
+module _ (b : BlockColumnState) (u : ColumnState) (c : BlockColumnState) (v : ColumnState) (h : IsBufferedColumn b u) (handle : ℤ) (e : c.points ≡ points_from b.points handle) (f : v.points ≡ points_from u.points handle) where
   parts : entries c.points ++ entries v.points ≡ where_key int_cmp (int_le handle) (entries b.points ++ entries u.points)
   parts =
       (λ i. (ap entries e ∙ from_entries_at b.points handle) i ++ (ap entries f ∙ from_entries_at u.points handle) i)

@@ -2,6 +2,7 @@
 use Rattle.std.specs.Prelude.{◌≡◌, ◌+◌, ◌<◌, ◌≤◌, ℤ, ◌<ℤ◌, List, ◌++◌, length, Option, Some, None, IsSome, IfSome}
 use Rattle.std.specs.FinMap as map
 use Rattle.std.specs.List.{AllByRecursion}
+use Rattle.ts_raw.specs.BlockColumns.{BlockColumnState}
 use Rattle.ts_raw.specs.Columns.{PointMap, ColumnState}
 use Rattle.ts_raw.specs.PlainColumns.{IsRising}
 
@@ -29,7 +30,7 @@ pub record IsLate (p : ℤ × ℤ) (buffer : ColumnState) : Type 0 where
   pub after : AreAfter p.0 (map.entries buffer.points)
 
 -- the buffer's points are after those of the blocks. It has at most 512, and some if the blocks have
-pub record IsBufferedColumn (blocks buffer : ColumnState) : Type 0 where
+pub record IsBufferedColumn (blocks : BlockColumnState) (buffer : ColumnState) : Type 0 where
   pub rising : IsRising (map.entries blocks.points ++ map.entries buffer.points)
   pub some : length (map.entries buffer.points) ≡ 0 → length (map.entries blocks.points) ≡ 0
   pub fits : length (map.entries buffer.points) ≤ 512

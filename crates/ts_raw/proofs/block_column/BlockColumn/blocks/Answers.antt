@@ -1,9 +1,7 @@
 use Rattle.std.proofs.Common.{ℕ, ℤ, List, drop, sym, ap, subst, ◌∙◌, int_cmp}
-use Rattle.std.specs.FinMap as map
 use Rattle.std.specs.FinMap.{entries-from_sorted}
 use Rattle.ts_raw.specs.declared.block_handle.BlockHandle.{BlockHandle}
-use Rattle.ts_raw.specs.Columns.{ColumnState}
-use Rattle.ts_raw.specs.BlockColumns.{HoldPoints, texts_at}
+use Rattle.ts_raw.specs.BlockColumns.{BlockColumnState, HoldPoints, texts_at}
 use Rattle.ts_raw.specs.CodedPoints.{AreBlockHandles, coded_points, blocks_at}
 use Rattle.ts_raw.proofs.CutLemmas.{is_rising_behind}
 use Rattle.ts_raw.proofs.BlockLists.{coded_concat}
@@ -21,10 +19,9 @@ returns g c =
     let cut : ℕ = c.self.inside.cut in
     let all : List (ℤ × ℤ) = coded_points bytes ms in
     let texts = c.new.ensures ∙ (λ i. texts_at (c.as_slice.ensures.value i) (c.as_slice-2.ensures.value i)) in
-    subst (HoldPoints c.args.self.now.points) (sym texts) (record {
-      parts = blocks_at bytes ms;
+    subst (λ (x : BlockColumnState). HoldPoints x.points x.blocks c.new.result) c.self.view_is (subst (HoldPoints _ (blocks_at bytes ms)) (sym texts) (record {
       blocks = blocks_are bytes ms 0 c.self.invariant.counted.coded.marked;
       removed = cut;
       few = cut_few bytes ms cut c.self.invariant.counted.coded.marked c.self.invariant.cut_fits;
-      points_are = sym (ap (λ (s : ColumnState). map.entries s.points) c.self.view_is) ∙ entries-from_sorted int_cmp (drop cut all) (is_rising_behind cut all c.self.invariant.counted.coded.rising) ∙ ap (drop cut) (coded_concat bytes ms);
-    })
+      points_are = entries-from_sorted int_cmp (drop cut all) (is_rising_behind cut all c.self.invariant.counted.coded.rising) ∙ ap (drop cut) (coded_concat bytes ms);
+    }))

@@ -2,7 +2,7 @@ use Rattle.std.proofs.Common.{◌≡◌, ◌-◌, ℕ, ℤ, List, length, take, 
 use Rattle.std.proofs.Math.Seq.{take-length}
 use Rattle.std.specs.FinMap as map
 use Rattle.std.specs.FinMap.{entries-from_sorted}
-use Rattle.ts_raw.specs.Columns.{ColumnState}
+use Rattle.ts_raw.specs.BlockColumns.{BlockColumnState}
 use Rattle.ts_raw.specs.CodedPoints.{coded_points}
 use Rattle.ts_raw.proofs.CutLemmas.{is_rising_behind}
 use Rattle.ts_raw.proofs.ColumnBlocks.{cut_within}
@@ -28,4 +28,4 @@ returns-clause-points g c =
     let total = c.self.invariant.counted.total_is in
     let count : c.self.inside.total - cut ≡ length (drop cut points) = let n = length-drop cut points in omega arith in
     c.walk.ensures ∙ (λ i. take (count i) (drop cut (coded_points (c.as_slice.ensures.value i) (c.as_slice-2.ensures.value i)))) ∙ take-length (drop cut points)
-    ∙ sym (entries-from_sorted int_cmp (drop cut points) (is_rising_behind cut points c.self.invariant.counted.coded.rising)) ∙ ap (λ (s : ColumnState). map.entries s.points) c.self.view_is
+    ∙ sym (entries-from_sorted int_cmp (drop cut points) (is_rising_behind cut points c.self.invariant.counted.coded.rising)) ∙ ap (λ (s : BlockColumnState). map.entries s.points) c.self.view_is

@@ -2,7 +2,8 @@ use Rattle.std.proofs.Common.{rules, ◌≡◌, ◌≤◌, ℤ, List, length, fi
 use Rattle.std.specs.FinMap as map
 use Rattle.std.specs.FinMap.{entries-from_sorted}
 use Rattle.ts_core.specs.facts.Facts.{is_within}
-use Rattle.ts_raw.specs.Columns.{ColumnState, AreTimed, points_within}
+use Rattle.ts_raw.specs.BlockColumns.{BlockColumnState}
+use Rattle.ts_raw.specs.Columns.{AreTimed, points_within}
 use Rattle.ts_raw.specs.CodedPoints.{coded_points}
 use Rattle.ts_raw.proofs.CutLemmas.{is_rising_behind, timed_behind}
 use Rattle.ts_raw.proofs.ColumnBlocks.{cut_within}
@@ -23,10 +24,10 @@ returns-clause-points g c =
     c.between.ensures.points
     ∙ (λ i. within (to_z-of_z from_fits i) (to_z-of_z to_fits i) (drop c.self.inside.cut (coded_points (c.as_slice.ensures.value i) (c.as_slice-2.ensures.value i))))
     ∙ ap (within c.args.from c.args.to) (sym (entries-from_sorted int_cmp points (is_rising_behind c.self.inside.cut all c.self.invariant.counted.coded.rising)))
-    ∙ ap (λ (s : ColumnState). points_within s.points c.args.from c.args.to) c.self.view_is
+    ∙ ap (λ (s : BlockColumnState). points_within s.points c.args.from c.args.to) c.self.view_is
 
 pub returns-clause-all_timed : goal.returns-clause-all_timed
 returns-clause-all_timed g c =
     let all : List (ℤ × ℤ) = coded_points c.self.inside.bytes.items c.self.inside.handles.items in
-    subst AreTimed (sym (entries-from_sorted int_cmp (drop c.self.inside.cut all) (is_rising_behind c.self.inside.cut all c.self.invariant.counted.coded.rising)) ∙ ap (λ (s : ColumnState). map.entries s.points) c.self.view_is)
+    subst AreTimed (sym (entries-from_sorted int_cmp (drop c.self.inside.cut all) (is_rising_behind c.self.inside.cut all c.self.invariant.counted.coded.rising)) ∙ ap (λ (s : BlockColumnState). map.entries s.points) c.self.view_is)
     (timed_behind c.self.inside.cut all c.self.invariant.counted.coded.timed)

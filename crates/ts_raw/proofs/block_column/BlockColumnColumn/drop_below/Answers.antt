@@ -1,8 +1,8 @@
 use Rattle.std.proofs.Common.{rules, ◌≡◌, ℕ, ℤ, List, length, drop, filter, int_le, int_cmp, sym, ap, subst, ◌∙◌, arith, Fits, w64, vec_capacity, None}
 use Rattle.std.specs.FinMap as map
 use Rattle.ts_raw.specs.declared.block_handle.BlockHandle.{BlockHandle}
-use Rattle.ts_raw.specs.Columns.{ColumnState, points_from}
-use Rattle.ts_raw.specs.BlockColumns.{IsColumn}
+use Rattle.ts_raw.specs.Columns.{points_from}
+use Rattle.ts_raw.specs.BlockColumns.{BlockColumnState, IsColumn}
 use Rattle.ts_raw.specs.CodedPoints.{CutFits, blocks_at, coded_points, with_starts}
 use Rattle.ts_raw.proofs.PointMaps.{kept_map}
 use Rattle.ts_raw.proofs.CutLemmas.{is_rising_behind}
@@ -55,4 +55,4 @@ returns-clause-kept g c =
     ∙ ap (λ (x : List (ℤ × ℤ)). map.from_sorted {R = int_cmp} (drop cut x)) (column g a.After-cut_below-at 0).1
     ∙ ap (map.from_sorted {R = int_cmp}) ((λ i. drop cut (coded_points (sym c.as_slice.ensures.value i) (drop c.cut_below-at.result.0 (sym c.as_slice-2.ensures.value i)))) ∙ c.cut_below-at.ensures.kept ∙ (λ i. filter (λ (p : ℤ × ℤ). int_le c.args.mark p.0) (drop c.self.inside.cut (coded_points (c.as_slice.ensures.value i) (c.as_slice-2.ensures.value i)))))
     ∙ kept_map all (is_rising_behind c.self.inside.cut (coded_points bytes ms) c.self.invariant.counted.coded.rising) (int_le c.args.mark)
-    ∙ ap (λ (s : ColumnState). points_from s.points c.args.mark) c.self.view_is
+    ∙ ap (λ (s : BlockColumnState). points_from s.points c.args.mark) c.self.view_is

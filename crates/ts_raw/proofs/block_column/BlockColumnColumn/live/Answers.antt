@@ -1,6 +1,6 @@
 use Rattle.std.proofs.Common.{◌-◌, sym, ap, ◌∙◌, arith}
 use Rattle.std.specs.FinMap as map
-use Rattle.ts_raw.specs.Columns.{ColumnState}
+use Rattle.ts_raw.specs.BlockColumns.{BlockColumnState}
 use Rattle.ts_raw.specs.CodedPoints.{coded_points}
 use Rattle.ts_raw.proofs.CutLemmas.{cut_length}
 use Rattle.ts_raw.proofs.ColumnBlocks.{cut_within}
@@ -16,4 +16,4 @@ pub returns : goal.returns
 returns g c =
     ap (λ n. n - c.self.inside.cut) c.self.invariant.counted.total_is
     ∙ sym (cut_length c.self.inside.cut (coded_points c.self.inside.bytes.items c.self.inside.handles.items) c.self.invariant.counted.coded.rising)
-    ∙ ap (λ (s : ColumnState). map.len s.points) c.self.view_is
+    ∙ ap (λ (s : BlockColumnState). map.len s.points) c.self.view_is

@@ -1,17 +1,17 @@
 use Rattle.std.proofs.Common.{ℤ, List, drop, int_cmp, ap, ◌∙◌}
 use Rattle.std.specs.FinMap as map
-use Rattle.ts_raw.specs.Columns.{ColumnState}
+use Rattle.ts_raw.specs.BlockColumns.{BlockColumnState}
 use Rattle.ts_raw.proofs.BlockLists.{same_points}
 use Rattle.ts_raw.proofs.block_column.BlockColumnColumn.prepare.Goals as goal
 
 pub returns-in_err-staged-clause-unchanged : goal.returns-in_err-staged-clause-unchanged
 returns-in_err-staged-clause-unchanged g c =
-    ap (λ (x : List (ℤ × ℤ)). map.from_sorted {R = int_cmp} (drop c.self.inside.cut x)) (same_points _ _ _ _ c.stage.ensures.blocks) ∙ ap (λ (s : ColumnState). s.points) c.self.view_is
+    ap (λ (x : List (ℤ × ℤ)). map.from_sorted {R = int_cmp} (drop c.self.inside.cut x)) (same_points _ _ _ _ c.stage.ensures.blocks) ∙ ap (λ (s : BlockColumnState). s.points) c.self.view_is
 
 pub returns-clause-unchanged : goal.returns-clause-unchanged
 returns-clause-unchanged g c =
-    ap (λ (x : List (ℤ × ℤ)). map.from_sorted {R = int_cmp} (drop c.self.inside.cut x)) (same_points _ _ _ _ c.stage.ensures.blocks) ∙ ap (λ (s : ColumnState). s.points) c.self.view_is
+    ap (λ (x : List (ℤ × ℤ)). map.from_sorted {R = int_cmp} (drop c.self.inside.cut x)) (same_points _ _ _ _ c.stage.ensures.blocks) ∙ ap (λ (s : BlockColumnState). s.points) c.self.view_is
 
 pub returns-in_err-new-clause-unchanged : goal.returns-in_err-new-clause-unchanged
 returns-in_err-new-clause-unchanged g c =
-    ap (λ (x : List (ℤ × ℤ)). map.from_sorted {R = int_cmp} (drop c.self.inside.cut x)) (same_points _ _ _ _ c.stage.ensures.blocks) ∙ ap (λ (s : ColumnState). s.points) c.self.view_is
+    ap (λ (x : List (ℤ × ℤ)). map.from_sorted {R = int_cmp} (drop c.self.inside.cut x)) (same_points _ _ _ _ c.stage.ensures.blocks) ∙ ap (λ (s : BlockColumnState). s.points) c.self.view_is

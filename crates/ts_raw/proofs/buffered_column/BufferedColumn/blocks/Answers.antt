@@ -7,6 +7,7 @@ use Rattle.ts_raw.proofs.buffered_column.BufferedColumn.blocks.Goals as goal
 pub returns : goal.returns
 returns g c = record {
   older = c.self.inside.blocks.points;
+  parts = c.self.inside.blocks.blocks;
   blocks = c.blocks-2.ensures;
   latest = map.entries c.self.inside.buffer.points;
   few = c.self.invariant.fits;
