@@ -1,5 +1,5 @@
 -- The first store of a service, and its report if it can't begin or isn't saved. (Own rule.)
-use Rattle.std.specs.Prelude.{◌≡◌, ◌^◌, ◌++◌, ℕ, codes, Ok}
+use Rattle.std.specs.Prelude.{◌≡◌, ◌⊎◌, ◌^◌, ◌++◌, ℕ, codes, Ok}
 use Rattle.ts_core.specs.facts.Facts.{Text}
 use Rattle.ts_core.specs.io.Devices.{Input}
 use Rattle.ts_core.specs.settings.Settings.{Settings}
@@ -24,6 +24,10 @@ IsNew text store = (settings : Settings) × (settings_read text ≡ Ok settings)
 abbrev pub service_status : ServiceFault → ℕ
 service_status OutOfMemory = 3
 service_status other = 1
+
+-- 0 once the image is saved at the end, otherwise that of a fault
+abbrev pub IsServiceStatus : ℕ → Type 0
+IsServiceStatus status = (status ≡ 0) ⊎ ((fault : ServiceFault) × (status ≡ service_status fault))
 
 -- the line for standard error; it names the file that is at fault
 abbrev pub service_line : Service → ServiceFault → Text

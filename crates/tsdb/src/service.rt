@@ -1,10 +1,11 @@
 //! `tsdb serve`: a store that is loaded from its image or has the settings of a file, and the requests of a port.
 ghost use Rattle.std.specs.Prelude.{◌≡◌, ◌++◌, ◌⊎◌, IfOk, IfErr, OnOk, Err, string_bytes};
+ghost use Rattle.std.specs.Process.{exit_status};
 ghost use Rattle.ts_core.specs.facts.Facts.{Text};
 ghost use Rattle.ts_core.specs.settings.SettingsTexts.{settings_read};
 ghost use Rattle.ts_core.specs.declared.settings.settings_fault.SettingsError.TheVariants as errors;
 ghost use Rattle.ts_core.specs.declared.settings.settings_fault.SettingsFault.{SettingsFault};
-ghost use Rattle.tsdb.specs.Services.{IsFromImage, IsNew, service_status, service_line};
+ghost use Rattle.tsdb.specs.Services.{IsFromImage, IsNew, IsServiceStatus, service_status, service_line};
 
 use crate::command_line::Service;
 use crate::image_file::load_image;
@@ -160,10 +161,12 @@ where
     }
 }
 
-/// Serves the requests, and returns the exit status. A fault is printed on standard error.
+/// Serves the requests, and returns the exit status: 0 once the image is saved at the end, otherwise that of the fault.
+/// A fault is printed on standard error.
 pub fn serve<R>(rt: &R, service: &Service<'_>) -> ExitCode
 where
     R: Files + Clock + AllocGlobal + Eprint + Net<Listener = TcpListener, Stream = TcpStream>,
+    ensures { IsServiceStatus (exit_status result) }
 {
     match run_service(rt, service) {
         Ok(()) => ExitCode::from(0),
