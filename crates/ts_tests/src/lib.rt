@@ -1,7 +1,7 @@
 //! Tests of properties that only a call shows: bytes of blocks and images, failing devices, stale plans, columns, spans
-//! of lines, and limits. Others are of a view that shows no history, and of an allocator that refuses one request.
-//! Depends on libraries, and nothing depends on it, so no other crate is proved again for its tests. All its code is
-//! tests; it proves nothing.
+//! of lines, texts of errors, and limits. Others are of a view that shows no history, and of an allocator that refuses
+//! one request. Depends on libraries, and nothing depends on it, so no other crate is proved again for its tests. All
+//! its code is tests; it proves nothing.
 #![tactic(auto)]
 
 #[cfg(test)]
@@ -12,6 +12,8 @@ mod cell_limits;
 mod columns;
 #[cfg(test)]
 mod devices;
+#[cfg(test)]
+mod error_texts;
 #[cfg(test)]
 mod image_bytes;
 #[cfg(test)]
