@@ -25,7 +25,7 @@ abbrev pub service_status : ServiceFault → ℕ
 service_status OutOfMemory = 3
 service_status other = 1
 
--- 0 once the image is saved at the end, otherwise that of a fault
+-- 0, or that of a fault; which of them depends on files and sockets
 abbrev pub IsServiceStatus : ℕ → Type 0
 IsServiceStatus status = (status ≡ 0) ⊎ ((fault : ServiceFault) × (status ≡ service_status fault))
 
