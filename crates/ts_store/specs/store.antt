@@ -1,6 +1,7 @@
 -- The columns and cells of a store, and plain facts about them.
 -- cited by public contracts and laws
 pub mod Inventories
+pub mod WholeStates
 -- used only by models and proofs of the code
 pub mod ColumnStates
 pub mod CellCounts
