@@ -3,6 +3,7 @@ use Rattle.std.proofs.Common.{◌≡◌, ◌⊎◌, ⊎_elim, ℤ, List, [], ◌
 use Rattle.std.specs.Str.{IsUtf8}
 use Rattle.std.specs.Io.KnownBytes.{Appends}
 use Rattle.std.proofs.KnownBytes.{Appends-trans}
+use Rattle.std.proofs.lemmas.Option.{none-some}
 use Rattle.ts_core.specs.facts.Facts.{Text, same_text}
 use Rattle.ts_core.specs.store.StoreData.{StoreData, OfEachHistory}
 use Rattle.ts_core.specs.io.Devices.{Output, IsPut, AppendsFront}
@@ -12,7 +13,8 @@ use Rattle.ts_reply.specs.Explaining.{IsExplanation}
 use Rattle.ts_reply.specs.declared.answering.Reply.{Reply}
 use Rattle.ts_reply.specs.declared.epoch.Epoch.{Epoch}
 use Rattle.ts_http.specs.Acts.{Replied, refusing, batch_reply, precision_in, epoch_parameter, explain_parameter, value_in, Writes, Queries}
-use Rattle.ts_store.specs.write.LineTexts.{LineState, IsStateOf, refusal_text}
+use Rattle.ts_store.specs.write.LineTexts.{refusal_text}
+use Rattle.ts_store.specs.store.WholeStates.{WholeState, IsWholeStateOf}
 use Rattle.ts_store.specs.declared.write.write_text.LineOutcome.{LineOutcome}
 use Rattle.ts_http.specs.Batches.{refusals_of}
 use Rattle.ts_http.specs.OutcomeReplies.{reply_of, WritesAs, QueriesAs, answered_reply}
@@ -62,22 +64,34 @@ both_put old mid new (Err e) head body a f p = record {
 
 module _ (now : ℤ) (query body : Text) (k : StoreData) where
   pub write_refused : (r : Refusal) → IsUtf8 body → (r ≡ refusals.OutOfMemory) ⊎ ((precision_in query ≡ None) × (r ≡ refusals.BadPrecision)) → WritesAs now query body k (outcomes.Refused r) k
-  write_refused r utf8 why = λ s i.
-      (s, ⊎_elim {C = Writes now s query body (refusing r) s} (λ e. subst (λ q. Writes now s query body (refusing q) s) (sym e) (Writes.wants_memory utf8)) (λ w. subst (λ q. Writes now s query body (refusing q) s) (sym w.1) (Writes.bad_precision utf8 w.0)) why, i)
+  write_refused r utf8 why = (
+    λ s i. (s, ⊎_elim {C = Writes now s query body (refusing r) s} (λ e. subst (λ q. Writes now s query body (refusing q) s) (sym e) (Writes.wants_memory utf8)) (λ w. subst (λ q. Writes now s query body (refusing q) s) (sym w.1) (Writes.bad_precision utf8 w.0)) why, i),
+    λ l. refl,
+  )
 
   pub write_no_text : (IsUtf8 body → ⊥) → WritesAs now query body k (outcomes.Refused refusals.BodyNotText) k
-  write_no_text none = λ s i. (s, Writes.not_text none, i)
+  write_no_text none = (λ s i. (s, Writes.not_text none, i), λ l. refl)
 
-  pub lines_written : (E : Type 0) (precision : TimeUnit) (new : StoreData) (tally : Tally) (o : Outcome) → IsUtf8 body → precision_in query ≡ Some precision → ((s : LineState) → IsStateOf s k → WritesLines precision now s body {E = E} (Ok tally) new)
+  -- a body that is read isn't refused
+  was_read : (precision : TimeUnit) (P : Type 0) → IsUtf8 body → precision_in query ≡ Some precision → (IsUtf8 body → ⊥) ⊎ (precision_in query ≡ None) → P
+  was_read precision P utf8 p why = ⊎_elim {C = P} (λ no. absurd (no utf8)) (λ none. absurd (none-some precision (sym none ∙ p))) why
+
+  pub lines_written : (E : Type 0) (precision : TimeUnit) (new : StoreData) (tally : Tally) (o : Outcome) → IsUtf8 body → precision_in query ≡ Some precision → ((s : WholeState) → IsWholeStateOf s k → WritesLines precision now s body {E = E} (Ok tally) new)
       → ((os : List LineOutcome) → TallyIs (map refusal_text os) tally → reply_of false o ≡ batch_reply (refusals_of os)) → WritesAs now query body k o new
-  lines_written E precision new tally o utf8 p did told = λ s i.
-      let d = did s i in
-      (d.1, subst (λ (r : Replied). Writes now s query body r d.1) (sym (told d.0 d.3)) (Writes.writes precision d.0 d.1 utf8 p d.2), d.4)
+  lines_written E precision new tally o utf8 p did told = (
+    λ s i.
+    let d = did s i in
+    (d.1, subst (λ (r : Replied). Writes now s query body r d.1) (sym (told d.0 d.3)) (Writes.writes precision d.0 d.1 utf8 p d.2), d.4),
+    was_read precision (new ≡ k) utf8 p,
+  )
 
-  pub lines_stopped : (E : Type 0) (precision : TimeUnit) (new : StoreData) (e : E) → IsUtf8 body → precision_in query ≡ Some precision → ((s : LineState) → IsStateOf s k → WritesLines precision now s body {E = E} (Err e) new) → WritesAs now query body k (outcomes.Refused refusals.OutOfMemory) new
-  lines_stopped E precision new e utf8 p did = λ s i.
-      let d = did s i in
-      (d.0, Writes.stops precision d.0 utf8 p d.1, d.2)
+  pub lines_stopped : (E : Type 0) (precision : TimeUnit) (new : StoreData) (e : E) → IsUtf8 body → precision_in query ≡ Some precision → ((s : WholeState) → IsWholeStateOf s k → WritesLines precision now s body {E = E} (Err e) new) → WritesAs now query body k (outcomes.Refused refusals.OutOfMemory) new
+  lines_stopped E precision new e utf8 p did = (
+    λ s i.
+    let d = did s i in
+    (d.0, Writes.stops precision d.0 utf8 p d.1, d.2),
+    was_read precision (new ≡ k) utf8 p,
+  )
 
 -- ---- /query
 
@@ -99,10 +113,10 @@ module _ (now : ℤ) (query body : Text) (k : StoreData) (utf8 : IsUtf8 body) wh
 
     pub answered_so : {E : Type 0} (text : Text) (r : Result Reply E) (o : Outcome) → explain_parameter (value_in (codes "explain") query body) ≡ Some false → value_in (codes "q") query body ≡ Some text
         → IfOk r (λ reply. OfEachHistory k (λ opening h. IsReply opening h now text (value_in (codes "cert") query body) epoch reply.good (string_bytes reply.body))) → reply_of false o ≡ answered_reply r → QueriesAs now query body k o
-    answered_so text (Ok reply) o x q is told = λ s i. subst (Queries now s query body) (sym told) (Queries.answers epoch text reply.good (string_bytes reply.body) utf8 e x q (is s.opening s.history i.stands))
+    answered_so text (Ok reply) o x q is told = λ s i. subst (Queries now s query body) (sym told) (Queries.answers epoch text reply.good (string_bytes reply.body) utf8 e x q (is s.store.opening s.store.history i.store.stands))
     answered_so text (Err f) o x q is told = λ s i. subst (Queries now s query body) (sym told) (Queries.wants_memory utf8)
 
     pub explained_so : {E : Type 0} (text : Text) (r : Result Reply E) (o : Outcome) → explain_parameter (value_in (codes "explain") query body) ≡ Some true → value_in (codes "q") query body ≡ Some text
         → IfOk r (λ reply. OfEachHistory k (λ opening h. IsExplanation opening h now text reply.good (string_bytes reply.body))) → reply_of false o ≡ answered_reply r → QueriesAs now query body k o
-    explained_so text (Ok reply) o x q is told = λ s i. subst (Queries now s query body) (sym told) (Queries.explains epoch text reply.good (string_bytes reply.body) utf8 e x q (is s.opening s.history i.stands))
+    explained_so text (Ok reply) o x q is told = λ s i. subst (Queries now s query body) (sym told) (Queries.explains epoch text reply.good (string_bytes reply.body) utf8 e x q (is s.store.opening s.store.history i.store.stands))
     explained_so text (Err f) o x q is told = λ s i. subst (Queries now s query body) (sym told) (Queries.wants_memory utf8)

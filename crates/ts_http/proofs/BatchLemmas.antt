@@ -5,11 +5,12 @@ use Rattle.std.proofs.lemmas.List.{map-append}
 use Rattle.ts_core.specs.facts.Facts.{Text}
 use Rattle.ts_core.specs.store.StoreData.{StoreData}
 use Rattle.ts_core.specs.declared.facts.time_unit.TimeUnit.{TimeUnit}
-use Rattle.ts_store.specs.write.LineTexts.{LineState, IsStateOf, WritesText, WritesFrom, refusal_of, refusal_text, line_refusal_text}
+use Rattle.ts_store.specs.write.LineTexts.{refusal_of, refusal_text, line_refusal_text}
+use Rattle.ts_store.specs.store.WholeStates.{WholeState, IsWholeStateOf, TakesText}
 use Rattle.ts_store.specs.declared.write.write_text.LineOutcome.{LineOutcome}
 use Rattle.ts_store.specs.declared.write.write_text.LineRefusal.{LineRefusal}
 use Rattle.ts_http.specs.Batches.{TakesLines, body_lines, onto_first_reply, refusals_from}
-use Rattle.ts_http.specs.Tallies.{TallyIs, WritesLines, numbered_refusal, first_of}
+use Rattle.ts_http.specs.Tallies.{TallyIs, LineWrites, WritesLines, numbered_refusal, first_of}
 use Rattle.ts_http.specs.declared.batch.Tally.{Tally}
 
 -- ---- tallies
@@ -70,9 +71,9 @@ counted_some_more os t text some is = record {
 
 -- ---- lines one after another
 
-took_more : (precision : TimeUnit) (now : ℤ) (old mid new : LineState) (texts : List Text) (os : List LineOutcome) (text : Text) (o : LineOutcome)
-    → TakesLines precision now old texts os mid → WritesText precision now mid text o new → TakesLines precision now old (texts ++ text ∷ []) (os ++ o ∷ []) new
-took_more precision now old mid new [] [] text o t l = (new, subst (λ (s : LineState). WritesText precision now s text o new) t l, refl)
+took_more : (precision : TimeUnit) (now : ℤ) (old mid new : WholeState) (texts : List Text) (os : List LineOutcome) (text : Text) (o : LineOutcome)
+    → TakesLines precision now old texts os mid → TakesText precision now mid text o new → TakesLines precision now old (texts ++ text ∷ []) (os ++ o ∷ []) new
+took_more precision now old mid new [] [] text o t l = (new, subst (λ (s : WholeState). TakesText precision now s text o new) t l, refl)
 took_more precision now old mid new (u ∷ us) (p ∷ ps) text o t l = (t.0, t.1, took_more precision now t.0 mid new us ps text o t.2 l)
 took_more precision now old mid new [] (p ∷ ps) text o t l = absurd t
 took_more precision now old mid new (u ∷ us) [] text o t l = absurd t
@@ -103,20 +104,20 @@ next_line text first others e none = ap body_lines e ∙ first_line first others
 -- ---- the loop
 
 -- the progress of a batch: these lines of a body were written, and these come before the rest of it
-pub record SoFar (precision : TimeUnit) (now : ℤ) (s : LineState) (lines : List Text) (t : Tally) (left : List Text) (new : StoreData) : Type 0 where
+pub record SoFar (precision : TimeUnit) (now : ℤ) (s : WholeState) (lines : List Text) (t : Tally) (left : List Text) (new : StoreData) : Type 0 where
   pub done : List Text
   pub outcomes : List LineOutcome
-  pub mid : LineState
+  pub mid : WholeState
   pub lines_are : lines ≡ done ++ left
   pub took : TakesLines precision now s done outcomes mid
   pub tally : TallyIs (map refusal_text outcomes) t
-  pub here : IsStateOf mid new
+  pub here : IsWholeStateOf mid new
 
-pub begins : (precision : TimeUnit) (now : ℤ) (s : LineState) (lines : List Text) (t : Tally) (k : StoreData) → TallyIs [] t → IsStateOf s k → SoFar precision now s lines t lines k
+pub begins : (precision : TimeUnit) (now : ℤ) (s : WholeState) (lines : List Text) (t : Tally) (k : StoreData) → TallyIs [] t → IsWholeStateOf s k → SoFar precision now s lines t lines k
 begins precision now s lines t k tally i = record { done = []; outcomes = []; mid = s; lines_are = refl; took = refl; tally = tally; here = i }
 
-module _ (E : Type 0) (precision : TimeUnit) (now : ℤ) (s : LineState) (lines : List Text) (t t' : Tally) (text : Text) (left rest : List Text) (k k' : StoreData) (o : LineOutcome) (refusal : Option LineRefusal)
-    (so : SoFar precision now s lines t left k) (is : left ≡ text ∷ rest) (did : (m : LineState) → IsStateOf m k → WritesFrom precision now m text {E = E} (Ok o) k') (of : refusal ≡ refusal_of o)
+module _ (E : Type 0) (precision : TimeUnit) (now : ℤ) (s : WholeState) (lines : List Text) (t t' : Tally) (text : Text) (left rest : List Text) (k k' : StoreData) (o : LineOutcome) (refusal : Option LineRefusal)
+    (so : SoFar precision now s lines t left k) (is : left ≡ text ∷ rest) (did : (m : WholeState) → IsWholeStateOf m k → LineWrites precision now m text {E = E} (Ok o) k') (of : refusal ≡ refusal_of o)
     (counts : (os : List (Option Text)) → TallyIs os t → TallyIs (os ++ option_map line_refusal_text refusal ∷ []) t') where
   pub goes_on : SoFar precision now s lines t' rest k'
   goes_on =
@@ -131,12 +132,12 @@ module _ (E : Type 0) (precision : TimeUnit) (now : ℤ) (s : LineState) (lines 
         here = d.2;
       }
 
-pub all_done : (E : Type 0) (precision : TimeUnit) (now : ℤ) (s : LineState) (body : Text) (t : Tally) (k : StoreData) → SoFar precision now s (body_lines body) t [] k → WritesLines precision now s body {E = E} (Ok t) k
+pub all_done : (E : Type 0) (precision : TimeUnit) (now : ℤ) (s : WholeState) (body : Text) (t : Tally) (k : StoreData) → SoFar precision now s (body_lines body) t [] k → WritesLines precision now s body {E = E} (Ok t) k
 all_done E precision now s body t k so =
     (so.outcomes, so.mid, subst (λ (l : List Text). TakesLines precision now s l so.outcomes so.mid) (sym (so.lines_are ∙ append-nil so.done)) so.took, so.tally, so.here)
 
-pub stopped : (E : Type 0) (precision : TimeUnit) (now : ℤ) (s : LineState) (body : Text) (t : Tally) (text : Text) (left rest : List Text) (k k' : StoreData) (e : E) → SoFar precision now s (body_lines body) t left k → left ≡ text ∷ rest
-    → ((m : LineState) → IsStateOf m k → WritesFrom precision now m text {E = E} (Err e) k') → WritesLines precision now s body {E = E} (Err e) k'
+pub stopped : (E : Type 0) (precision : TimeUnit) (now : ℤ) (s : WholeState) (body : Text) (t : Tally) (text : Text) (left rest : List Text) (k k' : StoreData) (e : E) → SoFar precision now s (body_lines body) t left k → left ≡ text ∷ rest
+    → ((m : WholeState) → IsWholeStateOf m k → LineWrites precision now m text {E = E} (Err e) k') → WritesLines precision now s body {E = E} (Err e) k'
 stopped E precision now s body t text left rest k k' e so is did =
     let d = did so.mid so.here in
-    (d.0, record { done = so.done; line = text; others = rest; lines_are = so.lines_are ∙ ap (λ (l : List Text). so.done ++ l) is; outcomes = so.outcomes; mid = so.mid; took = so.took; wanted = d.1 }, d.2)
+    (d.0, record { done = so.done; line = text; others = rest; lines_are = so.lines_are ∙ ap (λ (l : List Text). so.done ++ l) is; outcomes = so.outcomes; mid = so.mid; took = so.took; stopped = d.1 }, d.2)

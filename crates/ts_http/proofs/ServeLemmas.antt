@@ -1,5 +1,5 @@
 -- The steps of serving a request, in sequence.
-use Rattle.std.proofs.Common.{◌≡◌, ⊎_elim, ℕ, ℤ, ◌+◌, ◌≤◌, List, [], ◌∷◌, ◌++◌, length, take, drop, map, Bool, false, Option, Some, None, Result, Ok, Err, refl, sym, ap, ◌∙◌, subst, arith, append-nil}
+use Rattle.std.proofs.Common.{◌≡◌, ◌≢◌, ◌⊎◌, ⊎_elim, ℕ, ℤ, ◌+◌, ◌≤◌, List, [], ◌∷◌, ◌++◌, length, take, drop, map, string_bytes, Bool, false, Option, Some, None, Result, Ok, Err, refl, sym, ap, ◌∙◌, subst, arith, append-nil}
 use Rattle.std.specs.List.{AllByRecursion}
 use Rattle.std.specs.Io.KnownBytes.{Consumes, Appends}
 use Rattle.std.proofs.lemmas.List.Elements.{recursion_from_All}
@@ -13,11 +13,12 @@ use Rattle.ts_core.specs.store.StoreData.{StoreData}
 use Rattle.httparse.proofs.GrammarLemmas.{ReadsRequest-append}
 use Rattle.ts_core.specs.io.Devices.{Output}
 use Rattle.ts_http.specs.Acts.{Acts}
+use Rattle.ts_http.specs.HttpReplies.{reply_text, refusal_allow, refusal_message, unless_head, error_json}
 use Rattle.ts_http.specs.Heads.{IsWholeHead, ReadsHead, Nothing}
 use Rattle.ts_http.specs.HeadsRead.{request_of}
 use Rattle.ts_http.specs.Requests.{path_of, target_query, route_of, method_of, fields_of, refused, body_length}
 use Rattle.ts_http.specs.Requested.{Refuses, Wants, Asks, is_head, route_in, method_in, refused_in, is_taken}
-use Rattle.ts_http.specs.Served.{Serves, IsServed, request_reads}
+use Rattle.ts_http.specs.Served.{Serves, Answers, IsServed, request_reads}
 use Rattle.ts_http.specs.ServeSteps.{ActedOn, IsSent}
 use Rattle.ts_http.specs.declared.refusal.Refusal.{Refusal}
 use Rattle.ts_http.specs.declared.refusal.Refusal.TheVariants as refusals
@@ -27,38 +28,49 @@ use Rattle.ts_http.specs.declared.serve.IoFault.{IoFault}
 use Rattle.ts_http.specs.declared.serve.IoFault.TheVariants.{Reader, Writer}
 use Rattle.ts_http.specs.declared.serve.Served.{Served}
 use Rattle.ts_http.specs.declared.serve.Served.TheVariants as served
-use Rattle.ts_store.specs.write.LineTexts.{LineState, IsStateOf}
-use Rattle.ts_http.specs.Maintaining.{left_in}
+use Rattle.ts_store.specs.store.WholeStates.{WholeState, IsWholeStateOf}
 use Rattle.ts_http.specs.OutcomeReplies.{WritesAs, QueriesAs, MaintainsAs, AddsAs, DropsAs, ActsAs, reply_of}
 use Rattle.ts_http.specs.declared.outcome.Outcome.{Outcome}
 use Rattle.ts_http.specs.declared.outcome.Outcome.TheVariants as outcomes
 use Rattle.ts_http.specs.declared.route.Route.{Route}
 use Rattle.ts_http.specs.declared.route.Route.TheVariants as to
+use Rattle.ts_http.specs.declared.status.Status.{Status}
+use Rattle.ts_http.specs.declared.status.Status.TheVariants as status
 
 -- ---- the effect of a request, by its path
 
+-- a request that isn't done leaves the store
+not_done : (s : Status) (old new : StoreData) → (s ≡ status.Success) ⊎ (new ≡ old) → s ≢ status.Success → new ≡ old
+not_done s old new why other = ⊎_elim {C = new ≡ old} (λ is. absurd (other is)) (λ same. same) why
+
 module _ (now : ℤ) (method : Method) (query body : Text) (old new : StoreData) (o : Outcome) where
   pub acted_write : WritesAs now query body old o new → ActsAs now to.Write method query body old o new
-  acted_write w = λ s i. let d = w s i in (d.0, Acts.writes method (reply_of false o) d.0 d.1, d.2)
+  acted_write w = (λ s i. let d = w.0 s i in (d.0, Acts.writes method (reply_of false o) d.0 d.1, d.2), w.1)
 
   pub acted_maintain : MaintainsAs now query old o new → ActsAs now to.Maintain method query body old o new
-  acted_maintain m = λ s i. let d = m s i in (d.0, Acts.maintains method (reply_of false o) d.0 d.1, d.2)
+  acted_maintain m = (λ s i. let d = m.0 s i in (d.0, Acts.maintains method (reply_of false o) d.0 d.1, d.2), not_done (reply_of false o).0 old new m.1)
 
   pub acted_add : method ≡ by.Post → AddsAs body old o new → ActsAs now to.Rules method query body old o new
-  acted_add is a = λ s i.
-      let d = a s i in
-      (d.0, subst (λ (m : Method). Acts now (left_in now old) s query body to.Rules m (reply_of false o) d.0) (sym is) (Acts.adds (reply_of false o) d.0 d.1), d.2)
+  acted_add is a = (
+    λ s i.
+    let d = a.0 s i in
+    (d.0, subst (λ (m : Method). Acts now s query body to.Rules m (reply_of false o) d.0) (sym is) (Acts.adds (reply_of false o) d.0 d.1), d.2),
+    not_done (reply_of false o).0 old new a.1,
+  )
 
   pub acted_drop : method ≡ by.Delete → DropsAs query old o new → ActsAs now to.Rules method query body old o new
-  acted_drop is a = λ s i.
-      let d = a s i in
-      (d.0, subst (λ (m : Method). Acts now (left_in now old) s query body to.Rules m (reply_of false o) d.0) (sym is) (Acts.drops (reply_of false o) d.0 d.1), d.2)
+  acted_drop is a = (
+    λ s i.
+    let d = a.0 s i in
+    (d.0, subst (λ (m : Method). Acts now s query body to.Rules m (reply_of false o) d.0) (sym is) (Acts.drops (reply_of false o) d.0 d.1), d.2),
+    not_done (reply_of false o).0 old new a.1,
+  )
 
 pub acted_query : (now : ℤ) (method : Method) (query body : Text) (k : StoreData) (o : Outcome) → QueriesAs now query body k o → ActsAs now to.Query method query body k o k
-acted_query now method query body k o q = λ s i. (s, Acts.queries method (reply_of false o) (q s i), i)
+acted_query now method query body k o q = (λ s i. (s, Acts.queries method (reply_of false o) (q s i), i), λ e. refl)
 
 pub acted_ping : (now : ℤ) (method : Method) (query body : Text) (k : StoreData) → ActsAs now to.Ping method query body k outcomes.Done k
-acted_ping now method query body k = λ s i. (s, Acts.pings method, i)
+acted_ping now method query body k = (λ s i. (s, Acts.pings method, i), λ e. refl)
 
 -- ---- spans within the bytes that came
 
@@ -74,9 +86,31 @@ spans_within came spans found w = spans_by_parts found.len (length came) (take f
 
 -- ---- the parts of a head
 
-refusal_served : (now : ℤ) (s : LineState) (bytes : Text) (route : Route) (old new : StoreData) (o : Outcome) (r : Refusal) → IsStateOf s old → o ≡ outcomes.Refused r → new ≡ old → Asks bytes (Refuses r route false)
-    → (s' : LineState) × Serves now (left_in now old) s bytes (served.Reply (reply_of false o).0 route) (reply_of false o).1 s' × IsStateOf s' new
-refusal_served now s bytes route old new o r i oe ne asks = (s, subst (λ (p : Outcome). Serves now (left_in now old) s bytes (served.Reply (reply_of false p).0 route) (reply_of false p).1 s) (sym oe) (Serves.refuses r route false asks), subst (IsStateOf s) (sym ne) i)
+-- the reply of an outcome, and the effect on the store
+pub record Told (now : ℤ) (bytes : Text) (to_head : Bool) (route : Route) (old new : StoreData) (o : Outcome) : Type 0 where
+  pub answers : Answers bytes old new (served.Reply (reply_of to_head o).0 route) (reply_of to_head o).1
+  pub states : (s : WholeState) → IsWholeStateOf s old → (s' : WholeState) × Serves now s bytes (served.Reply (reply_of to_head o).0 route) (reply_of to_head o).1 s' × IsWholeStateOf s' new
+
+pub refusal_told : (now : ℤ) (bytes : Text) (to_head : Bool) (route : Route) (k : StoreData) (r : Refusal) → Asks bytes (Refuses r route to_head) → Told now bytes to_head route k k (outcomes.Refused r)
+refusal_told now bytes to_head route k r asks = record { answers = Answers.refuses r route to_head asks refl; states = λ s i. (s, Serves.refuses r route to_head asks, i) }
+
+refused_then : (now : ℤ) (bytes : Text) (route : Route) (old new : StoreData) (o : Outcome) (r : Refusal) → o ≡ outcomes.Refused r → new ≡ old → Asks bytes (Refuses r route false) → Told now bytes false route old new o
+refused_then now bytes route old new o r oe ne asks =
+    subst (λ (p : Outcome). Told now bytes false route old new p) (sym oe) (subst (λ (k : StoreData). Told now bytes false route old k (outcomes.Refused r)) (sym ne) (refusal_told now bytes false route old r asks))
+
+some_reply : (to_head : Bool) (o : Outcome) → (allow : Text) × (content : Option Text) × ((reply_of to_head o).1 ≡ reply_text (reply_of to_head o).0 allow content)
+some_reply to_head (outcomes.Refused r) = (refusal_allow r, unless_head to_head (error_json (refusal_message r)), refl)
+some_reply to_head outcomes.Done = ([], None, refl)
+some_reply to_head (outcomes.Brief s note) = ([], Some note.bytes, refl)
+some_reply to_head (outcomes.Answered s body) = ([], Some (string_bytes body), refl)
+
+acted_then : (now : ℤ) (bytes : Text) (route : Route) (method : Method) (query body : Text) (old new : StoreData) (o : Outcome) → Asks bytes (Wants route method query body) → ActsAs now route method query body old o new → Told now bytes false route old new o
+acted_then now bytes route method query body old new o asks did =
+    let r = some_reply false o in
+    record {
+      answers = subst (Answers bytes old new (served.Reply (reply_of false o).0 route)) (sym r.2) (Answers.acts route method query body (reply_of false o).0 r.0 r.1 asks did.1);
+      states = λ s i. let d = did.0 s i in (d.0, Serves.acts route method query body (reply_of false o) d.0 asks d.1, d.2);
+    }
 
 module _ (came : Text) (spans : List HeaderSpan) (found : RequestSpans) (head : RequestHead) (at : IsRequestAt came spans found head) where
   -- a head that is refused
@@ -90,30 +124,28 @@ module _ (came : Text) (spans : List HeaderSpan) (found : RequestSpans) (head : 
       subst (λ q. Asks bytes (Refuses r q (is_head method))) (sym route_is) (subst (λ m. Asks bytes (Refuses r (route_in head) (is_head m))) (sym method_is) (Asks.refuses head rest r whole why))
 
   -- a head that is accepted, and the outcome of the bytes after it
-  pub asks_taken : (bytes rest : Text) (now : ℤ) (route : Route) (method : Method) (query : Text) (len : ℕ) (old new : StoreData) (o : Outcome) (s : LineState) → IsWholeHead bytes head rest
+  pub asks_taken : (bytes rest : Text) (now : ℤ) (route : Route) (method : Method) (query : Text) (len : ℕ) (old new : StoreData) (o : Outcome) → IsWholeHead bytes head rest
       → route ≡ route_of (path_of (span_bytes came found.path)) → method ≡ method_of (span_bytes came found.method) → query ≡ target_query (span_bytes came found.path)
       → refused route method (map (header_bytes came) (take found.headers spans)) ≡ None → len ≡ body_length method (map (header_bytes came) (take found.headers spans))
-      → ActedOn now route method query rest len old o new → IsStateOf s old
-      → (s' : LineState) × Serves now (left_in now old) s bytes (served.Reply (reply_of false o).0 route) (reply_of false o).1 s' × IsStateOf s' new
-  asks_taken bytes rest now route method query len old new o s whole er em eq e size acted i =
+      → ActedOn now route method query rest len old o new → Told now bytes false route old new o
+  asks_taken bytes rest now route method query len old new o whole er em eq e size acted =
       let route_is : route ≡ route_in head = er ∙ ap (λ t. route_of (path_of t)) at.path in
       let method_is : method ≡ method_in head = em ∙ ap method_of at.method in
       let query_is : query ≡ target_query head.target = eq ∙ ap target_query at.path in
       let taken : is_taken head = sym (λ j. refused (route_is j) (method_is j) (at.fields j)) ∙ e in
       let len_is : len ≡ body_length (method_in head) (fields_of head) = size ∙ (λ j. body_length (method_is j) (at.fields j)) in
-      ⊎_elim {C = (s' : LineState) × Serves now (left_in now old) s bytes (served.Reply (reply_of false o).0 route) (reply_of false o).1 s' × IsStateOf s' new}
+      ⊎_elim {C = Told now bytes false route old new o}
       (λ w.
-      let d = w.4 s i in
       let asks : Asks bytes (Wants route method query w.0) = subst (λ q. Asks bytes (Wants q method query w.0)) (sym route_is)
       (subst (λ m. Asks bytes (Wants (route_in head) m query w.0)) (sym method_is) (subst (λ q. Asks bytes (Wants (route_in head) (method_in head) q w.0)) (sym query_is) (Asks.wants head rest w.0 w.1 whole taken w.2 (w.3 ∙ len_is)))) in
-      (d.0, Serves.acts route method query w.0 (reply_of false o) d.0 asks d.1, d.2))
-      (λ w. ⊎_elim {C = (s' : LineState) × Serves now (left_in now old) s bytes (served.Reply (reply_of false o).0 route) (reply_of false o).1 s' × IsStateOf s' new}
+      acted_then now bytes route method query w.0 old new o asks w.4)
+      (λ w. ⊎_elim {C = Told now bytes false route old new o}
       (λ cut.
       let asks : Asks bytes (Refuses refusals.BodyEndsEarly route false) = subst (λ q. Asks bytes (Refuses refusals.BodyEndsEarly q false)) (sym route_is) (Asks.cut head rest whole taken (omega (arith, cut.0, len_is))) in
-      refusal_served now s bytes route old new o refusals.BodyEndsEarly i cut.1 cut.2 asks)
+      refused_then now bytes route old new o refusals.BodyEndsEarly cut.1 cut.2 asks)
       (λ want.
-      let asks : Asks bytes (Refuses refusals.OutOfMemory route false) = subst (λ q. Asks bytes (Refuses refusals.OutOfMemory q false)) (sym route_is) (Asks.wants_memory head rest whole taken) in
-      refusal_served now s bytes route old new o refusals.OutOfMemory i want.0 want.1 asks)
+      let asks : Asks bytes (Refuses refusals.OutOfMemory route false) = subst (λ q. Asks bytes (Refuses refusals.OutOfMemory q false)) (sym route_is) (Asks.wants_memory head rest whole taken (omega (arith, want.0, len_is))) in
+      refused_then now bytes route old new o refusals.OutOfMemory want.1 want.2 asks)
       w)
       acted
 
@@ -151,7 +183,7 @@ read_failed now old new source source' sink result e same f t = subst (λ (r : R
 pub nothing_served : (now : ℤ) (old : StoreData) (source source' : Input) (sink : Output) (came : Text) → Consumes source.remaining source'.remaining came → ReadsHead (request_of came source') Nothing → source'.failures ≡ source.failures → source'.reads ≤ source.reads + request_reads
     → IsServed now old source sink (Ok served.Nothing) old source' sink
 nothing_served now old source source' sink came c h f t = record {
-  answered = (came, c, λ s i. ([], s, Serves.nothing (Asks.nothing h), i, nothing_sent sink.contents));
+  answered = (came, c, record { reply = []; sent = nothing_sent sink.contents; answers = Answers.nothing (Asks.nothing h) refl; states = λ s i. (s, Serves.nothing (Asks.nothing h), i) });
   begun = λ b. absurd cc;
   unread = λ b. absurd cc;
   reader = omega (arith, f);
@@ -160,22 +192,29 @@ nothing_served now old source source' sink came c h f t = record {
 }
 
 pub sent_told : (now : ℤ) (old new : StoreData) (source source' : Input) (sink sink' : Output) (o : Outcome) (route : Route) (to_head : Bool) (came : Text) (result : Result Served IoFault) → IsSent o route to_head sink result sink' → Consumes source.remaining source'.remaining came
-    → ((s : LineState) → IsStateOf s old → (s' : LineState) × Serves now (left_in now old) s (request_of came source') (served.Reply (reply_of to_head o).0 route) (reply_of to_head o).1 s' × IsStateOf s' new)
-    → source'.failures ≡ source.failures → source'.reads ≤ source.reads + request_reads → IsServed now old source sink result new source' sink'
-sent_told now old new source source' sink sink' o route to_head came (Ok x) sent c did f t = record {
-  answered = (came, c, λ s i. let d = did s i in ((reply_of to_head o).1, d.0, subst (λ (v : Served). Serves now (left_in now old) s (request_of came source') v (reply_of to_head o).1 d.0) (sym sent.ok.0) d.1, d.2, sent.ok.1));
-  begun = λ b. absurd cc;
-  unread = λ b. absurd cc;
-  reader = omega (arith, f);
-  writer = omega (arith, sent.failures);
-  reads = t;
-}
-sent_told now old new source source' sink sink' o route to_head came (Err Writer) sent c did f t = record {
+    → Told now (request_of came source') to_head route old new o → source'.failures ≡ source.failures → source'.reads ≤ source.reads + request_reads → IsServed now old source sink result new source' sink'
+sent_told now old new source source' sink sink' o route to_head came (Ok x) sent c told f t =
+    let bytes : Text = request_of came source' in
+    let reply : Text = (reply_of to_head o).1 in
+    record {
+      answered = (came, c, record {
+        reply = reply;
+        sent = sent.ok.1;
+        answers = subst (λ (v : Served). Answers bytes old new v reply) (sym sent.ok.0) told.answers;
+        states = λ s i. let d = told.states s i in (d.0, subst (λ (v : Served). Serves now s bytes v reply d.0) (sym sent.ok.0) d.1, d.2);
+      });
+      begun = λ b. absurd cc;
+      unread = λ b. absurd cc;
+      reader = omega (arith, f);
+      writer = omega (arith, sent.failures);
+      reads = t;
+    }
+sent_told now old new source source' sink sink' o route to_head came (Err Writer) sent c told f t = record {
   answered = tt;
-  begun = λ _. (came, c, (served.Reply (reply_of to_head o).0 route, λ s i. let d = did s i in ((reply_of to_head o).1, d.0, d.1, d.2, sent.err)));
+  begun = λ _. (came, c, (served.Reply (reply_of to_head o).0 route, record { reply = (reply_of to_head o).1; sent = sent.err; answers = told.answers; states = told.states }));
   unread = λ b. absurd cc;
   reader = omega (arith, f);
   writer = omega (arith, sent.failures);
   reads = t;
 }
-sent_told now old new source source' sink sink' o route to_head came (Err Reader) sent c did f t = absurd (not_writer sent.writer)
+sent_told now old new source source' sink sink' o route to_head came (Err Reader) sent c told f t = absurd (not_writer sent.writer)

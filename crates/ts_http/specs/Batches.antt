@@ -4,29 +4,30 @@
 use Rattle.std.specs.Prelude.{◌≡◌, ℕ, ◌+◌, ℤ, ◌==◌, List, [], ◌∷◌, ◌++◌, map, codes, if◌then◌else◌, Option, Some, None, decimal}
 use Rattle.ts_core.specs.facts.Facts.{Text}
 use Rattle.ts_core.specs.declared.facts.time_unit.TimeUnit.{TimeUnit}
-use Rattle.ts_store.specs.write.LineTexts.{LineState, WritesText, RunsOutOfMemory, refusal_text}
+use Rattle.ts_store.specs.write.LineTexts.{refusal_text}
+use Rattle.ts_store.specs.store.WholeStates.{WholeState, TakesText, StopsInText}
 use Rattle.ts_store.specs.declared.write.write_text.LineOutcome.{LineOutcome}
 
 -- ---- lines, whose timestamps have a precision, at a moment
 
 module _ (precision : TimeUnit) (now : ℤ) where
   -- Lines one after another, with the outcome of each.
-  abbrev pub TakesLines : LineState → List Text → List LineOutcome → LineState → Type 0
+  abbrev pub TakesLines : WholeState → List Text → List LineOutcome → WholeState → Type 0
   TakesLines old [] [] new = new ≡ old
-  TakesLines old (text ∷ texts) (o ∷ os) new = (mid : LineState) × WritesText precision now old text o mid × TakesLines mid texts os new
+  TakesLines old (text ∷ texts) (o ∷ os) new = (mid : WholeState) × TakesText precision now old text o mid × TakesLines mid texts os new
   TakesLines old [] (o ∷ os) new = ⊥
   TakesLines old (text ∷ texts) [] new = ⊥
 
   -- One of these lines ran out of memory; the lines before it were written, and those after it were not.
-  pub record StopsAtLine (old : LineState) (texts : List Text) (new : LineState) : Type 0 where
+  pub record StopsAtLine (old : WholeState) (texts : List Text) (new : WholeState) : Type 0 where
     pub done : List Text
     pub line : Text
     pub others : List Text
     pub lines_are : texts ≡ done ++ (line ∷ others)
     pub outcomes : List LineOutcome
-    pub mid : LineState
+    pub mid : WholeState
     pub took : TakesLines old done outcomes mid
-    pub wanted : RunsOutOfMemory precision now mid line new
+    pub stopped : StopsInText precision now mid line new
 
 -- ---- the body
 

@@ -27,7 +27,7 @@ abbrev pub ActedOn : ℤ → Route → Method → Text → Text → ℕ → Stor
 ActedOn now route method query rest len old outcome new =
     ((body : Text) × (others : Text) × (rest ≡ body ++ others) × (length body ≡ len) × ActsAs now route method query body old outcome new)
     ⊎ (((length rest < len) × (outcome ≡ Refused BodyEndsEarly) × (new ≡ old))
-    ⊎ ((outcome ≡ Refused OutOfMemory) × (new ≡ old)))
+    ⊎ ((0 < len) × (outcome ≡ Refused OutOfMemory) × (new ≡ old)))
 
 pub record IsActedOn {E : Type 0} (now : ℤ) (route : Route) (method : Method) (query behind : Text) (len : ℕ) (old : StoreData) (source : Input) (result : Result Outcome E) (new : StoreData) (source' : Input) : Type 0 where
   pub acted : IfOk result (λ outcome. (got : Text) × Consumes source.remaining source'.remaining got × ActedOn now route method query (behind ++ (got ++ unwrap_or source'.remaining [])) len old outcome new)

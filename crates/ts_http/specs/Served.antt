@@ -1,5 +1,5 @@
 -- A request served: the bytes read, the store afterwards, and the bytes written. (Own rules.)
-use Rattle.std.specs.Prelude.{◌≡◌, ℕ, ℤ, Bool, ◌+◌, ◌≤◌, [], Result, Ok, Err, IfOk}
+use Rattle.std.specs.Prelude.{◌≡◌, ℕ, ℤ, Bool, ◌+◌, ◌≤◌, [], Option, Result, Ok, Err, IfOk}
 use Rattle.std.specs.Io.KnownBytes.{Consumes, Appends}
 use Rattle.ts_core.specs.facts.Facts.{Text}
 use Rattle.ts_core.specs.io.Devices.{Input, Output, AppendsFront}
@@ -8,10 +8,9 @@ use Rattle.ts_core.specs.text.FaultTexts.{fault_text}
 use Rattle.ts_core.specs.declared.text.fault_code.FaultCode.{FaultCode}
 use Rattle.ts_core.specs.declared.text.fault_code.FaultCode.TheVariants as code
 use Rattle.ts_core.specs.declared.text.fault_text.FaultDetail.TheVariants.{Alone}
-use Rattle.ts_http.specs.Acts.{Replied, Acts}
-use Rattle.ts_store.specs.write.LineTexts.{LineState, IsStateOf}
-use Rattle.ts_http.specs.HttpReplies.{refusal_status, refusal_reply}
-use Rattle.ts_http.specs.Maintaining.{left_in}
+use Rattle.ts_http.specs.Acts.{Replied, Acts, LeavesStore}
+use Rattle.ts_store.specs.store.WholeStates.{WholeState, IsWholeStateOf}
+use Rattle.ts_http.specs.HttpReplies.{refusal_status, refusal_reply, reply_text}
 use Rattle.ts_http.specs.HeadsRead.{request_of}
 use Rattle.ts_http.specs.Requested.{NoRequest, Refuses, Wants, Asks}
 use Rattle.ts_http.specs.declared.refusal.Refusal.{Refusal}
@@ -21,21 +20,32 @@ use Rattle.ts_http.specs.declared.serve.IoFault.{IoFault}
 use Rattle.ts_http.specs.declared.serve.IoFault.TheVariants.{Reader, Writer}
 use Rattle.ts_http.specs.declared.serve.Served.{Served}
 use Rattle.ts_http.specs.declared.serve.Served.TheVariants as served
+use Rattle.ts_http.specs.declared.status.Status.{Status}
 
 -- the most reads of a request: one per byte of the longest head and body, and one for the end
 abbrev pub request_reads : ℕ
 request_reads = 1056769
 
--- From `old`, at a moment, a request of these bytes may be served so, be answered with these, and leave that. A
--- retention run has this number of steps left once it is open.
-pub data Serves (now : ℤ) (left : ℕ) (old : LineState) (bytes : Text) : Served → Text → LineState → Type 0 where
-  nothing : Asks bytes NoRequest → Serves now left old bytes served.Nothing [] old
-  refuses : (r : Refusal) (route : Route) (to_head : Bool) → Asks bytes (Refuses r route to_head) → Serves now left old bytes (served.Reply (refusal_status r) route) (refusal_reply to_head r) old
-  acts : (route : Route) (method : Method) (query body : Text) (reply : Replied) (new : LineState) → Asks bytes (Wants route method query body) → Acts now left old query body route method reply new → Serves now left old bytes (served.Reply reply.0 route) reply.1 new
+-- From `old`, at a moment, a request of these bytes may be served so, be answered with these, and leave that.
+pub data Serves (now : ℤ) (old : WholeState) (bytes : Text) : Served → Text → WholeState → Type 0 where
+  nothing : Asks bytes NoRequest → Serves now old bytes served.Nothing [] old
+  refuses : (r : Refusal) (route : Route) (to_head : Bool) → Asks bytes (Refuses r route to_head) → Serves now old bytes (served.Reply (refusal_status r) route) (refusal_reply to_head r) old
+  acts : (route : Route) (method : Method) (query body : Text) (reply : Replied) (new : WholeState) → Asks bytes (Wants route method query body) → Acts now old query body route method reply new → Serves now old bytes (served.Reply reply.0 route) reply.1 new
 
--- In each state that the store was in, the request was served so, and its whole reply or a prefix of it was sent.
-abbrev pub ServedAs : ℤ → Text → StoreData → Served → StoreData → (Text → Type 0) → Type 0
-ServedAs now bytes old served new Sent = (s : LineState) → IsStateOf s old → (text : Text) × (s' : LineState) × Serves now (left_in now old) s bytes served text s' × IsStateOf s' new × Sent text
+-- Whatever a store stands for, also where no history leads to it: a request of these bytes may be served so and be
+-- answered with these; and the store stays as it is, unless the request may have changed it.
+pub data Answers (bytes : Text) (old new : StoreData) : Served → Text → Type 0 where
+  nothing : Asks bytes NoRequest → new ≡ old → Answers bytes old new served.Nothing []
+  refuses : (r : Refusal) (route : Route) (to_head : Bool) → Asks bytes (Refuses r route to_head) → new ≡ old → Answers bytes old new (served.Reply (refusal_status r) route) (refusal_reply to_head r)
+  acts : (route : Route) (method : Method) (query body : Text) (status : Status) (allow : Text) (content : Option Text) → Asks bytes (Wants route method query body) → (LeavesStore route query body status → new ≡ old)
+      → Answers bytes old new (served.Reply status route) (reply_text status allow content)
+
+-- The request was served so, in each state that the store was in, and its whole reply or a prefix of it was sent.
+pub record ServedAs (now : ℤ) (bytes : Text) (old : StoreData) (served : Served) (new : StoreData) (Sent : Text → Type 0) : Type 0 where
+  pub reply : Text
+  pub sent : Sent reply
+  pub answers : Answers bytes old new served reply
+  pub states : (s : WholeState) → IsWholeStateOf s old → (s' : WholeState) × Serves now s bytes served reply s' × IsWholeStateOf s' new
 
 -- the code of each in the table of all faults
 abbrev pub io_fault_code : IoFault → FaultCode

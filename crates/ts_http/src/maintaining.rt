@@ -3,8 +3,8 @@ ghost use Rattle.std.specs.Prelude.{◌≡◌, OnOk, Option, true, false};
 ghost use Rattle.ts_core.specs.store.History.{Begin};
 ghost use Rattle.ts_core.specs.store.StoreData.{GoesOn};
 ghost use Rattle.ts_core.specs.moves.StoreMoves.{run_begun};
-ghost use Rattle.ts_http.specs.Maintaining.{steps_parameter, steps_of_parameter, run_opened, progress_text};
-ghost use Rattle.ts_http.specs.MaintainSteps.{HasStepped};
+ghost use Rattle.ts_http.specs.Maintaining.{steps_parameter, steps_of_parameter, progress_text};
+ghost use Rattle.ts_http.specs.MaintainSteps.{run_opened, HasStepped};
 ghost use Rattle.ts_http.specs.OutcomeReplies.{IsValueOr, MaintainsAs};
 ghost use Rattle.ts_reply.specs.OutcomeViews.{given_text};
 

@@ -187,7 +187,7 @@ fn act<A: Allocator + Copy>(
     }
 }
 
-/// Reads the body, and executes the request.
+/// Reads the body, if it isn't empty, and executes the request.
 fn act_on_body<R: Read, A: Allocator + Copy>(
     alloc: A,
     json: Global,
@@ -201,6 +201,9 @@ fn act_on_body<R: Read, A: Allocator + Copy>(
     requires len { len ≤ body_limit }
     ensures { IsActedOn now head.now.route head.now.method head.now.query.now head.now.behind.now len store.old source.old result store.new source.new }
 {
+    if len == 0 {
+        return Ok(act(alloc, json, store, now, head, b""));
+    }
     match receive_body(alloc, head.behind, len, source)? {
         Body::Whole(body) => Ok(act(alloc, json, store, now, head, &body)),
         Body::Cut => Ok(Outcome::Refused(Refusal::BodyEndsEarly)),

@@ -1,14 +1,25 @@
-use Rattle.std.proofs.Common.{◌++◌, subst, inl, unwrap_or, []}
+use Rattle.std.proofs.Common.{rules, ◌≡◌, ◌+◌, ◌++◌, refl, sym, subst, inl, unwrap_or, [], arith}
+use Rattle.std.proofs.KnownBytes.{Consumes-nil}
 use Rattle.ts_core.specs.facts.Facts.{Text}
 use Rattle.ts_http.specs.BodiesTaken.{TellsBody}
 use Rattle.ts_http.specs.OutcomeReplies.{ActsAs}
 use Rattle.ts_http.proofs.serve.act_on_body.Goals as goal
 
+pub returns-then-len-eq0 : goal.returns-then-len-eq0
+returns-then-len-eq0 g c =
+    let none : c.args.len ≡ 0 = c.if-len-eq0.true in
+    record {
+      acted = ([], Consumes-nil c.args.source.now.remaining, inl ([], c.args.head.now.behind.now ++ ([] ++ unwrap_or c.args.source.now.remaining []), refl, sym none, c.act.ensures));
+      unread = tt;
+      failures = search rules;
+      reads = omega arith;
+    }
+
 pub returns-in-Whole : goal.returns-in-Whole
 returns-in-Whole g c =
     let t = c.in_ok-body.ensures in
     let told = subst (TellsBody c.args.len (c.args.head.now.behind.now ++ (t.body.0 ++ unwrap_or c.receive_body.new.source.remaining []))) c.in-Whole.is t.body.2 in
-    let did = subst (λ (b : Text). ActsAs c.args.now c.args.head.now.route c.args.head.now.method c.args.head.now.query.now b c.args.store.now c.act.result c.act.new.store) c.deref.ensures.value c.act.ensures in
+    let did = subst (λ (b : Text). ActsAs c.args.now c.args.head.now.route c.args.head.now.method c.args.head.now.query.now b c.args.store.now c.act-in-Whole.result c.act-in-Whole.new.store) c.deref.ensures.value c.act-in-Whole.ensures in
     record {
       acted = (t.body.0, t.body.1, inl (c.in-Whole.body.items, told.0, told.1, told.2, did));
       unread = tt;
