@@ -80,16 +80,16 @@ module _ (now : ℤ) (query body : Text) (k : StoreData) where
       → ((os : List LineOutcome) → TallyIs (map refusal_text os) tally → reply_of false o ≡ batch_reply (refusals_of os)) → WritesAs now query body k o new
   lines_written E precision new tally o utf8 p did told = (
     λ s i.
-    let d = did s i in
-    (d.1, subst (λ (r : Replied). Writes now s query body r d.1) (sym (told d.0 d.3)) (Writes.writes precision d.0 d.1 utf8 p d.2), d.4),
+        let d = did s i in
+        (d.1, subst (λ (r : Replied). Writes now s query body r d.1) (sym (told d.0 d.3)) (Writes.writes precision d.0 d.1 utf8 p d.2), d.4),
     was_read precision (new ≡ k) utf8 p,
   )
 
   pub lines_stopped : (E : Type 0) (precision : TimeUnit) (new : StoreData) (e : E) → IsUtf8 body → precision_in query ≡ Some precision → ((s : WholeState) → IsWholeStateOf s k → WritesLines precision now s body {E = E} (Err e) new) → WritesAs now query body k (outcomes.Refused refusals.OutOfMemory) new
   lines_stopped E precision new e utf8 p did = (
     λ s i.
-    let d = did s i in
-    (d.0, Writes.stops precision d.0 utf8 p d.1, d.2),
+        let d = did s i in
+        (d.0, Writes.stops precision d.0 utf8 p d.1, d.2),
     was_read precision (new ≡ k) utf8 p,
   )
 

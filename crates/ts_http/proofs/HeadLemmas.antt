@@ -15,7 +15,7 @@ use Rattle.ts_http.specs.Heads.{head_limit, field_limit, IsUnfinishedHead, Reads
 use Rattle.ts_http.specs.declared.head.HeadFault.TheVariants.{EndsEarly, TooLarge, Malformed}
 use Rattle.ts_http.specs.declared.head.HeadRead.{HeadRead}
 use Rattle.ts_http.specs.declared.head.HeadRead.TheVariants as read
-use Rattle.ts_http.specs.HeadsRead.{request_of, TellsHead, TellsFront}
+use Rattle.ts_http.specs.HeadsRead.{request_of, TellsHead, TellsFront, IfWhole}
 
 pub never-append : (came more : Text) → NeverHasRequest came → NeverHasRequest (came ++ more)
 never-append came more never others = subst HasNoRequest (sym (append_assoc came more others)) (never (more ++ others))
@@ -66,6 +66,15 @@ all_came came (Some xs) end = ap (λ (l : Text). came ++ l) end ∙ append-nil c
 empty_is : (came : Text) → length came ≡ 0 → came ≡ []
 empty_is [] e = refl
 empty_is (b ∷ bs) e = absurd cc
+
+pub if_whole : (head : HeadRead) (P : Type 0) → P → IfWhole head P
+if_whole read.Nothing P p = tt
+if_whole (read.Fault fault) P p = tt
+if_whole (read.Whole found) P p = p
+
+pub end_whole : (count : ℕ) (head : HeadRead) (P : Type 0) → (count ≡ 0 → head ≡ read.Nothing) → (0 < count → head ≡ read.Fault EndsEarly) → IfWhole head P
+end_whole zero head P none some = subst (λ (h : HeadRead). IfWhole h P) (sym (none refl)) tt
+end_whole (suc k) head P none some = subst (λ (h : HeadRead). IfWhole h P) (sym (some (omega arith))) tt
 
 -- the input has ended after the bytes that came
 pub end_told : (came : Text) (count : ℕ) (new : Input) (spans : List HeaderSpan) (head : HeadRead) → length came ≡ count → count < head_limit → (0 < count → IsUnfinishedHead came) → IsAtEnd new.remaining

@@ -1,5 +1,5 @@
 -- Steps of a run, by /maintain.
-use Rattle.std.proofs.Common.{◌≡◌, ◌⊎◌, ⊎_elim, ℕ, suc, ◌+◌, ◌<◌, ◌≤◌, ℤ, Bool, true, false, true≢false, cond, nat_le, min, length, ◌∷◌, Option, Some, None, refl, sym, ap, ◌∙◌, subst, arith, inl, inr}
+use Rattle.std.proofs.Common.{◌≡◌, ◌⊎◌, ⊎_elim, ℕ, ◌+◌, ◌<◌, ◌≤◌, ℤ, Bool, true, false, true≢false, cond, Some, None, refl, sym, ap, ◌∙◌, subst, arith, inl, inr}
 use Rattle.std.proofs.lemmas.Bool.{le-leb, lt-leb}
 use Rattle.std.proofs.Math.Nat.{min-eq_left, min-eq_right}
 use Rattle.ts_core.specs.facts.Facts.{Text}
@@ -73,12 +73,12 @@ module _ (now : ℤ) (query : Text) (old : StoreData) where
       → reply_of false o ≡ answer_reply true (progress_text done new.marks.raw taken) → MaintainsAs now query old o new
   maintained n new taken done o asked begins did reply = (
     λ s i.
-    let opened = opens now s old begins i in
-    let left : ℕ = left_in opened.0 in
-    let ran = did.states opened.0 opened.2 in
-    let raw : new.marks.raw ≡ (marks_of opened.0.store.opening opened.0.store.history).raw = ap (λ m. m.raw) (did.marks ∙ opened.2.store.stands.marks) in
-    let same : reply_of false o ≡ answer_reply true (run_text n left (marks_of opened.0.store.opening opened.0.store.history).raw) =
-    reply ∙ (λ j. answer_reply true (progress_text (ran.ended j) (raw j) (ran.count j))) in
-    (ran.after, subst (λ (r : Replied). Maintains now s query r ran.after) (sym same) (Maintains.steps n opened.0 ran.after asked opened.1 ran.runs), ran.here),
+        let opened = opens now s old begins i in
+        let left : ℕ = left_in opened.0 in
+        let ran = did.states opened.0 opened.2 in
+        let raw : new.marks.raw ≡ (marks_of opened.0.store.opening opened.0.store.history).raw = ap (λ m. m.raw) (did.marks ∙ opened.2.store.stands.marks) in
+        let same : reply_of false o ≡ answer_reply true (run_text n left (marks_of opened.0.store.opening opened.0.store.history).raw) =
+        reply ∙ (λ j. answer_reply true (progress_text (ran.ended j) (raw j) (ran.count j))) in
+        (ran.after, subst (λ (r : Replied). Maintains now s query r ran.after) (sym same) (Maintains.steps n opened.0 ran.after asked opened.1 ran.runs), ran.here),
     inl (ap (λ (r : Replied). r.0) reply),
   )

@@ -1,13 +1,21 @@
 -- Bytes that are read into a buffer, after those already in it.
-use Rattle.std.proofs.Common.{◌≡◌, ℕ, ◌+◌, ◌-◌, ◌≤◌, ◌++◌, length, take, Option, refl, sym, ap, ◌∙◌, subst, arith, add-zero}
+use Rattle.std.proofs.Common.{◌≡◌, ℕ, ◌+◌, ◌-◌, ◌<◌, ◌≤◌, ◌==◌, cond, ◌++◌, length, take, Option, refl, sym, ap, ◌∙◌, subst, arith, add-zero}
 use Rattle.std.proofs.KnownBytes.{Consumes-trans}
 use Rattle.std.specs.Io.KnownBytes.{Consumes}
 use Rattle.std.proofs.lemmas.List.{take-take, length-take-le}
 use Rattle.std.proofs.Math.Seq.{take-append-add}
 use Rattle.std.proofs.lemmas.Slice.{take-put_mid, overwrites}
 use Rattle.std.proofs.lemmas.Grind.{common_steps}
+use Rattle.std.proofs.lemmas.Bool.Decides.{nat_tests}
 use borrow.Rule.Slice.PartMut.{put_mid}
 use Rattle.ts_core.specs.facts.Facts.{Text}
+
+not_zero : (n x : ℕ) → 0 < n → cond (n == 0) x 0 ≡ 0
+not_zero n x some = grind (arith, nat_tests)
+
+-- a read that gave some bytes met no end
+pub no_end : (n x old new : ℕ) → new ≡ old + cond (n == 0) x 0 → 0 < n → new ≡ old
+no_end n x old new e some = omega (arith, e, not_zero n x some)
 
 -- the bytes that a read gave follow those that were there
 pub stands_behind : (buffer buf : Text) (count n : ℕ) → count ≤ length buffer → length buf ≡ length buffer - count → n ≤ length buf

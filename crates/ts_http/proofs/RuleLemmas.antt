@@ -13,7 +13,7 @@ use Rattle.ts_http.specs.OutcomeReplies.{AddsAs, DropsAs, DropsNamed, reply_of}
 use Rattle.ts_http.specs.declared.outcome.Outcome.{Outcome}
 use Rattle.ts_http.specs.declared.outcome.Outcome.TheVariants as outcomes
 use Rattle.ts_http.specs.declared.refusal.Refusal.TheVariants as refusals
-use Rattle.ts_store.specs.store.WholeStates.{WholeState, IsWholeStateOf, without_rule}
+use Rattle.ts_store.specs.store.WholeStates.{IsWholeStateOf, without_rule}
 use Rattle.ts_store.specs.rules.RuleTexts.{rule_for, settings_in, low_in, TextComes}
 use Rattle.ts_store.specs.rules.RulesChanged.{RuleGoes}
 use Rattle.ts_store.specs.declared.rules.rule_text.AddedRule.{AddedRule}
@@ -38,10 +38,10 @@ module _ (body : Text) (k : StoreData) where
     pub was_added : (new : StoreData) (added : AddedRule) (o : Outcome) → TextComes k new body added → reply_of false o ≡ answer_reply true (added_text added.name.bytes added.low) → AddsAs body k o new
     was_added new added o t told = (
       λ s i.
-      let read : rule_for (settings_in s.store) body ≡ Ok t.rule = subst (λ (z : Settings). rule_for z body ≡ Ok t.rule) i.store.stands.settings t.read in
-      let came = rule_added s k new t.rule added.low i t.comes in
-      let reply : reply_of false o ≡ answer_reply true (added_text t.rule.name (low_in s.store t.rule)) = told ∙ (λ j. answer_reply true (added_text (t.name j) (came.0 j))) in
-      (came.1.0, subst (λ (r : Replied). PostsRule s body r came.1.0) (sym reply) (PostsRule.adds t.rule came.1.0 utf8 read came.1.1), came.1.2),
+          let read : rule_for (settings_in s.store) body ≡ Ok t.rule = subst (λ (z : Settings). rule_for z body ≡ Ok t.rule) i.store.stands.settings t.read in
+          let came = rule_added s k new t.rule added.low i t.comes in
+          let reply : reply_of false o ≡ answer_reply true (added_text t.rule.name (low_in s.store t.rule)) = told ∙ (λ j. answer_reply true (added_text (t.name j) (came.0 j))) in
+          (came.1.0, subst (λ (r : Replied). PostsRule s body r came.1.0) (sym reply) (PostsRule.adds t.rule came.1.0 utf8 read came.1.1), came.1.2),
       inl (ap (λ (r : Replied). r.0) told),
     )
 
@@ -60,8 +60,8 @@ spelled = sym (ap (λ (t : Text). codes "fault " ++ (t ++ [])) (decimal_digit 8 
 pub drop_refused : (name : Text) (k new : StoreData) (o : Outcome) → is_named k.settings.rules name ≡ false → new ≡ k → reply_of false o ≡ bad_reply (error_json (codes "fault 8")) → DropsNamed name k o new
 drop_refused name k new o none same told = λ query n. (
   λ s i.
-  let reply : reply_of false o ≡ bad_reply (error_json unknown_rule_text) = told ∙ ap (λ (t : Text). bad_reply (error_json t)) spelled in
-  (s, subst (λ (r : Replied). DeletesRule s query r s) (sym reply) (DeletesRule.refuses name n (subst (λ (z : Settings). is_named z.rules name ≡ false) i.store.stands.settings none)), subst (IsWholeStateOf s) (sym same) i),
+      let reply : reply_of false o ≡ bad_reply (error_json unknown_rule_text) = told ∙ ap (λ (t : Text). bad_reply (error_json t)) spelled in
+      (s, subst (λ (r : Replied). DeletesRule s query r s) (sym reply) (DeletesRule.refuses name n (subst (λ (z : Settings). is_named z.rules name ≡ false) i.store.stands.settings none)), subst (IsWholeStateOf s) (sym same) i),
   inr same,
 )
 

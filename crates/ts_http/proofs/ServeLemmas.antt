@@ -53,16 +53,16 @@ module _ (now : ℤ) (method : Method) (query body : Text) (old new : StoreData)
   pub acted_add : method ≡ by.Post → AddsAs body old o new → ActsAs now to.Rules method query body old o new
   acted_add is a = (
     λ s i.
-    let d = a.0 s i in
-    (d.0, subst (λ (m : Method). Acts now s query body to.Rules m (reply_of false o) d.0) (sym is) (Acts.adds (reply_of false o) d.0 d.1), d.2),
+        let d = a.0 s i in
+        (d.0, subst (λ (m : Method). Acts now s query body to.Rules m (reply_of false o) d.0) (sym is) (Acts.adds (reply_of false o) d.0 d.1), d.2),
     not_done (reply_of false o).0 old new a.1,
   )
 
   pub acted_drop : method ≡ by.Delete → DropsAs query old o new → ActsAs now to.Rules method query body old o new
   acted_drop is a = (
     λ s i.
-    let d = a.0 s i in
-    (d.0, subst (λ (m : Method). Acts now s query body to.Rules m (reply_of false o) d.0) (sym is) (Acts.drops (reply_of false o) d.0 d.1), d.2),
+        let d = a.0 s i in
+        (d.0, subst (λ (m : Method). Acts now s query body to.Rules m (reply_of false o) d.0) (sym is) (Acts.drops (reply_of false o) d.0 d.1), d.2),
     not_done (reply_of false o).0 old new a.1,
   )
 
@@ -87,16 +87,16 @@ spans_within came spans found w = spans_by_parts found.len (length came) (take f
 -- ---- the parts of a head
 
 -- the reply of an outcome, and the effect on the store
-pub record Told (now : ℤ) (bytes : Text) (to_head : Bool) (route : Route) (old new : StoreData) (o : Outcome) : Type 0 where
-  pub answers : Answers bytes old new (served.Reply (reply_of to_head o).0 route) (reply_of to_head o).1
+pub record Told (now : ℤ) (bytes : Text) (Quiet : Type 0) (to_head : Bool) (route : Route) (old new : StoreData) (o : Outcome) : Type 0 where
+  pub answers : Answers bytes Quiet old new (served.Reply (reply_of to_head o).0 route) (reply_of to_head o).1
   pub states : (s : WholeState) → IsWholeStateOf s old → (s' : WholeState) × Serves now s bytes (served.Reply (reply_of to_head o).0 route) (reply_of to_head o).1 s' × IsWholeStateOf s' new
 
-pub refusal_told : (now : ℤ) (bytes : Text) (to_head : Bool) (route : Route) (k : StoreData) (r : Refusal) → Asks bytes (Refuses r route to_head) → Told now bytes to_head route k k (outcomes.Refused r)
-refusal_told now bytes to_head route k r asks = record { answers = Answers.refuses r route to_head asks refl; states = λ s i. (s, Serves.refuses r route to_head asks, i) }
+pub refusal_told : (now : ℤ) (bytes : Text) (Quiet : Type 0) (to_head : Bool) (route : Route) (k : StoreData) (r : Refusal) → Asks bytes (Refuses r route to_head) → Told now bytes Quiet to_head route k k (outcomes.Refused r)
+refusal_told now bytes Quiet to_head route k r asks = record { answers = Answers.refuses r route to_head asks refl; states = λ s i. (s, Serves.refuses r route to_head asks, i) }
 
-refused_then : (now : ℤ) (bytes : Text) (route : Route) (old new : StoreData) (o : Outcome) (r : Refusal) → o ≡ outcomes.Refused r → new ≡ old → Asks bytes (Refuses r route false) → Told now bytes false route old new o
-refused_then now bytes route old new o r oe ne asks =
-    subst (λ (p : Outcome). Told now bytes false route old new p) (sym oe) (subst (λ (k : StoreData). Told now bytes false route old k (outcomes.Refused r)) (sym ne) (refusal_told now bytes false route old r asks))
+refused_then : (now : ℤ) (bytes : Text) (Quiet : Type 0) (route : Route) (old new : StoreData) (o : Outcome) (r : Refusal) → o ≡ outcomes.Refused r → new ≡ old → Asks bytes (Refuses r route false) → Told now bytes Quiet false route old new o
+refused_then now bytes Quiet route old new o r oe ne asks =
+    subst (λ (p : Outcome). Told now bytes Quiet false route old new p) (sym oe) (subst (λ (k : StoreData). Told now bytes Quiet false route old k (outcomes.Refused r)) (sym ne) (refusal_told now bytes Quiet false route old r asks))
 
 some_reply : (to_head : Bool) (o : Outcome) → (allow : Text) × (content : Option Text) × ((reply_of to_head o).1 ≡ reply_text (reply_of to_head o).0 allow content)
 some_reply to_head (outcomes.Refused r) = (refusal_allow r, unless_head to_head (error_json (refusal_message r)), refl)
@@ -104,11 +104,11 @@ some_reply to_head outcomes.Done = ([], None, refl)
 some_reply to_head (outcomes.Brief s note) = ([], Some note.bytes, refl)
 some_reply to_head (outcomes.Answered s body) = ([], Some (string_bytes body), refl)
 
-acted_then : (now : ℤ) (bytes : Text) (route : Route) (method : Method) (query body : Text) (old new : StoreData) (o : Outcome) → Asks bytes (Wants route method query body) → ActsAs now route method query body old o new → Told now bytes false route old new o
-acted_then now bytes route method query body old new o asks did =
+acted_then : (now : ℤ) (bytes : Text) (Quiet : Type 0) (route : Route) (method : Method) (query body : Text) (old new : StoreData) (o : Outcome) → Asks bytes (Wants route method query body) → Quiet → ActsAs now route method query body old o new → Told now bytes Quiet false route old new o
+acted_then now bytes Quiet route method query body old new o asks quiet did =
     let r = some_reply false o in
     record {
-      answers = subst (Answers bytes old new (served.Reply (reply_of false o).0 route)) (sym r.2) (Answers.acts route method query body (reply_of false o).0 r.0 r.1 asks did.1);
+      answers = subst (Answers bytes Quiet old new (served.Reply (reply_of false o).0 route)) (sym r.2) (Answers.acts route method query body (reply_of false o).0 r.0 r.1 asks quiet did.1);
       states = λ s i. let d = did.0 s i in (d.0, Serves.acts route method query body (reply_of false o) d.0 asks d.1, d.2);
     }
 
@@ -124,28 +124,28 @@ module _ (came : Text) (spans : List HeaderSpan) (found : RequestSpans) (head : 
       subst (λ q. Asks bytes (Refuses r q (is_head method))) (sym route_is) (subst (λ m. Asks bytes (Refuses r (route_in head) (is_head m))) (sym method_is) (Asks.refuses head rest r whole why))
 
   -- a head that is accepted, and the outcome of the bytes after it
-  pub asks_taken : (bytes rest : Text) (now : ℤ) (route : Route) (method : Method) (query : Text) (len : ℕ) (old new : StoreData) (o : Outcome) → IsWholeHead bytes head rest
+  pub asks_taken : (bytes rest : Text) (now : ℤ) (route : Route) (method : Method) (query : Text) (len : ℕ) (BodyQuiet Quiet : Type 0) (old new : StoreData) (o : Outcome) → IsWholeHead bytes head rest
       → route ≡ route_of (path_of (span_bytes came found.path)) → method ≡ method_of (span_bytes came found.method) → query ≡ target_query (span_bytes came found.path)
       → refused route method (map (header_bytes came) (take found.headers spans)) ≡ None → len ≡ body_length method (map (header_bytes came) (take found.headers spans))
-      → ActedOn now route method query rest len old o new → Told now bytes false route old new o
-  asks_taken bytes rest now route method query len old new o whole er em eq e size acted =
+      → (BodyQuiet → Quiet) → ActedOn now route method query rest len BodyQuiet old o new → Told now bytes Quiet false route old new o
+  asks_taken bytes rest now route method query len BodyQuiet Quiet old new o whole er em eq e size quiet acted =
       let route_is : route ≡ route_in head = er ∙ ap (λ t. route_of (path_of t)) at.path in
       let method_is : method ≡ method_in head = em ∙ ap method_of at.method in
       let query_is : query ≡ target_query head.target = eq ∙ ap target_query at.path in
       let taken : is_taken head = sym (λ j. refused (route_is j) (method_is j) (at.fields j)) ∙ e in
       let len_is : len ≡ body_length (method_in head) (fields_of head) = size ∙ (λ j. body_length (method_is j) (at.fields j)) in
-      ⊎_elim {C = Told now bytes false route old new o}
+      ⊎_elim {C = Told now bytes Quiet false route old new o}
       (λ w.
       let asks : Asks bytes (Wants route method query w.0) = subst (λ q. Asks bytes (Wants q method query w.0)) (sym route_is)
       (subst (λ m. Asks bytes (Wants (route_in head) m query w.0)) (sym method_is) (subst (λ q. Asks bytes (Wants (route_in head) (method_in head) q w.0)) (sym query_is) (Asks.wants head rest w.0 w.1 whole taken w.2 (w.3 ∙ len_is)))) in
-      acted_then now bytes route method query w.0 old new o asks w.4)
-      (λ w. ⊎_elim {C = Told now bytes false route old new o}
+      acted_then now bytes Quiet route method query w.0 old new o asks (quiet w.4) w.5)
+      (λ w. ⊎_elim {C = Told now bytes Quiet false route old new o}
       (λ cut.
       let asks : Asks bytes (Refuses refusals.BodyEndsEarly route false) = subst (λ q. Asks bytes (Refuses refusals.BodyEndsEarly q false)) (sym route_is) (Asks.cut head rest whole taken (omega (arith, cut.0, len_is))) in
-      refused_then now bytes route old new o refusals.BodyEndsEarly cut.1 cut.2 asks)
+      refused_then now bytes Quiet route old new o refusals.BodyEndsEarly cut.1 cut.2 asks)
       (λ want.
       let asks : Asks bytes (Refuses refusals.OutOfMemory route false) = subst (λ q. Asks bytes (Refuses refusals.OutOfMemory q false)) (sym route_is) (Asks.wants_memory head rest whole taken (omega (arith, want.0, len_is))) in
-      refused_then now bytes route old new o refusals.OutOfMemory want.1 want.2 asks)
+      refused_then now bytes Quiet route old new o refusals.OutOfMemory want.1 want.2 asks)
       w)
       acted
 
@@ -192,17 +192,21 @@ nothing_served now old source source' sink came c h f t = record {
 }
 
 pub sent_told : (now : ℤ) (old new : StoreData) (source source' : Input) (sink sink' : Output) (o : Outcome) (route : Route) (to_head : Bool) (came : Text) (result : Result Served IoFault) → IsSent o route to_head sink result sink' → Consumes source.remaining source'.remaining came
-    → Told now (request_of came source') to_head route old new o → source'.failures ≡ source.failures → source'.reads ≤ source.reads + request_reads → IsServed now old source sink result new source' sink'
+    → Told now (request_of came source') (source'.ends ≡ source.ends) to_head route old new o → source'.failures ≡ source.failures → source'.reads ≤ source.reads + request_reads → IsServed now old source sink result new source' sink'
 sent_told now old new source source' sink sink' o route to_head came (Ok x) sent c told f t =
     let bytes : Text = request_of came source' in
     let reply : Text = (reply_of to_head o).1 in
     record {
-      answered = (came, c, record {
-        reply = reply;
-        sent = sent.ok.1;
-        answers = subst (λ (v : Served). Answers bytes old new v reply) (sym sent.ok.0) told.answers;
-        states = λ s i. let d = told.states s i in (d.0, subst (λ (v : Served). Serves now s bytes v reply d.0) (sym sent.ok.0) d.1, d.2);
-      });
+      answered = (
+        came,
+        c,
+        record {
+          reply = reply;
+          sent = sent.ok.1;
+          answers = subst (λ (v : Served). Answers bytes (source'.ends ≡ source.ends) old new v reply) (sym sent.ok.0) told.answers;
+          states = λ s i. let d = told.states s i in (d.0, subst (λ (v : Served). Serves now s bytes v reply d.0) (sym sent.ok.0) d.1, d.2);
+        },
+      );
       begun = λ b. absurd cc;
       unread = λ b. absurd cc;
       reader = omega (arith, f);

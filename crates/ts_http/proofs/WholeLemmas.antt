@@ -1,9 +1,9 @@
 -- The calls of a store, by its states with their inventories.
-use Rattle.std.proofs.Common.{◌≡◌, ℕ, suc, ℤ, ◌+◌, List, [], ◌∷◌, length, Result, Ok, Err, true, false, refl, sym, ◌∙◌, ap, subst, arith}
+use Rattle.std.proofs.Common.{◌≡◌, ℕ, suc, ℤ, ◌+◌, List, length, Result, Ok, Err, true, refl, sym, ◌∙◌, ap, subst, arith}
 use Rattle.ts_core.specs.facts.Facts.{Text, Fact}
 use Rattle.ts_core.specs.settings.Settings.{Rule, Settings, is_unnamed}
 use Rattle.ts_core.specs.store.History.{Step}
-use Rattle.ts_core.specs.store.Marks.{Marks, marks_of}
+use Rattle.ts_core.specs.store.Marks.{Marks}
 use Rattle.ts_core.specs.store.StoreData.{StoreData, GoesOn}
 use Rattle.ts_core.specs.moves.RuleMoves.{kept_beside}
 use Rattle.ts_core.specs.declared.facts.time_unit.TimeUnit.{TimeUnit}

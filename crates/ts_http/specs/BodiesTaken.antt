@@ -12,8 +12,15 @@ TellsBody len rest (Whole body) = (others : Text) × (rest ≡ body.items ++ oth
 TellsBody len rest Cut = length rest < len
 TellsBody len rest NoMemory = ⊤
 
+-- of a whole body
+abbrev pub IfTaken : {A : Type 0} → Body A → Type 0 → Type 0
+IfTaken (Whole body) P = P
+IfTaken Cut P = ⊤
+IfTaken NoMemory P = ⊤
+
 -- the bytes after the head, and those read then, begin with the body or end inside it
 pub record IsBodyTaken {A E : Type 0} (old : Input) (behind : Text) (len : ℕ) (result : Result (Body A) E) (new : Input) : Type 0 where
   pub body : IfOk result (λ body. (got : Text) × Consumes old.remaining new.remaining got × TellsBody len (behind ++ (got ++ unwrap_or new.remaining [])) body)
+  pub ends : IfOk result (λ body. IfTaken body (new.ends ≡ old.ends))
   pub failures : new.failures ≡ old.failures + one_if_err result
   pub reads : new.reads ≤ old.reads + len

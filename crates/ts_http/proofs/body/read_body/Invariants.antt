@@ -8,6 +8,7 @@ invariant-loop-have g l = record {
   within : l.have ≤ length l.body;
   size : length l.body ≡ length l.initial.body;
   came : (got : Text) × (take l.have l.body ≡ take l.initial.have l.initial.body ++ got) × (l.have ≡ l.initial.have + length got) × Consumes l.initial.source.remaining l.source.remaining got;
+  ends : l.source.ends ≡ l.initial.source.ends;
   failures : l.source.failures ≡ l.initial.source.failures;
   reads : l.source.reads + l.initial.have ≤ l.initial.source.reads + l.have;
 }

@@ -2,7 +2,7 @@ use Rattle.std.proofs.Common.{rules, ◌≡◌, length, ◌+◌, ◌<◌, take, 
 use Rattle.std.proofs.lemmas.List.{length-take-le}
 use Rattle.ts_http.specs.Heads.{head_limit, IsUnfinishedHead}
 use Rattle.ts_http.proofs.ReadLemmas.{more_came, none_came}
-use Rattle.ts_http.proofs.HeadLemmas.{front_told, too_long_told, end_told}
+use Rattle.ts_http.proofs.HeadLemmas.{front_told, too_long_told, end_told, if_whole, end_whole}
 use Rattle.ts_http.proofs.head.read_head.Goals as goal
 
 pub returns-then-more-eq0 : goal.returns-then-more-eq0
@@ -16,6 +16,7 @@ returns-then-more-eq0 g c =
       within = omega (arith, i.within, r.size);
       bytes = none_came _ _ _ count c.in_ok-more.more c.loop-count.buffer c.read_behind.new.buffer none i.came r.came;
       head = end_told (take count c.read_behind.new.buffer) count c.read_behind.new.source c.loop-count.spans c.at_end.result (length-take-le count c.read_behind.new.buffer (omega (arith, i.within, r.size))) (omega (arith, c.loop-count-test.true, i.buffer)) (λ some. subst IsUnfinishedHead (sym same) (i.unfinished some)) (r.end none) c.at_end.ensures.none c.at_end.ensures.some;
+      ends = end_whole count c.at_end.result _ c.at_end.ensures.none c.at_end.ensures.some;
       failures = search rules;
       reads = omega (arith, r.reads, i.reads, c.loop-count-test.true, i.buffer);
     }
@@ -31,6 +32,7 @@ returns-in-Some g c =
       within = omega (arith, r.within, r.size);
       bytes = more_came _ _ _ c.loop-count.count c.in_ok-more.more c.loop-count.buffer c.read_behind.new.buffer i.came r.came;
       head = front_told came (unwrap_or c.read_behind.new.source.remaining []) c.look.new.spans c.in-Some.head (omega (arith, length-take-le count c.read_behind.new.buffer (omega (arith, r.within, r.size)), r.within, i.buffer)) (c.look.ensures.spans ∙ i.spans) c.in-Some.ensures.front;
+      ends = if_whole c.in-Some.head _ (r.ends some ∙ i.ends);
       failures = omega (arith, r.failures, i.failures);
       reads = omega (arith, r.reads, i.reads, r.within, i.buffer, some);
     }
@@ -44,6 +46,7 @@ returns g c =
       within = i.within;
       bytes = i.came;
       head = too_long_told (take count c.loop-count.buffer) (unwrap_or c.loop-count.source.remaining []) c.loop-count.spans size (i.unfinished (omega (arith, i.buffer, c.loop-count-test.false)));
+      ends = tt;
       failures = omega (arith, i.failures);
       reads = omega (arith, i.reads, i.buffer, i.within);
     }

@@ -10,6 +10,7 @@ invariant-loop-count g l = record {
   spans : length l.spans ≡ field_limit;
   came : Consumes l.initial.source.remaining l.source.remaining (take l.count l.buffer);
   unfinished : 0 < l.count → IsUnfinishedHead (take l.count l.buffer);
+  ends : l.source.ends ≡ l.initial.source.ends;
   failures : l.source.failures ≡ l.initial.source.failures;
   reads : l.source.reads ≤ l.initial.source.reads + l.count;
 }

@@ -1,7 +1,7 @@
 use Rattle.std.proofs.Common.{rules, ◌≡◌, true, ap, subst}
 use Rattle.ts_core.specs.facts.Facts.{Text}
 use Rattle.ts_core.specs.store.StoreData.{StoreData}
-use Rattle.ts_http.specs.Acts.{Replied, answer_reply}
+use Rattle.ts_http.specs.Acts.{answer_reply}
 use Rattle.ts_http.specs.Maintaining.{progress_text}
 use Rattle.ts_http.specs.MaintainSteps.{HasStepped}
 use Rattle.ts_http.specs.declared.outcome.Outcome.TheVariants.{Brief}

@@ -1,7 +1,7 @@
 use Rattle.std.proofs.Common.{rules, ◌≡◌, length, ◌-◌, ◌≤◌, take, arith}
 use Rattle.std.proofs.lemmas.List.{length-take-le}
 use Rattle.std.proofs.lemmas.Slice.{take-put_mid_below}
-use Rattle.ts_http.proofs.ReadLemmas.{stands_behind, same_size}
+use Rattle.ts_http.proofs.ReadLemmas.{stands_behind, same_size, no_end}
 use Rattle.ts_http.proofs.reading.read_behind.Goals as goal
 
 pub returns-in-Ok : goal.returns-in-Ok
@@ -19,6 +19,7 @@ returns-in-Ok g c =
       within = omega (arith, some, size, there);
       came = (take n buf, stands_behind buffer buf count n there size some, length-take-le n buf some, c.in-Ok.ensures.bytes.0);
       end = λ none. c.in-Ok.ensures.bytes.1 none (omega (arith, size, c.requires));
+      ends = λ some. no_end n _ _ _ c.in-Ok.ensures.ends some;
       failures = search rules;
       reads = search rules;
     }

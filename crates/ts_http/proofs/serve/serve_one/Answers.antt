@@ -1,4 +1,4 @@
-use Rattle.std.proofs.Common.{◌∙◌, ◌++◌, ap, sym, subst, arith, refl, Err, take, drop, unwrap_or, [], append_assoc}
+use Rattle.std.proofs.Common.{◌≡◌, ◌∙◌, ◌++◌, ap, sym, subst, arith, refl, Err, take, drop, unwrap_or, [], append_assoc}
 use Rattle.std.proofs.KnownBytes.{Consumes-trans}
 use Rattle.std.proofs.lemmas.Result.{err_from_is_err_and}
 use Rattle.ts_core.specs.facts.Facts.{Text}
@@ -43,7 +43,7 @@ returns-in-Fault g c =
     let came = take c.in_ok-count.count c.read_head.new.buffer in
     let told = subst (TellsHead (request_of came c.read_head.new.source) came c.read_head.new.spans) c.in-Fault.is h.head in
     sent_told c.args.now c.args.store.now c.args.store.now c.args.source.now c.read_head.new.source c.args.sink.now c.reply.new.sink (outcomes.Refused (refusals.Head c.in-Fault.fault)) to.Other _ came c.reply.result c.reply.ensures h.bytes
-    (refusal_told c.args.now (request_of came c.read_head.new.source) _ to.Other c.args.store.now (refusals.Head c.in-Fault.fault) (Asks.no_head c.in-Fault.fault told)) (omega (arith, h.failures)) (omega (arith, h.reads))
+    (refusal_told c.args.now (request_of came c.read_head.new.source) _ _ to.Other c.args.store.now (refusals.Head c.in-Fault.fault) (Asks.no_head c.in-Fault.fault told)) (omega (arith, h.failures)) (omega (arith, h.reads))
 
 pub returns-in-Err : goal.returns-in-Err
 returns-in-Err g c =
@@ -56,7 +56,7 @@ returns-in-Err g c =
     let told = subst (TellsHead bytes came spans) c.in-Whole.is h.head in
     let asks = asks_refused came spans found told.1.0 told.1.1 bytes (drop found.len bytes) q.result.route q.result.method c.in-Err.refusal told.1.2 q.ensures.route q.ensures.method c.in-Err.ensures in
     sent_told c.args.now c.args.store.now c.args.store.now c.args.source.now c.read_head.new.source c.args.sink.now c.reply-in-Err.new.sink (outcomes.Refused c.in-Err.refusal) q.result.route c.is_head.result came c.reply-in-Err.result c.reply-in-Err.ensures h.bytes
-    (refusal_told c.args.now bytes c.is_head.result q.result.route c.args.store.now c.in-Err.refusal (subst (λ b. Asks bytes (Refuses c.in-Err.refusal q.result.route b)) (sym c.is_head.ensures) asks)) (omega (arith, h.failures)) (omega (arith, h.reads))
+    (refusal_told c.args.now bytes _ c.is_head.result q.result.route c.args.store.now c.in-Err.refusal (subst (λ b. Asks bytes (Refuses c.in-Err.refusal q.result.route b)) (sym c.is_head.ensures) asks)) (omega (arith, h.failures)) (omega (arith, h.reads))
 
 pub returns-in_ok-outcome-in-Ok : goal.returns-in_ok-outcome-in-Ok
 returns-in_ok-outcome-in-Ok g c =
@@ -75,6 +75,6 @@ returns-in_ok-outcome-in-Ok g c =
     (subst (λ (b : Text). IsWholeHead (came ++ more) told.1.0 (b ++ more)) (sym q.ensures.behind) (whole_more came more _ _ spans found told.1.0 told.1.1 told.1.2)) in
     sent_told c.args.now c.args.store.now c.act_on_body.new.store c.args.source.now source c.args.sink.now c.reply-in-Ok.new.sink c.in_ok-outcome-in-Ok.outcome q.result.route _ (came ++ got) c.reply-in-Ok.result c.reply-in-Ok.ensures
     (Consumes-trans c.args.source.now.remaining c.read_head.new.source.remaining source.remaining came got h.bytes a.acted.1)
-    (asks_taken came spans found told.1.0 told.1.1 (request_of (came ++ got) source) (q.result.behind.now ++ more) c.args.now q.result.route q.result.method q.result.query.now c.in-Ok.len c.args.store.now c.act_on_body.new.store c.in_ok-outcome-in-Ok.outcome whole
-    q.ensures.route q.ensures.method q.ensures.query c.in-Ok.ensures.0 c.in-Ok.ensures.1 a.acted.2)
+    (asks_taken came spans found told.1.0 told.1.1 (request_of (came ++ got) source) (q.result.behind.now ++ more) c.args.now q.result.route q.result.method q.result.query.now c.in-Ok.len (source.ends ≡ c.read_head.new.source.ends) (source.ends ≡ c.args.source.now.ends) c.args.store.now c.act_on_body.new.store c.in_ok-outcome-in-Ok.outcome whole
+    q.ensures.route q.ensures.method q.ensures.query c.in-Ok.ensures.0 c.in-Ok.ensures.1 (λ quiet. quiet ∙ rw c.in-Whole.is at h.ends) a.acted.2)
     (omega (arith, h.failures, a.failures)) (omega (arith, h.reads, a.reads, c.in-Ok.ensures.2))
