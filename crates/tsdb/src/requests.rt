@@ -1,6 +1,6 @@
 //! The loop of `tsdb serve`: serves the connections of a listener one after another, and saves the store's image.
 ghost use Rattle.std.specs.Prelude.{◌≡◌, ◌≤◌};
-ghost use Rattle.tsdb.specs.ServedRequests.{WentBy, is_saved_after};
+ghost use Rattle.tsdb.specs.ServedRequests.{WentBy, WentByOne, is_saved_after};
 
 use crate::image_file::{save_image, save_or_report};
 use crate::timed::Timed;
@@ -86,7 +86,7 @@ fn serve_stream(
     stream: &TcpStream,
     clock: &impl Clock,
 ) -> bool
-    ensures { WentBy store.old store.new }
+    ensures { WentByOne now store.old store.new }
 {
     let _ = stream.set_nodelay(true);
     let mut source = Source::new(Timed::new(stream, clock, PATIENCE));
