@@ -1,7 +1,8 @@
 -- The steps of serving a request, in sequence.
-use Rattle.std.proofs.Common.{◌≡◌, ◌≢◌, ◌⊎◌, ⊎_elim, ℕ, ℤ, ◌+◌, ◌≤◌, List, [], ◌∷◌, ◌++◌, length, take, drop, map, string_bytes, Bool, false, Option, Some, None, Result, Ok, Err, refl, sym, ap, ◌∙◌, subst, arith, append-nil}
+use Rattle.std.proofs.Common.{◌≡◌, ◌≢◌, ◌⊎◌, ⊎_elim, ℕ, ℤ, ◌+◌, ◌≤◌, List, [], ◌∷◌, ◌++◌, length, take, drop, map, string_bytes, Bool, false, Option, Some, None, Result, Ok, Err, refl, sym, ap, ◌∙◌, subst, arith}
 use Rattle.std.specs.List.{AllByRecursion}
-use Rattle.std.specs.Io.KnownBytes.{Consumes, Appends}
+use Rattle.std.specs.Io.KnownBytes.{Consumes}
+use Rattle.std.proofs.KnownBytes.{Appends-nil}
 use Rattle.std.proofs.lemmas.List.Elements.{recursion_from_All}
 use Rattle.httparse.specs.Grammar.{RequestHead}
 use Rattle.httparse.specs.Spans.{IsHeaderWithin, IsRequestWithin, IsRequestAt, header_bytes, span_bytes}
@@ -156,10 +157,6 @@ whole_more came more bytes rest spans found h at w = record { reads = ReadsReque
 
 -- ---- the promises of a call
 
-nothing_sent : (old : Option Text) → Appends old old []
-nothing_sent None = tt
-nothing_sent (Some xs) = sym (append-nil xs)
-
 abbrev pub Given : Type 0
 Given = Result Served IoFault
 
@@ -183,7 +180,7 @@ read_failed now old new source source' sink result e same f t = subst (λ (r : R
 pub nothing_served : (now : ℤ) (old : StoreData) (source source' : Input) (sink : Output) (came : Text) → Consumes source.remaining source'.remaining came → ReadsHead (request_of came source') Nothing → source'.failures ≡ source.failures → source'.reads ≤ source.reads + request_reads
     → IsServed now old source sink (Ok served.Nothing) old source' sink
 nothing_served now old source source' sink came c h f t = record {
-  answered = (came, c, record { reply = []; sent = nothing_sent sink.contents; answers = Answers.nothing (Asks.nothing h) refl; states = λ s i. (s, Serves.nothing (Asks.nothing h), i) });
+  answered = (came, c, record { reply = []; sent = Appends-nil sink.contents; answers = Answers.nothing (Asks.nothing h) refl; states = λ s i. (s, Serves.nothing (Asks.nothing h), i) });
   begun = λ b. absurd cc;
   unread = λ b. absurd cc;
   reader = omega (arith, f);
