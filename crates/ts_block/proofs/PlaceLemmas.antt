@@ -199,13 +199,14 @@ module _ (points : List (ℤ × ℤ)) (time first : ℤ) (all_steps all_values :
 
   pub place_is : (place : Place) (limit : ℕ) → place.index ≡ index → place.first ≡ first → place.before ≡ before → place.time ≡ now
       → place.earlier_steps.now ≡ take (length all_steps - length from) all_steps → place.later_steps.now ≡ take (length steps - length all_values) steps
-      → place.earlier_values.now ≡ take (length all_values - length rest) all_values → place.later_values.now ≡ rest → (index < limit → time ≤ℤ now) → IsPlace points limit time place
-  place_is place limit a b c d e f g h r = record {
+      → place.earlier_values.now ≡ take (length all_values - length rest) all_values → place.later_values.now ≡ rest → index ≤ limit → (index < limit → time ≤ℤ now) → IsPlace points limit time place
+  place_is place limit a b c d e f g h bound r = record {
     earlier = s.earlier;
     point = s.point;
     later = s.later;
     cut = s.cut;
     index_is = a ∙ s.index_is;
+    bound = omega arith;
     time_is = d ∙ s.at.time;
     first_is = b ∙ s.first_is;
     before_is = c ∙ s.before_is;
