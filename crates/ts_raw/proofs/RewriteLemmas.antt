@@ -18,7 +18,7 @@ use Rattle.ts_raw.specs.Columns.{AreTimed}
 use Rattle.ts_raw.specs.PlainColumns.{IsRising}
 use Rattle.ts_raw.specs.CodedPoints.{block_points_at, coded_points, blocks_at, IsBlockHandle, AreBlocks, AreBlockHandles, with_starts, count_in_blocks}
 use Rattle.ts_raw.specs.declared.rewriting.Rewritten.{Rewritten}
-use Rattle.ts_raw.specs.Rewriting.{handles_replaced, blocks_of, IsEncoded, AreEncodable}
+use Rattle.ts_raw.specs.Rewriting.{handles_replaced, blocks_of, IsEncoded}
 use Rattle.ts_raw.proofs.PointMaps.{rising-put, timed-put}
 use Rattle.ts_raw.proofs.CutLemmas.{is_rising_behind, timed_behind, timed_first}
 use Rattle.ts_raw.proofs.PushLemmas.{and_T, less_T}
@@ -247,36 +247,6 @@ rising_first (suc k) (p ∷ ps) s = let b = both_of _ _ s in and_T _ _ (below_fi
     below_first zero t ps h = tt
     below_first (suc k) t [] h = tt
     below_first (suc k) t (p ∷ ps) h = let b = both_of _ _ h in and_T _ _ b.0 (below_first k t ps b.1)
-
-pub encodable : (bytes : List ℕ) (m : BlockHandle) (skip : ℕ) (t v : ℤ) → IsBlockHandle bytes m → IsTime t → FitsSigned w64 v → AreEncodable (put int_cmp t v (drop skip (block_points_at bytes m)))
-encodable bytes m skip t v h is f =
-    let ps : List (ℤ × ℤ) = block_points_at bytes m in
-    let rest : List (ℤ × ℤ) = drop skip ps in
-    let s = length_put t v rest in
-    record {
-      some = s.1;
-      few = let a = s.0 in let b = few_in ps h.block.points_are in let e = length-drop skip ps in omega arith;
-      rising = rising-put rest (is_rising_behind skip ps (rising_of ps h.block.points_are)) t v;
-      timed = timed-put rest (timed_behind skip ps (timed_of ps h.block.points_are)) t v is;
-      values = values_put t v rest (values_drop skip ps (values_in ps h.block.points_are)) f;
-    }
-  where
-    few_in : (ps : List (ℤ × ℤ)) → ArePoints ps → length ps ≤ 256
-    few_in [] h = omega arith
-    few_in (p ∷ ps) h = let a = h.0 in omega arith
-
-pub whole_points : (ps : List (ℤ × ℤ)) → AreEncodable ps → length ps ≤ 256 → ArePoints ps
-whole_points ps h few = are_points ps h.some few h.rising h.timed h.values
-
-pub front_points : (ps : List (ℤ × ℤ)) (k : ℕ) → AreEncodable ps → 0 < k → k ≤ 256 → k ≤ length ps → ArePoints (take k ps)
-front_points ps k h some few l =
-    let n = length-take-le k ps l in
-    are_points (take k ps) (omega arith) (omega arith) (rising_first k ps h.rising) (timed_first k ps h.timed) (values_take k ps h.values)
-
-pub back_points : (ps : List (ℤ × ℤ)) (k : ℕ) → AreEncodable ps → k < length ps → length ps ≤ k + 256 → ArePoints (drop k ps)
-back_points ps k h l few =
-    let n = length-drop k ps in
-    are_points (drop k ps) (omega arith) (omega arith) (is_rising_behind k ps h.rising) (timed_behind k ps h.timed) (values_drop k ps h.values)
 
 -- two blocks, the second encoded after the first
 pub two_blocks : (one two : List ℕ) (m n : BlockHandle) (ps qs : List (ℤ × ℤ)) → IsEncoded one m ps → IsEncoded two n qs → take (length one) two ≡ one → AreBlocks two (m ∷ n ∷ []) × (coded_points two (m ∷ n ∷ []) ≡ ps ++ qs)

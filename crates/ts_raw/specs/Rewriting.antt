@@ -14,13 +14,14 @@ pub record IsEncoded (bytes : List ℕ) (m : BlockHandle) (points : List (ℤ ×
   pub handle : IsBlockHandle bytes m
   pub points_are : block_points_at bytes m ≡ points
 
--- points of one or two blocks
-pub record AreEncodable (points : List (ℤ × ℤ)) : Type 0 where
-  pub some : 0 < length points
-  pub few : length points ≤ 257
-  pub rising : IsRising points
-  pub timed : AreTimed points
-  pub values : AreValues (values_of points)
+-- the handles are those of the blocks of the first of these points and of the others
+pub record AreHalves (bytes : List ℕ) (first second : BlockHandle) (points : List (ℤ × ℤ)) : Type 0 where
+  pub half : ℕ
+  pub some : 0 < half
+  pub less : half < length points
+  pub few : length points ≤ 256
+  pub first_is : IsEncoded bytes first (take half points)
+  pub second_is : IsEncoded bytes second (drop half points)
 
 abbrev pub blocks_of : Rewritten → List BlockHandle
 blocks_of r = r.first ∷ option_to_list r.second

@@ -1,19 +1,18 @@
 //! Encodes a block anew, with a point inserted or replaced, and replaces the old block with the new ones.
-ghost use Rattle.std.specs.Prelude.{◌≡◌, ◌+◌, ◌<◌, ◌≤◌, ℤ, List, length, take, drop, vec_len, vec_capacity, IfOk, OnErr};
+ghost use Rattle.std.specs.Prelude.{◌≡◌, ◌+◌, ◌<◌, ◌≤◌, ◌≤ℤ◌, ℤ, List, length, take, drop, vec_len, vec_capacity, IfOk};
 ghost use Rattle.std.specs.Ordering.{int_cmp};
 ghost use Rattle.std.specs.FinMap.{put};
-ghost use Rattle.ts_block.specs.Blocks.{ArePoints};
+ghost use Rattle.ts_core.specs.aggregates.Aggregates.{aggregate_of_points};
+ghost use Rattle.ts_block.specs.Blocks.{ArePoints, IsBlockOf};
+ghost use Rattle.ts_block.specs.Appending.{values_start, last_time};
 ghost use Rattle.ts_raw.specs.CodedPoints.{IsBlockHandle, AreBlocks, block_points_at, coded_points, with_starts, count_in_blocks};
-ghost use Rattle.ts_raw.specs.Rewriting.{IsEncoded, AreEncodable, blocks_of, handles_replaced, cut_in_block, cut_after};
+ghost use Rattle.ts_raw.specs.Rewriting.{IsEncoded, AreHalves, blocks_of, handles_replaced, cut_in_block, cut_after};
 
-use crate::appending::BLOCK_POINTS;
 use crate::block_handle::BlockHandle;
-use crate::coded::skipped;
-use crate::plain_column::insert_point;
-use crate::walk::decoder_of;
+use crate::walk::text_of;
 use std::alloc::{AllocError, Allocator};
-use ts_block::encode_with_offset;
-use ts_core::{Time, aggregate_points, reserve_eighth};
+use ts_block::{Decoder, encode_with_offset, first_points, last_points, with_point};
+use ts_core::{Agg, Partial, Time, aggregate_points, reserve_eighth};
 
 /// Number of points above which a block is halved when a point is inserted or replaced. Late points mostly come near
 /// one another, and a smaller block is encoded anew sooner.
@@ -42,25 +41,6 @@ pub(crate) fn cut_left(at: usize, cut: usize) -> usize
     if at == 0 { 0 } else { cut }
 }
 
-/// Decodes a block from the index `skip` on. There is capacity for one more point.
-fn decoded<A: Allocator>(
-    alloc: A,
-    bytes: &[u8],
-    handle: &BlockHandle,
-    skip: usize,
-) -> Result<Vec<(Time, i64), A>, AllocError>
-    requires { IsBlockHandle bytes.now handle.now }
-    ensures points { IfOk result (λ points. points.items ≡ drop skip (block_points_at bytes.now handle.now)) }
-    ensures spare { IfOk result (λ points. vec_len points < vec_capacity points) }
-{
-    let mut points = Vec::with_capacity(alloc, BLOCK_POINTS + 1)?;
-    for point in skipped(decoder_of(bytes, handle), skip) {
-        points.push(point)?;
-    }
-    points.reserve(1)?;
-    Ok(points)
-}
-
 /// Encodes points as a block at the end of the bytes. Returns its handle; the number of points before it is 0.
 pub(crate) fn push_points<A: Allocator + Copy>(
     bytes: &mut Vec<u8, A>,
@@ -86,34 +66,197 @@ pub(crate) fn push_points<A: Allocator + Copy>(
     })
 }
 
-/// Returns the value of a point.
-fn value_of(point: &(Time, i64)) -> i64
-    ensures { result ≡ point.now.1 }
+/// Aggregates the points of a block.
+fn summary_of(decoder: Decoder<'_>) -> Agg
+    requires { length decoder ≤ 256 }
+    ensures { result ≡ aggregate_of_points decoder.entry }
 {
-    point.1
+    let mut summary = Agg::empty();
+    let mut rest = decoder;
+    while let Some(point) = rest.next() {
+        summary = summary.merge(Agg::single(point.0, point.1));
+    }
+    summary
 }
 
-/// Decodes a block from the index `skip` on, and inserts a point or replaces that of its time.
-fn changed<A: Allocator>(
-    alloc: A,
-    bytes: &[u8],
+/// Appends the bytes of a block. Returns its handle; the number of points before it is 0.
+fn push_text<A: Allocator>(
+    bytes: &mut Vec<u8, A>,
+    text: &[u8],
+    values: usize,
+    count: usize,
+    last: Time,
+    summary: Agg,
+) -> Result<BlockHandle, AllocError>
+    requires { (points : List (ℤ × ℤ)) × IsBlockOf text.now points × (values ≡ values_start points) × (count ≡ length points) × (last ≡ last_time points) × (summary ≡ aggregate_of_points points) }
+    ensures kept { take (vec_len bytes.old) bytes.new.items ≡ bytes.old.items }
+    ensures block { IfOk result (λ handle. (points : List (ℤ × ℤ)) → IsBlockOf text.now points → IsEncoded bytes.new.items handle points) }
+{
+    reserve_eighth(bytes, text.len())?;
+    let start = bytes.len();
+    bytes.extend_from_slice(text).unwrap();
+    Ok(BlockHandle {
+        start,
+        values,
+        end: bytes.len(),
+        count,
+        before: 0,
+        last,
+        summary,
+    })
+}
+
+/// Copies a block that isn't full to the end of the bytes, with a point inserted or replaced that isn't after its last
+/// one.
+fn copy_with<A: Allocator + Copy>(
+    bytes: &mut Vec<u8, A>,
     handle: &BlockHandle,
-    skip: usize,
     point: &(Time, i64),
-) -> Result<Vec<(Time, i64), A>, AllocError>
-    requires marked { IsBlockHandle bytes.now handle.now }
-    ensures points { IfOk result (λ points. points.items ≡ put int_cmp point.now.0 point.now.1 (drop skip (block_points_at bytes.now handle.now))) }
-    ensures encodable { IfOk result (λ points. AreEncodable points.items) }
+) -> Result<BlockHandle, AllocError>
+    requires marked { IsBlockHandle bytes.old.items handle.now }
+    requires few { handle.now.count < 256 }
+    requires reached { point.now.0 ≤ℤ handle.now.last }
+    ensures kept { take (vec_len bytes.old) bytes.new.items ≡ bytes.old.items }
+    ensures block { IfOk result (λ new. IsEncoded bytes.new.items new (put int_cmp point.now.0 point.now.1 (block_points_at bytes.old.items handle.now))) }
 {
-    // For the proof: the time and the value are in their ranges.
-    let _valid = (point.0.nanos(), value_of(point));
-    let mut points = decoded(alloc, bytes, handle, skip)?;
-    insert_point(&mut points, *point);
-    Ok(points)
+    let alloc = *bytes.allocator();
+    let block = text_of(bytes.as_slice(), handle);
+    let (text, values, more) = with_point(alloc, block, handle.values, point)?;
+    if more {
+        let summary = handle.summary.merge(Agg::single(point.0, point.1));
+        return push_text(
+            bytes,
+            text.as_slice(),
+            values,
+            handle.count + 1,
+            handle.last,
+            summary,
+        );
+    }
+    let summary = summary_of(Decoder::at(text.as_slice(), values));
+    push_text(
+        bytes,
+        text.as_slice(),
+        values,
+        handle.count,
+        handle.last,
+        summary,
+    )
 }
 
-/// Encodes the points of a block from the index `skip` on, with a point inserted or replaced, at the end of the bytes.
-/// Makes one block, or two halves if there are more than 64 points. `at` is the index of the block.
+/// Copies the first `count` points of a block, but not all, to the end of the bytes as a block.
+fn copy_first<A: Allocator + Copy>(
+    bytes: &mut Vec<u8, A>,
+    handle: &BlockHandle,
+    count: usize,
+) -> Result<BlockHandle, AllocError>
+    requires marked { IsBlockHandle bytes.old.items handle.now }
+    requires some { 0 < count }
+    requires few { count < handle.now.count }
+    ensures kept { take (vec_len bytes.old) bytes.new.items ≡ bytes.old.items }
+    ensures block { IfOk result (λ new. IsEncoded bytes.new.items new (take count (block_points_at bytes.old.items handle.now))) }
+{
+    let alloc = *bytes.allocator();
+    let block = text_of(bytes.as_slice(), handle);
+    let (text, values, last) = first_points(alloc, block, handle.values, handle.last, count)?;
+    let summary = summary_of(Decoder::at(text.as_slice(), values));
+    push_text(bytes, text.as_slice(), values, count, last, summary)
+}
+
+/// Copies the points of a block after the first `count`, of which there are some, to the end of the bytes as a block.
+fn copy_last<A: Allocator + Copy>(
+    bytes: &mut Vec<u8, A>,
+    handle: &BlockHandle,
+    count: usize,
+) -> Result<BlockHandle, AllocError>
+    requires marked { IsBlockHandle bytes.old.items handle.now }
+    requires few { count < handle.now.count }
+    ensures kept { take (vec_len bytes.old) bytes.new.items ≡ bytes.old.items }
+    ensures block { IfOk result (λ new. IsEncoded bytes.new.items new (drop count (block_points_at bytes.old.items handle.now))) }
+{
+    let alloc = *bytes.allocator();
+    let block = text_of(bytes.as_slice(), handle);
+    let (text, values) = last_points(alloc, block, handle.values, handle.last, count)?;
+    let summary = summary_of(Decoder::at(text.as_slice(), values));
+    push_text(bytes, text.as_slice(), values, handle.count - count, handle.last, summary)
+}
+
+/// Copies the halves of a block to the end of the bytes as two blocks.
+fn halve<A: Allocator + Copy>(
+    bytes: &mut Vec<u8, A>,
+    handle: &BlockHandle,
+) -> Result<(BlockHandle, BlockHandle), AllocError>
+    requires marked { IsBlockHandle bytes.old.items handle.now }
+    requires some { 1 < handle.now.count }
+    ensures kept { take (vec_len bytes.old) bytes.new.items ≡ bytes.old.items }
+    ensures halves { IfOk result (λ two. AreHalves bytes.new.items two.0 two.1 (block_points_at bytes.old.items handle.now)) }
+{
+    let count = handle.count / 2;
+    let first = copy_first(bytes, handle, count)?;
+    let second = copy_last(bytes, handle, count)?;
+    Ok((first, second))
+}
+
+/// Copies one of two blocks to the end of the bytes, with a point inserted or replaced that isn't after the last one.
+/// `at` is the index of the old block.
+fn rewrite_half<A: Allocator + Copy>(
+    bytes: &mut Vec<u8, A>,
+    first: &BlockHandle,
+    second: &BlockHandle,
+    at: usize,
+    point: &(Time, i64),
+) -> Result<Rewritten, AllocError>
+    requires { (points : List (ℤ × ℤ)) × AreHalves bytes.old.items first.now second.now points × (point.now.0 ≤ℤ last_time points) }
+    ensures kept { take (vec_len bytes.old) bytes.new.items ≡ bytes.old.items }
+    ensures at { IfOk result (λ new. new.at ≡ at) }
+    ensures blocks { IfOk result (λ new. AreBlocks bytes.new.items (blocks_of new)) }
+    ensures points { IfOk result (λ new. (points : List (ℤ × ℤ)) → AreHalves bytes.old.items first.now second.now points → coded_points bytes.new.items (blocks_of new) ≡ put int_cmp point.now.0 point.now.1 points) }
+{
+    if point.0 <= first.last {
+        let new = copy_with(bytes, first, point)?;
+        return Ok(Rewritten {
+            at,
+            first: new,
+            second: Some(*second),
+        });
+    }
+    let new = copy_with(bytes, second, point)?;
+    Ok(Rewritten {
+        at,
+        first: *first,
+        second: Some(new),
+    })
+}
+
+/// Copies a block to the end of the bytes, with a point inserted or replaced that isn't after its last one. Makes one
+/// block, or two halves if there are many points. `at` is the index of the block.
+fn rewrite_all<A: Allocator + Copy>(
+    bytes: &mut Vec<u8, A>,
+    handle: &BlockHandle,
+    at: usize,
+    point: &(Time, i64),
+) -> Result<Rewritten, AllocError>
+    requires marked { IsBlockHandle bytes.old.items handle.now }
+    requires reached { point.now.0 ≤ℤ handle.now.last }
+    ensures kept { take (vec_len bytes.old) bytes.new.items ≡ bytes.old.items }
+    ensures at { IfOk result (λ new. new.at ≡ at) }
+    ensures blocks { IfOk result (λ new. AreBlocks bytes.new.items (blocks_of new)) }
+    ensures points { IfOk result (λ new. coded_points bytes.new.items (blocks_of new) ≡ put int_cmp point.now.0 point.now.1 (block_points_at bytes.old.items handle.now)) }
+{
+    if handle.count <= HALVED_POINTS {
+        let first = copy_with(bytes, handle, point)?;
+        return Ok(Rewritten {
+            at,
+            first,
+            second: None,
+        });
+    }
+    let (first, second) = halve(bytes, handle)?;
+    rewrite_half(bytes, &first, &second, at, point)
+}
+
+/// Copies a block from the index `skip` on to the end of the bytes, with a point inserted or replaced that isn't after
+/// its last one. Makes one block, or two halves if there are many points. `at` is the index of the block.
 pub(crate) fn rewrite<A: Allocator + Copy>(
     bytes: &mut Vec<u8, A>,
     handle: &BlockHandle,
@@ -122,28 +265,18 @@ pub(crate) fn rewrite<A: Allocator + Copy>(
     point: &(Time, i64),
 ) -> Result<Rewritten, AllocError>
     requires marked { IsBlockHandle bytes.old.items handle.now }
+    requires skip { skip < handle.now.count }
+    requires reached { point.now.0 ≤ℤ handle.now.last }
     ensures kept { take (vec_len bytes.old) bytes.new.items ≡ bytes.old.items }
     ensures at { IfOk result (λ new. new.at ≡ at) }
     ensures blocks { IfOk result (λ new. AreBlocks bytes.new.items (blocks_of new)) }
     ensures points { IfOk result (λ new. coded_points bytes.new.items (blocks_of new) ≡ put int_cmp point.now.0 point.now.1 (drop skip (block_points_at bytes.old.items handle.now))) }
 {
-    let points = changed(*bytes.allocator(), bytes.as_slice(), handle, skip, point)?;
-    if points.len() <= HALVED_POINTS {
-        let first = push_points(bytes, points.as_slice())?;
-        return Ok(Rewritten {
-            at,
-            first,
-            second: None,
-        });
+    if skip == 0 {
+        return rewrite_all(bytes, handle, at, point);
     }
-    let (front, back) = points.as_slice().split_at(points.len() / 2);
-    let first = push_points(bytes, front)?;
-    let second = push_points(bytes, back)?;
-    Ok(Rewritten {
-        at,
-        first,
-        second: Some(second),
-    })
+    let rest = copy_last(bytes, handle, skip)?;
+    rewrite_all(bytes, &rest, at, point)
 }
 
 /// Returns the number of points in the first `at` blocks, whose counts are right.

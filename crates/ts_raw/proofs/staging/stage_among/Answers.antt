@@ -1,10 +1,11 @@
-use Rattle.std.proofs.Common.{◌≡◌, ℕ, ℤ, List, length, vec_len, take, drop, get_or, int_cmp, IfOk, sym, ap, subst, ◌∙◌, arith}
+use Rattle.std.proofs.Common.{◌≡◌, ◌<◌, ◌≤ℤ◌, ℕ, ℤ, List, length, vec_len, take, drop, get_or, int_cmp, IfOk, sym, ap, subst, ◌∙◌, arith}
 use Rattle.std.specs.FinMap.{put}
 use Rattle.ts_raw.specs.declared.block_handle.BlockHandle.{BlockHandle}
 use Rattle.ts_raw.specs.CodedPoints.{IsBlockHandle, block_points_at, coded_points}
 use Rattle.ts_raw.specs.Rewriting.{IsRewritten, blocks_of, cut_in_block}
 use Rattle.ts_raw.proofs.BlockLists.{mark_at}
-use Rattle.ts_raw.proofs.ColumnBlocks.{rewritten_if_ok}
+use Rattle.ts_raw.proofs.ColumnBlocks.{rewritten_if_ok, reaches}
+use Rattle.ts_raw.proofs.SplicedLemmas.{cut_less}
 use Rattle.ts_raw.proofs.staging.stage_among.Given.{Over}
 use Rattle.ts_raw.proofs.staging.stage_among.Goals.{After-cut_of}
 use Rattle.ts_raw.proofs.staging.stage_among.Goals as goal
@@ -15,7 +16,13 @@ there g c = c.index.ensures ∙ ap (λ (x : List BlockHandle). get_or x c.args.a
 pub rewrite-requires : goal.rewrite-requires
 rewrite-requires g c =
     let at = (goal.at.rewrite-requires g c).After-cut_of in
-    record { marked = subst (IsBlockHandle c.args.bytes.now.items) (sym (there g at)) (mark_at c.args.bytes.now.items c.args.handles.now.items 0 c.args.at c.index.result.now c.requires.marked c.requires.within) }
+    let ms : List BlockHandle = c.args.handles.now.items in
+    let d : BlockHandle = c.index.result.now in
+    record {
+      marked = subst (IsBlockHandle c.args.bytes.now.items) (sym (there g at)) (mark_at c.args.bytes.now.items ms 0 c.args.at d c.requires.marked c.requires.within);
+      skip = subst (λ n. n < d.count) (sym c.cut_of.ensures) (subst (λ (m : BlockHandle). cut_in_block c.args.at c.args.cut < m.count) (sym (there g at)) (cut_less c.args.bytes.now.items ms c.args.at c.args.cut d c.requires.marked c.requires.cut c.requires.within));
+      reached = subst (λ (m : BlockHandle). c.args.point.now.0 ≤ℤ m.last) (sym (there g at)) (reaches c.args.point.now.0 ms c.args.at d c.requires.within c.requires.at);
+    }
 
 pub returns-clause-rewritten : goal.returns-clause-rewritten
 returns-clause-rewritten g c =

@@ -1,0 +1,117 @@
+-- Blocks that are copied with one point more, or in parts.
+use Rattle.std.proofs.Common.{◌≡◌, ℕ, zero, suc, ◌+◌, ◌-◌, ◌<◌, ◌≤◌, ℤ, ◌<ℤ◌, ◌≤ℤ◌, List, [], ◌∷◌, ◌++◌, length, take, drop, length-append, refl, sym, ◌∙◌, ap, subst, arith}
+use Rattle.ts_core.specs.aggregates.Aggregates.{Aggregate, empty_aggregate, aggregate_of_one, merged, aggregate_of_points}
+use Rattle.ts_core.specs.aggregates.MergeLaws.{aggregate_laws}
+use Rattle.ts_core.proofs.aggregates.Folds.{fold-middle}
+use Rattle.ts_core.proofs.aggregates.AggregatesLemmas.{count_of_fold}
+use Rattle.std.specs.FinMap.{put}
+use Rattle.std.proofs.Common.{int_cmp, append-nil, length-drop, get_or}
+use Rattle.std.proofs.lemmas.List.{take-append-drop, length-take-le}
+use Rattle.ts_block.specs.Blocks.{ArePoints, IsBlockOf}
+use Rattle.ts_block.specs.Appending.{values_start, last_time}
+use Rattle.ts_block.specs.Splicing.{IsAdded}
+use Rattle.ts_raw.specs.declared.block_handle.BlockHandle.{BlockHandle}
+use Rattle.ts_raw.specs.CodedPoints.{IsBlockHandle, AreBlocks, AreBlockHandles, CutFits, blocks_at, block_text_at, block_points_at, coded_points}
+use Rattle.ts_raw.specs.Rewriting.{IsEncoded, AreHalves, cut_in_block}
+use Rattle.ts_raw.proofs.PushLemmas.{points_less}
+use Rattle.ts_raw.proofs.BlockLists.{mark_stays, mark_at}
+use Rattle.ts_raw.proofs.RewriteLemmas.{put_first, put_after}
+
+-- ---- aggregates
+
+pub summary_next : (s : Aggregate) (p : ℤ × ℤ) (old new all : List (ℤ × ℤ)) → old ≡ p ∷ new → merged s (aggregate_of_points old) ≡ aggregate_of_points all → merged (merged s (aggregate_of_one p.0 p.1)) (aggregate_of_points new) ≡ aggregate_of_points all
+summary_next s p old new all e so_far = aggregate_laws.assoc s (aggregate_of_one p.0 p.1) (aggregate_of_points new) ∙ ap (λ (x : List (ℤ × ℤ)). merged s (aggregate_of_points x)) (sym e) ∙ so_far
+
+pub summary_added : (xs ys : List (ℤ × ℤ)) (p : ℤ × ℤ) → aggregate_of_points (xs ++ p ∷ ys) ≡ merged (aggregate_of_points (xs ++ ys)) (aggregate_of_one p.0 p.1)
+summary_added xs ys p = fold-middle aggregate_laws (λ (q : ℤ × ℤ). aggregate_of_one q.0 q.1) xs p ys ∙ aggregate_laws.comm (aggregate_of_one p.0 p.1) (aggregate_of_points (xs ++ ys))
+
+pub added_summary : (points new : List (ℤ × ℤ)) (p : ℤ × ℤ) (s : Aggregate) → IsAdded points p new → s ≡ aggregate_of_points points → merged s (aggregate_of_one p.0 p.1) ≡ aggregate_of_points new
+added_summary points new p s a is =
+    ap (λ x. merged x (aggregate_of_one p.0 p.1)) (is ∙ ap aggregate_of_points a.without) ∙ sym (summary_added a.earlier a.later p) ∙ ap aggregate_of_points (sym a.with)
+
+pub added_count : (points new : List (ℤ × ℤ)) (p : ℤ × ℤ) (n : ℕ) → IsAdded points p new → n ≡ length points → n + 1 ≡ length new
+added_count points new p n a is =
+    let b = ap length a.without in
+    let c = ap length a.with in
+    let d = length-append a.earlier a.later in
+    let e = length-append a.earlier (p ∷ a.later) in
+    omega arith
+
+-- ---- handles
+
+pub few_points : (ps : List (ℤ × ℤ)) → ArePoints ps → (length ps ≤ 256) × (0 < length ps)
+few_points [] h = absurd h
+few_points (p ∷ ps) h = (let a = h.0 in omega arith, omega arith)
+
+pub summary_count : (bytes : List ℕ) (m : BlockHandle) → IsBlockHandle bytes m → m.summary.count ≡ m.count
+summary_count bytes m h = ap (λ (a : Aggregate). a.count) h.summary_is ∙ count_of_fold (block_points_at bytes m) ∙ sym h.count_is
+
+pub stays_encoded : (old new : List ℕ) (m : BlockHandle) (ps : List (ℤ × ℤ)) → take (length old) new ≡ old → IsEncoded old m ps → IsEncoded new m ps
+stays_encoded old new m ps front h = let k = mark_stays old new m front h.handle in record { handle = k.0; points_are = k.1 ∙ h.points_are }
+
+pub two_coded : (bytes : List ℕ) (m n : BlockHandle) (ps qs : List (ℤ × ℤ)) → IsEncoded bytes m ps → IsEncoded bytes n qs → AreBlocks bytes (m ∷ n ∷ []) × (coded_points bytes (m ∷ n ∷ []) ≡ ps ++ qs)
+unfolding coded_points
+two_coded bytes m n ps qs a b = ((a.handle, (b.handle, tt)), λ i. a.points_are i ++ (append-nil (block_points_at bytes n) ∙ b.points_are) i)
+
+pub last_of_encoded : (bytes : List ℕ) (m : BlockHandle) (ps : List (ℤ × ℤ)) → IsEncoded bytes m ps → m.last ≡ last_time ps
+last_of_encoded bytes m ps h = h.handle.last_is ∙ ap last_time h.points_are
+
+-- the last time of the points behind some
+last_behind : (k : ℕ) (ps : List (ℤ × ℤ)) → k < length ps → last_time (drop k ps) ≡ last_time ps
+last_behind k [] l = absurd (omega arith)
+last_behind k (p ∷ ps) l = go k p ps l
+  where
+    go : (k : ℕ) (p : ℤ × ℤ) (ps : List (ℤ × ℤ)) → k < length (p ∷ ps) → last_time (drop k (p ∷ ps)) ≡ last_time (p ∷ ps)
+    go zero p ps l = refl
+    go (suc k) p [] l = absurd (omega arith)
+    go (suc k) p (q ∷ ps) l = go k q ps (omega arith)
+
+module _ (bytes : List ℕ) (m n : BlockHandle) (points : List (ℤ × ℤ)) (h : AreHalves bytes m n points) (t v : ℤ) where
+  pub second_last : n.last ≡ last_time points
+  second_last = last_of_encoded bytes n (drop h.half points) h.second_is ∙ last_behind h.half points h.less
+
+  pub first_few : m.count < 256
+  first_few =
+      let a = h.first_is.handle.count_is in
+      let b = ap length h.first_is.points_are in
+      let c = length-take-le h.half points (let l = h.less in omega arith) in
+      let d = h.less in let e = h.few in
+      omega arith
+
+  pub second_few : n.count < 256
+  second_few =
+      let a = h.second_is.handle.count_is in
+      let b = ap length h.second_is.points_are in
+      let c = length-drop h.half points in
+      let d = h.some in let e = h.few in let f = h.less in
+      omega arith
+
+  module _ (new : List ℕ) (front : take (length bytes) new ≡ bytes) (k : BlockHandle) where
+    pub in_first : t ≤ℤ m.last → IsEncoded new k (put int_cmp t v (block_points_at bytes m)) → AreBlocks new (k ∷ n ∷ []) × (coded_points new (k ∷ n ∷ []) ≡ put int_cmp t v points)
+    in_first r e =
+        let xs : List (ℤ × ℤ) = take h.half points in
+        let ys : List (ℤ × ℤ) = drop h.half points in
+        let both = two_coded new k n (put int_cmp t v (block_points_at bytes m)) ys e (stays_encoded bytes new n ys front h.second_is) in
+        let some : 0 < length xs = let c = length-take-le h.half points (let l = h.less in omega arith) in let d = h.some in omega arith in
+        (both.0, both.1 ∙ ap (λ (x : List (ℤ × ℤ)). put int_cmp t v x ++ ys) h.first_is.points_are ∙ sym (put_first t v xs ys some (subst (λ z. t ≤ℤ z) (last_of_encoded bytes m xs h.first_is) r)) ∙ ap (put int_cmp t v) (take-append-drop h.half points))
+
+    pub in_second : m.last <ℤ t → IsEncoded new k (put int_cmp t v (block_points_at bytes n)) → AreBlocks new (m ∷ k ∷ []) × (coded_points new (m ∷ k ∷ []) ≡ put int_cmp t v points)
+    in_second l e =
+        let xs : List (ℤ × ℤ) = take h.half points in
+        let ys : List (ℤ × ℤ) = drop h.half points in
+        let both = two_coded new m k xs (put int_cmp t v (block_points_at bytes n)) (stays_encoded bytes new m xs front h.first_is) e in
+        let are : ArePoints xs = subst ArePoints h.first_is.points_are h.first_is.handle.block.points_are in
+        (both.0, both.1 ∙ ap (λ (x : List (ℤ × ℤ)). xs ++ put int_cmp t v x) h.second_is.points_are ∙ sym (put_after t v xs ys (points_less t xs are (subst (λ z. z <ℤ t) (last_of_encoded bytes m xs h.first_is) l))) ∙ ap (put int_cmp t v) (take-append-drop h.half points))
+
+pub rest_last : (bytes new : List ℕ) (m n : BlockHandle) (k : ℕ) → IsBlockHandle bytes m → k < m.count → IsEncoded new n (drop k (block_points_at bytes m)) → m.last ≡ n.last
+rest_last bytes new m n k h l e = h.last_is ∙ sym (last_behind k (block_points_at bytes m) (let a = h.count_is in omega arith)) ∙ sym (last_of_encoded new n (drop k (block_points_at bytes m)) e)
+
+-- the removed points of a block are not all of it
+pub cut_less : (bytes : List ℕ) (ms : List BlockHandle) (at cut : ℕ) (d : BlockHandle) → AreBlockHandles bytes 0 ms → CutFits cut (blocks_at bytes ms) → at < length ms → cut_in_block at cut < (get_or ms at d).count
+cut_less bytes [] at cut d h f l = absurd (omega arith)
+cut_less bytes (m ∷ ms) zero cut d h f l = let a = h.0.count_is in omega arith
+cut_less bytes (m ∷ ms) (suc at) cut d h f l =
+    let k = mark_at bytes (m ∷ ms) 0 (suc at) d h l in
+    let a = k.count_is in
+    let b = (few_points (block_points_at bytes (get_or ms at d)) k.block.points_are).1 in
+    omega arith

@@ -1,0 +1,23 @@
+use Rattle.std.proofs.Common.{refl, ◌≡◌, ◌∙◌, ℕ, ℤ, List, ◌++◌, length, ap, subst, sym, arith, is_ok, if◌then◌else◌}
+use Rattle.ts_core.specs.aggregates.Aggregates.{aggregate_of_points}
+use Rattle.ts_block.specs.Appending.{values_start, last_time}
+use Rattle.ts_block.proofs.DecodingLemmas.{one_reading}
+use Rattle.ts_raw.specs.declared.block_handle.BlockHandle.{BlockHandle}
+use Rattle.ts_raw.specs.Rewriting.{IsEncoded}
+use Rattle.ts_raw.proofs.BlockLists.{block_at_end}
+use Rattle.ts_raw.proofs.rewriting.push_text.Goals as goal
+
+pub returns-clause-block : goal.returns-clause-block
+returns-clause-block g c = λ points b.
+    let old : List ℕ = c.args.bytes.now.items in
+    let text : List ℕ = c.args.text.now in
+    let new : List ℕ = c.extend_from_slice.new.self.items in
+    let start : c.len-start.result ≡ length old = let e = ap length c.reserve_eighth.ensures.items in omega (arith, e, c.len-start.ensures, c.reserve_eighth.new.list.ok.0) in
+    let end : c.len.result ≡ length new = omega (arith, c.len.ensures, c.extend_from_slice.new.self.ok.0) in
+    let is : new ≡ old ++ text =
+    c.extend_from_slice.ensures.items ∙ ap (λ r. if is_ok r then c.reserve_eighth.new.list.items ++ text else c.reserve_eighth.new.list.items) c.unwrap.ensures
+    ∙ ap (λ (x : List ℕ). x ++ text) c.reserve_eighth.ensures.items in
+    let same = one_reading text c.requires.0 points c.requires.1 b in
+    let m : BlockHandle = record { start = c.len-start.result; values = c.args.values; end = c.len.result; count = c.args.count; before = 0; last = c.args.last; summary = c.args.summary } in
+    subst (λ (x : List (ℤ × ℤ)). IsEncoded new m x) same
+    (block_at_end old text new c.requires.0 m c.requires.1 is start end c.requires.2 c.requires.3 c.requires.4 c.requires.5)
