@@ -46,8 +46,8 @@ pub cut_few : (bytes : List ℕ) (ms : List BlockHandle) (cut : ℕ) → AreBloc
 cut_few bytes [] cut marked h = omega arith
 cut_few bytes (m ∷ ms) cut marked h = let a = (few_in (block_points_at bytes m) marked.0.block.points_are).0 in omega arith
 
-pub no_points : (bytes : List ℕ) (ms : List BlockHandle) (capacity handles_capacity : ℕ) → bytes ≡ [] → ms ≡ [] → IsColumn bytes ms 0 0 0 capacity handles_capacity None
-no_points bytes ms c d b m = subst (λ (x : List BlockHandle). IsColumn bytes x 0 0 0 c d None) (sym m) (record {
+pub no_points : (bytes : List ℕ) (ms : List BlockHandle) (capacity handles_capacity : ℕ) → bytes ≡ [] → ms ≡ [] → IsColumn bytes ms 0 0 0 capacity handles_capacity None None
+no_points bytes ms c d b m = subst (λ (x : List BlockHandle). IsColumn bytes x 0 0 0 c d None None) (sym m) (record {
   counted = (none_counted bytes [] b refl).0;
   others = tt;
   cut_fits = refl;
@@ -334,9 +334,9 @@ module _ (bytes : List ℕ) (ms : List BlockHandle) (total cut : ℕ) (p : ℤ �
       same_first [] h l = absurd (omega arith)
       same_first (m ∷ ns) h l = h
 
-  pub replaced_column : (capacity handles_capacity tail : ℕ) → IsTime p.0 → tail ≡ length bytes
-      → IsColumn bytes (with_starts 0 (handles_replaced r ms)) (length (coded_points bytes (handles_replaced r ms))) (cut_after r.at cut) tail capacity handles_capacity None
-  replaced_column capacity handles_capacity tail is t = record {
+  pub replaced_column : (capacity handles_capacity tail : ℕ) (new : Option Rewritten) → IsTime p.0 → tail ≡ length bytes
+      → IsColumn bytes (with_starts 0 (handles_replaced r ms)) (length (coded_points bytes (handles_replaced r ms))) (cut_after r.at cut) tail capacity handles_capacity None new
+  replaced_column capacity handles_capacity tail new is t = record {
     counted = (replaced_anew is).0;
     others = subst (λ n. OthersEndBy n (with_starts 0 (handles_replaced r ms))) (sym t) (others_by (length bytes) (with_starts 0 (handles_replaced r ms)) (all_within bytes (with_starts 0 (handles_replaced r ms)) 0 (replaced_anew is).0.coded.marked));
     cut_fits = subst (CutFits (cut_after r.at cut)) (sym (numbered_blocks bytes 0 (handles_replaced r ms))) (cut_again r.at refl);
@@ -439,9 +439,9 @@ module _ (bytes : List ℕ) (ms : List BlockHandle) (total cut at n : ℕ) (t : 
           let some = (few_in (block_points_at bytes (get_or ms at d)) (mark_at bytes ms 0 at d c.coded.marked h).block.points_are).1 in
           omega arith
 
-pub dropped_column : (bytes : List ℕ) (ms : List BlockHandle) (total cut at tail capacity handles_capacity : ℕ) → AreCountedBlocks bytes ms total → OthersEndBy tail ms → CutFits cut (blocks_at bytes (drop at ms))
-    → IsColumn bytes (with_starts 0 (drop at ms)) (length (coded_points bytes (drop at ms))) cut tail capacity handles_capacity None × (coded_points bytes (with_starts 0 (drop at ms)) ≡ coded_points bytes (drop at ms))
-dropped_column bytes ms total cut at tail capacity handles_capacity c o f =
+pub dropped_column : (bytes : List ℕ) (ms : List BlockHandle) (total cut at tail capacity handles_capacity : ℕ) (new : Option Rewritten) → AreCountedBlocks bytes ms total → OthersEndBy tail ms → CutFits cut (blocks_at bytes (drop at ms))
+    → IsColumn bytes (with_starts 0 (drop at ms)) (length (coded_points bytes (drop at ms))) cut tail capacity handles_capacity None new × (coded_points bytes (with_starts 0 (drop at ms)) ≡ coded_points bytes (drop at ms))
+dropped_column bytes ms total cut at tail capacity handles_capacity new c o f =
     let all = blocks_of_marks bytes 0 ms c.coded.marked in
     let split : coded_points bytes ms ≡ coded_points bytes (take at ms) ++ coded_points bytes (drop at ms) = ap (coded_points bytes) (sym (take-append-drop at ms)) ∙ coded_join bytes (take at ms) (drop at ms) in
     let rising = rising_rest (coded_points bytes (take at ms)) (coded_points bytes (drop at ms)) (subst IsRising split c.coded.rising) in

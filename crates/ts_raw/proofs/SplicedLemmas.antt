@@ -4,6 +4,7 @@ use Rattle.ts_core.specs.aggregates.Aggregates.{Aggregate, empty_aggregate, aggr
 use Rattle.ts_core.specs.aggregates.MergeLaws.{aggregate_laws}
 use Rattle.ts_core.proofs.aggregates.Folds.{fold-middle}
 use Rattle.ts_core.proofs.aggregates.AggregatesLemmas.{count_of_fold}
+use Rattle.std.proofs.Math.ListN.{drop_of_length-le}
 use Rattle.std.specs.FinMap.{put}
 use Rattle.std.proofs.Common.{int_cmp, append-nil, length-drop, get_or}
 use Rattle.std.proofs.lemmas.List.{take-append-drop, length-take-le}
@@ -115,3 +116,8 @@ cut_less bytes (m ∷ ms) (suc at) cut d h f l =
     let a = k.count_is in
     let b = (few_points (block_points_at bytes (get_or ms at d)) k.block.points_are).1 in
     omega arith
+
+-- no blocks are left
+pub none_behind : (bytes : List ℕ) (ms : List BlockHandle) (k cut : ℕ) → length ms ≤ k → drop cut (coded_points bytes (drop k ms)) ≡ []
+unfolding coded_points
+none_behind bytes ms k cut l = ap (λ (x : List BlockHandle). drop cut (coded_points bytes x)) (drop_of_length-le ms l) ∙ drop_of_length-le [] (omega arith)

@@ -1,5 +1,5 @@
 //! Stages a point: allocates all that its insertion needs.
-ghost use Rattle.std.specs.Prelude.{◌≡◌, ◌+◌, ◌<◌, ◌≤◌, length, take, vec_len, vec_capacity, IfOk, OnOk};
+ghost use Rattle.std.specs.Prelude.{◌≡◌, ◌+◌, ◌<◌, ◌≤◌, length, take, vec_len, vec_capacity, option_map, IfOk, OnOk};
 ghost use Rattle.ts_raw.specs.CodedPoints.{AreBlockHandles, OthersEndBy, AreCountedBlocks, blocks_at, AllEndBefore, IsLastBefore, CutFits};
 ghost use Rattle.ts_raw.specs.BlockColumns.{IsStaged};
 ghost use Rattle.ts_raw.specs.Rewriting.{IsRewritten};
@@ -10,13 +10,6 @@ use crate::relocating::{move_last, reserve_bytes};
 use crate::rewriting::{Rewritten, cut_of, rewrite};
 use std::alloc::{AllocError, Allocator};
 use ts_core::{Time, reserve_eighth};
-
-/// A staged point, and the blocks that replace its block, unless it comes after all others.
-#[derive(Clone, Copy, Drop)]
-pub(crate) struct Staged {
-    pub(crate) point: (Time, i64),
-    pub(crate) rewritten: Option<Rewritten>,
-}
 
 /// Moves the last block to the end of the bytes if it isn't full and can't grow where it is. All blocks but the last
 /// end by the offset `tail`.
@@ -104,7 +97,7 @@ fn needed_bytes(handles: &[BlockHandle], time: Time) -> usize {
     }
 }
 
-/// Stages a point: reserves the capacity to append it, or encodes its block anew. All blocks but the last end by the
+/// Stages a point: reserves the capacity to append it, or copies its block with the point; returns the new blocks then. All blocks but the last end by the
 /// offset `tail`; the first `cut` points of `total` were removed.
 pub(crate) fn stage<A: Allocator + Copy>(
     bytes: &mut Vec<u8, A>,
@@ -113,15 +106,14 @@ pub(crate) fn stage<A: Allocator + Copy>(
     total: usize,
     cut: usize,
     point: (Time, i64),
-) -> Result<Staged, AllocError>
+) -> Result<Option<Box<Rewritten, A>>, AllocError>
     requires counted { AreCountedBlocks bytes.old.items handles.old.items total }
     requires others { OthersEndBy tail.old handles.old.items }
     requires cut { CutFits cut (blocks_at bytes.old.items handles.old.items) }
     ensures counted { AreCountedBlocks bytes.new.items handles.new.items total }
     ensures blocks { blocks_at bytes.new.items handles.new.items ≡ blocks_at bytes.old.items handles.old.items }
     ensures others { OthersEndBy tail.new handles.new.items }
-    ensures point { IfOk result (λ staged. staged.point ≡ point) }
-    ensures staged { IfOk result (λ staged. IsStaged bytes.new.items handles.new.items total cut (vec_capacity bytes.new) (vec_capacity handles.new) staged) }
+    ensures staged { IfOk result (λ new. IsStaged bytes.new.items handles.new.items total cut (vec_capacity bytes.new) (vec_capacity handles.new) point (option_map (λ b. b.value) new)) }
 {
     if total == usize::MAX {
         return Err(AllocError);
@@ -135,14 +127,9 @@ pub(crate) fn stage<A: Allocator + Copy>(
     let at = blocks_before(handles.as_slice(), point.0);
     if at == handles.len() {
         stage_last(bytes, handles, tail, total, point.0)?;
-        return Ok(Staged {
-            point,
-            rewritten: None,
-        });
+        return Ok(None);
     }
     let new = stage_among(bytes, handles, at, cut, &point)?;
-    Ok(Staged {
-        point,
-        rewritten: Some(new),
-    })
+    let alloc = *bytes.allocator();
+    Ok(Some(Box::new(alloc, new)?))
 }

@@ -11,40 +11,42 @@ use Rattle.ts_raw.proofs.CutLemmas.{is_rising_behind}
 use Rattle.ts_raw.proofs.PushLemmas.{coded_less}
 use Rattle.ts_raw.proofs.ColumnBlocks.{cut_within, numbered_front, appended_map, replaced_few, replaced_count, replaced_points, replaced_column}
 use Rattle.ts_raw.proofs.block_column.BlockColumnColumn.commit.Given.{Over}
-use Rattle.ts_raw.proofs.block_column.BlockColumnColumn.commit.Goals.{After-into_inner-staged, In-Some, After-replace-self-inside}
+use Rattle.ts_raw.proofs.block_column.BlockColumnColumn.commit.Goals.{After-unwrap-point, After-into_inner-new, After-replace-self-inside}
 use Rattle.ts_raw.proofs.block_column.BlockColumnColumn.commit.Goals as goal
 
-in_box : (g : Over) (c : After-into_inner-staged g) → option_map (λ b. b.value) c.self.inside.staged ≡ Some c.into_inner-staged.result
-in_box g c = ap (option_map (λ b. b.value)) (sym c.take.ensures.value ∙ c.unwrap.ensures) ∙ ap Some (sym c.into_inner-staged.ensures)
+point_is : (g : Over) (c : After-unwrap-point g) → c.self.inside.staged ≡ Some c.unwrap-point.result
+point_is g c = sym c.take.ensures.value ∙ c.unwrap-point.ensures
 
-staged : (g : Over) (c : After-into_inner-staged g) → IsStaged c.self.inside.bytes.items c.self.inside.handles.items c.self.inside.total c.self.inside.cut (vec_capacity c.self.inside.bytes) (vec_capacity c.self.inside.handles) c.into_inner-staged.result
-staged g c =
-    let is = in_box g c in
-    subst (IsStagedIfAny c.self.inside.bytes.items c.self.inside.handles.items c.self.inside.total c.self.inside.cut (vec_capacity c.self.inside.bytes) (vec_capacity c.self.inside.handles)) is c.self.invariant.is_staged
+staged : (g : Over) (c : After-unwrap-point g) → IsStaged c.self.inside.bytes.items c.self.inside.handles.items c.self.inside.total c.self.inside.cut (vec_capacity c.self.inside.bytes) (vec_capacity c.self.inside.handles) c.unwrap-point.result (option_map (λ b. b.value) c.self.inside.rewritten)
+staged g c = subst (λ s. IsStagedIfAny c.self.inside.bytes.items c.self.inside.handles.items c.self.inside.total c.self.inside.cut (vec_capacity c.self.inside.bytes) (vec_capacity c.self.inside.handles) s (option_map (λ b. b.value) c.self.inside.rewritten)) (point_is g c) c.self.invariant.is_staged
 
-rewritten : (g : Over) (c : In-Some g) (s : IsStaged c.self.inside.bytes.items c.self.inside.handles.items c.self.inside.total c.self.inside.cut (vec_capacity c.self.inside.bytes) (vec_capacity c.self.inside.handles) c.into_inner-staged.result) → IsRewritten c.self.inside.bytes.items c.self.inside.handles.items c.self.inside.cut c.into_inner-staged.result.point c.in-Some.new
-rewritten g c s = subst (CanCommit c.self.inside.bytes.items c.self.inside.handles.items c.self.inside.cut (vec_capacity c.self.inside.bytes) c.into_inner-staged.result.point) c.in-Some.is s.can
+rewritten : (g : Over) (c : After-into_inner-new g) (s : IsStaged c.self.inside.bytes.items c.self.inside.handles.items c.self.inside.total c.self.inside.cut (vec_capacity c.self.inside.bytes) (vec_capacity c.self.inside.handles) c.unwrap-point.result (option_map (λ b. b.value) c.self.inside.rewritten)) → IsRewritten c.self.inside.bytes.items c.self.inside.handles.items c.self.inside.cut c.unwrap-point.result c.into_inner-new.result
+rewritten g c s =
+    subst (CanCommit c.self.inside.bytes.items c.self.inside.handles.items c.self.inside.cut (vec_capacity c.self.inside.bytes) c.unwrap-point.result)
+    (ap (option_map (λ b. b.value)) (sym c.take-2.ensures.value ∙ c.in-Some.is) ∙ ap Some (sym c.into_inner-new.ensures)) s.can
 
 pub replace-self-inside-requires-clause-front : goal.replace-self-inside-requires-clause-front
-replace-self-inside-requires-clause-front g c = numbered_front c.self.inside.bytes.items c.self.inside.handles.items c.in-Some.new.at c.self.invariant.counted.coded.marked
+replace-self-inside-requires-clause-front g c = numbered_front c.self.inside.bytes.items c.self.inside.handles.items c.into_inner-new.result.at c.self.invariant.counted.coded.marked
 
 pub replace-self-inside-requires-clause-few : goal.replace-self-inside-requires-clause-few
 replace-self-inside-requires-clause-few g c =
     let a = goal.at.replace-self-inside-requires-clause-few g c in
     let bytes : List ℕ = c.self.inside.bytes.items in
     let ms : List BlockHandle = c.self.inside.handles.items in
-    let s = staged g a.After-into_inner-staged in
-    (replaced_few bytes ms c.self.inside.total c.self.inside.cut c.into_inner-staged.result.point c.in-Some.new c.self.invariant.counted c.self.invariant.cut_fits (rewritten g a.In-Some s) s.countable)
+    let s = staged g a.After-unwrap-point in
+    (replaced_few bytes ms c.self.inside.total c.self.inside.cut c.unwrap-point.result c.into_inner-new.result c.self.invariant.counted c.self.invariant.cut_fits (rewritten g a.After-into_inner-new s) s.countable)
 
 pub invariant_of-self : goal.invariant_of-self
 invariant_of-self g c = record {
   counted = c.push_later-self-inside.ensures.counted;
   others = c.push_later-self-inside.ensures.others;
   cut_fits = c.push_later-self-inside.ensures.cut c.self.inside.cut c.self.invariant.cut_fits;
-  is_staged = subst (IsStagedIfAny c.push_later-self-inside.new.bytes.items c.push_later-self-inside.new.handles.items (c.self.inside.total + 1) c.self.inside.cut (vec_capacity c.push_later-self-inside.new.bytes) (vec_capacity c.push_later-self-inside.new.handles)) (ap (option_map (λ b. b.value)) (sym c.take.ensures.after)) tt;
+  is_staged =
+      subst (λ s. IsStagedIfAny c.push_later-self-inside.new.bytes.items c.push_later-self-inside.new.handles.items (c.self.inside.total + 1) c.self.inside.cut (vec_capacity c.push_later-self-inside.new.bytes) (vec_capacity c.push_later-self-inside.new.handles) s (option_map (λ b. b.value) c.take-2.new.self))
+      (sym c.take.ensures.after) tt;
 }
 
-marks_are : (g : Over) (c : After-replace-self-inside g) → c.replace-self-inside.new.handles.items ≡ with_starts 0 (handles_replaced c.in-Some.new c.self.inside.handles.items)
+marks_are : (g : Over) (c : After-replace-self-inside g) → c.replace-self-inside.new.handles.items ≡ with_starts 0 (handles_replaced c.into_inner-new.result c.self.inside.handles.items)
 marks_are g c = c.replace-self-inside.ensures.handles
 
 pub invariant_of-self-in-Some : goal.invariant_of-self-in-Some
@@ -52,30 +54,30 @@ invariant_of-self-in-Some g c =
     let a = goal.at.invariant_of-self-in-Some g c in
     let bytes : List ℕ = c.self.inside.bytes.items in
     let ms : List BlockHandle = c.self.inside.handles.items in
-    let new : List BlockHandle = handles_replaced c.in-Some.new ms in
-    let s = staged g a.After-into_inner-staged in
-    let valid : IsTime c.into_inner-staged.result.point.0 = search rules in
+    let new : List BlockHandle = handles_replaced c.into_inner-new.result ms in
+    let s = staged g a.After-unwrap-point in
+    let valid : IsTime c.unwrap-point.result.0 = search rules in
     let size : c.len-self-inside.result ≡ length bytes = omega (arith, c.len-self-inside.ensures, c.self.inside.bytes.ok.0) in
-    let total : c.replace-self-inside.result ≡ length (coded_points bytes new) = c.replace-self-inside.ensures.total ∙ replaced_count bytes ms c.self.inside.total c.self.inside.cut c.into_inner-staged.result.point c.in-Some.new c.self.invariant.counted c.self.invariant.cut_fits (rewritten g a.In-Some s) in
+    let total : c.replace-self-inside.result ≡ length (coded_points bytes new) = c.replace-self-inside.ensures.total ∙ replaced_count bytes ms c.self.inside.total c.self.inside.cut c.unwrap-point.result c.into_inner-new.result c.self.invariant.counted c.self.invariant.cut_fits (rewritten g a.After-into_inner-new s) in
     let capacity : ℕ = vec_capacity c.self.inside.bytes in
     let handles_capacity : ℕ = vec_capacity c.replace-self-inside.new.handles in
     let end : ℕ = c.len-self-inside.result in
-    let cut : ℕ = cut_after c.in-Some.new.at c.self.inside.cut in
-    let column = replaced_column bytes ms c.self.inside.total c.self.inside.cut c.into_inner-staged.result.point c.in-Some.new c.self.invariant.counted c.self.invariant.cut_fits (rewritten g a.In-Some s) capacity handles_capacity end valid size in
-    subst (IsColumn bytes c.replace-self-inside.new.handles.items c.replace-self-inside.result c.cut_left-self-inside.result end capacity handles_capacity) (ap (option_map (λ b. b.value)) (sym c.take.ensures.after))
-    (subst (λ k. IsColumn bytes c.replace-self-inside.new.handles.items c.replace-self-inside.result k end capacity handles_capacity None) (sym c.cut_left-self-inside.ensures)
-    (subst (λ t. IsColumn bytes c.replace-self-inside.new.handles.items t cut end capacity handles_capacity None) (sym total)
-    (subst (λ (x : List BlockHandle). IsColumn bytes x (length (coded_points bytes new)) cut end capacity handles_capacity None) (sym (marks_are g a.After-replace-self-inside)) column)))
+    let cut : ℕ = cut_after c.into_inner-new.result.at c.self.inside.cut in
+    let column = replaced_column bytes ms c.self.inside.total c.self.inside.cut c.unwrap-point.result c.into_inner-new.result c.self.invariant.counted c.self.invariant.cut_fits (rewritten g a.After-into_inner-new s) capacity handles_capacity end (option_map (λ b. b.value) c.take-2.new.self) valid size in
+    subst (λ s. IsColumn bytes c.replace-self-inside.new.handles.items c.replace-self-inside.result c.cut_left-self-inside.result end capacity handles_capacity s (option_map (λ b. b.value) c.take-2.new.self)) (sym c.take.ensures.after)
+    (subst (λ k. IsColumn bytes c.replace-self-inside.new.handles.items c.replace-self-inside.result k end capacity handles_capacity None (option_map (λ b. b.value) c.take-2.new.self)) (sym c.cut_left-self-inside.ensures)
+    (subst (λ t. IsColumn bytes c.replace-self-inside.new.handles.items t cut end capacity handles_capacity None (option_map (λ b. b.value) c.take-2.new.self)) (sym total)
+    (subst (λ (x : List BlockHandle). IsColumn bytes x (length (coded_points bytes new)) cut end capacity handles_capacity None (option_map (λ b. b.value) c.take-2.new.self)) (sym (marks_are g a.After-replace-self-inside)) column)))
 
 pub returns-in-None-clause-put : goal.returns-in-None-clause-put
 returns-in-None-clause-put g c =
     let a = goal.at.returns-in-None-clause-put g c in
     let bytes : List ℕ = c.self.inside.bytes.items in
     let ms : List BlockHandle = c.self.inside.handles.items in
-    let p : ℤ × ℤ = c.into_inner-staged.result.point in
-    let s = staged g a.After-into_inner-staged in
-    let can : CanCommit bytes ms c.self.inside.cut (vec_capacity c.self.inside.bytes) p None = subst (CanCommit bytes ms c.self.inside.cut (vec_capacity c.self.inside.bytes) p) c.in-None.is s.can in
-    rw (← c.self.view_is, in_box g a.After-into_inner-staged, c.push_later-self-inside.ensures.points)
+    let p : ℤ × ℤ = c.unwrap-point.result in
+    let s = staged g a.After-unwrap-point in
+    let can : CanCommit bytes ms c.self.inside.cut (vec_capacity c.self.inside.bytes) p None = subst (CanCommit bytes ms c.self.inside.cut (vec_capacity c.self.inside.bytes) p) (ap (option_map (λ b. b.value)) (sym c.take-2.ensures.value ∙ c.in-None.is)) s.can in
+    rw (← c.self.view_is, point_is g a.After-unwrap-point, c.push_later-self-inside.ensures.points)
     (appended_map (coded_points bytes ms) c.self.inside.cut p c.self.invariant.counted.coded.rising (coded_less bytes p.0 ms 0 c.self.invariant.counted.coded.marked can.0) (cut_within bytes ms c.self.inside.cut c.self.invariant.cut_fits))
 
 pub returns-in-Some-clause-put : goal.returns-in-Some-clause-put
@@ -84,10 +86,10 @@ returns-in-Some-clause-put g c =
     let bytes : List ℕ = c.self.inside.bytes.items in
     let ms : List BlockHandle = c.self.inside.handles.items in
     let cut : ℕ = c.self.inside.cut in
-    let p : ℤ × ℤ = c.into_inner-staged.result.point in
-    let s = staged g a.After-into_inner-staged in
+    let p : ℤ × ℤ = c.unwrap-point.result in
+    let s = staged g a.After-unwrap-point in
     let valid : IsTime p.0 = search rules in
     let handles = marks_are g a.After-replace-self-inside in
-    rw (← c.self.view_is, in_box g a.After-into_inner-staged, c.cut_left-self-inside.ensures, handles)
-    (ap (map.from_sorted {R = int_cmp}) (replaced_points bytes ms c.self.inside.total cut p c.in-Some.new c.self.invariant.counted c.self.invariant.cut_fits (rewritten g a.In-Some s) valid)
+    rw (← c.self.view_is, point_is g a.After-unwrap-point, c.cut_left-self-inside.ensures, handles)
+    (ap (map.from_sorted {R = int_cmp}) (replaced_points bytes ms c.self.inside.total cut p c.into_inner-new.result c.self.invariant.counted c.self.invariant.cut_fits (rewritten g a.After-into_inner-new s) valid)
     ∙ from_sorted-put int_cmp_total (drop cut (coded_points bytes ms)) (is_rising_behind cut (coded_points bytes ms) c.self.invariant.counted.coded.rising) p.0 p.1)
