@@ -41,6 +41,7 @@ pub(crate) fn is_at_end(handle: &BlockHandle, size: usize, tail: usize) -> bool
 }
 
 /// Appends a point as a block of its own. There must be capacity.
+#[cold]
 fn push_block<A: Allocator>(
     bytes: &mut Vec<u8, A>,
     handles: &mut Vec<BlockHandle, A>,

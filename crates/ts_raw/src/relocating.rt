@@ -90,8 +90,31 @@ fn compact<A: Allocator + Copy>(
     Ok(bytes.len())
 }
 
-/// Reserves capacity for `size` bytes. If more than a quarter of the bytes is of no block, the blocks are first copied
-/// into new bytes without gaps. All blocks but the last end by the offset `tail`.
+/// Adds capacity for `size` bytes. If more than a quarter of the bytes is of no block, the blocks are copied into new
+/// bytes without gaps, with capacity for half as many more: so the copied bytes are few by comparison with those that
+/// came in between. All blocks but the last end by the offset `tail`.
+#[cold]
+fn add_capacity<A: Allocator + Copy>(
+    bytes: &mut Vec<u8, A>,
+    handles: &mut Vec<BlockHandle, A>,
+    tail: &mut usize,
+    size: usize,
+) -> Result<(), AllocError>
+    requires marked { AreBlockHandles bytes.old.items 0 handles.old.items }
+    requires others { OthersEndBy tail.old handles.old.items }
+    ensures marked { AreBlockHandles bytes.new.items 0 handles.new.items }
+    ensures blocks { blocks_at bytes.new.items handles.new.items ≡ blocks_at bytes.old.items handles.old.items }
+    ensures others { OthersEndBy tail.new handles.new.items }
+{
+    let used = blocks_size(handles.as_slice());
+    if bytes.len() - used.min(bytes.len()) > bytes.len() / 4 {
+        *tail = compact(bytes, handles, used.saturating_add(used / 2))?;
+    }
+    reserve_eighth(bytes, size)
+}
+
+/// Reserves capacity for `size` bytes. All blocks but the last end by the offset `tail`.
+#[inline]
 pub(crate) fn reserve_bytes<A: Allocator + Copy>(
     bytes: &mut Vec<u8, A>,
     handles: &mut Vec<BlockHandle, A>,
@@ -107,9 +130,5 @@ pub(crate) fn reserve_bytes<A: Allocator + Copy>(
     if bytes.capacity() - bytes.len() >= size {
         return Ok(());
     }
-    let used = blocks_size(handles.as_slice());
-    if bytes.len() - used.min(bytes.len()) > bytes.len() / 4 {
-        *tail = compact(bytes, handles, used)?;
-    }
-    reserve_eighth(bytes, size)
+    add_capacity(bytes, handles, tail, size)
 }

@@ -324,6 +324,7 @@ fn insert_blocks<A: Allocator>(handles: &mut Vec<BlockHandle, A>, new: &Rewritte
 }
 
 /// Replaces a block with new ones. There must be capacity for a handle. Returns the number of all points.
+#[cold]
 pub(crate) fn replace<A: Allocator>(handles: &mut Vec<BlockHandle, A>, new: &Rewritten) -> usize
     requires within { new.now.at < length handles.old.items }
     requires spare { vec_len handles.old < vec_capacity handles.old }

@@ -82,17 +82,44 @@ fn stage_among<A: Allocator + Copy>(
     rewrite(bytes, &handle, at, cut_of(at, cut), point)
 }
 
-/// Returns about as many bytes as a point takes: if its block is to be encoded anew, those of the block.
+/// As `stage_among`, with the new blocks in a box.
+#[cold]
+fn stage_boxed<A: Allocator + Copy>(
+    bytes: &mut Vec<u8, A>,
+    handles: &mut Vec<BlockHandle, A>,
+    at: usize,
+    cut: usize,
+    point: &(Time, i64),
+) -> Result<Box<Rewritten, A>, AllocError>
+    requires marked { AreBlockHandles bytes.old.items 0 handles.old.items }
+    requires cut { CutFits cut (blocks_at bytes.old.items handles.old.items) }
+    requires at { IsLastBefore point.now.0 handles.old.items at }
+    requires within { at < length handles.old.items }
+    ensures items { handles.new.items ≡ handles.old.items }
+    ensures kept { take (vec_len bytes.old) bytes.new.items ≡ bytes.old.items }
+    ensures handles_spare { OnOk result (vec_len handles.new < vec_capacity handles.new) }
+    ensures rewritten { IfOk result (λ new. IsRewritten bytes.new.items handles.new.items cut point.now new.value) }
+{
+    let new = stage_among(bytes, handles, at, cut, point)?;
+    let alloc = *bytes.allocator();
+    Ok(Box::new(alloc, new)?)
+}
+
+/// Returns about as many bytes as the copy of a point's block takes with the point.
+#[cold]
+fn needed_among(handles: &[BlockHandle], time: Time) -> usize {
+    let at = handles.partition_point(|handle| handle.last < time);
+    let size = match handles.get(at) {
+        Some(handle) => handle.end.saturating_sub(handle.start),
+        None => 0,
+    };
+    size.saturating_add(2 * POINT_BYTES)
+}
+
+/// Returns about as many bytes as a point takes: if its block is to be copied, those of the block.
 fn needed_bytes(handles: &[BlockHandle], time: Time) -> usize {
     match handles.last() {
-        Some(last) if last.last >= time => {
-            let at = handles.partition_point(|handle| handle.last < time);
-            let size = match handles.get(at) {
-                Some(handle) => handle.end.saturating_sub(handle.start),
-                None => 0,
-            };
-            size.saturating_add(2 * POINT_BYTES)
-        }
+        Some(last) if last.last >= time => needed_among(handles, time),
         _ => POINT_BYTES,
     }
 }
@@ -129,7 +156,6 @@ pub(crate) fn stage<A: Allocator + Copy>(
         stage_last(bytes, handles, tail, total, point.0)?;
         return Ok(None);
     }
-    let new = stage_among(bytes, handles, at, cut, &point)?;
-    let alloc = *bytes.allocator();
-    Ok(Some(Box::new(alloc, new)?))
+    let new = stage_boxed(bytes, handles, at, cut, &point)?;
+    Ok(Some(new))
 }

@@ -36,33 +36,21 @@ returns-then-at-len-clause-counted g c = let a = goal.at.returns-then-at-len-cla
 pub returns-in_err-new-clause-counted : goal.returns-in_err-new-clause-counted
 returns-in_err-new-clause-counted g c =
     let a = goal.at.returns-in_err-new-clause-counted g c in
-    let both = stays c.reserve_bytes.new.bytes.items c.stage_among.new.bytes.items c.reserve_bytes.new.handles.items c.stage_among.new.handles.items (vec_len c.reserve_bytes.new.bytes) (omega (arith, c.reserve_bytes.new.bytes.ok.0)) c.stage_among.ensures.kept c.stage_among.ensures.items c.reserve_bytes.ensures.marked in
-    counted_again c.reserve_bytes.new.bytes.items c.stage_among.new.bytes.items c.reserve_bytes.new.handles.items c.stage_among.new.handles.items c.args.total (moved g a.After-reserve_bytes) both.0 both.1
+    let both = stays c.reserve_bytes.new.bytes.items c.stage_boxed.new.bytes.items c.reserve_bytes.new.handles.items c.stage_boxed.new.handles.items (vec_len c.reserve_bytes.new.bytes) (omega (arith, c.reserve_bytes.new.bytes.ok.0)) c.stage_boxed.ensures.kept c.stage_boxed.ensures.items c.reserve_bytes.ensures.marked in
+    counted_again c.reserve_bytes.new.bytes.items c.stage_boxed.new.bytes.items c.reserve_bytes.new.handles.items c.stage_boxed.new.handles.items c.args.total (moved g a.After-reserve_bytes) both.0 both.1
 
 pub returns-in_err-new-clause-blocks : goal.returns-in_err-new-clause-blocks
 returns-in_err-new-clause-blocks g c =
-    (stays c.reserve_bytes.new.bytes.items c.stage_among.new.bytes.items c.reserve_bytes.new.handles.items c.stage_among.new.handles.items (vec_len c.reserve_bytes.new.bytes) (omega (arith, c.reserve_bytes.new.bytes.ok.0)) c.stage_among.ensures.kept c.stage_among.ensures.items c.reserve_bytes.ensures.marked).1
+    (stays c.reserve_bytes.new.bytes.items c.stage_boxed.new.bytes.items c.reserve_bytes.new.handles.items c.stage_boxed.new.handles.items (vec_len c.reserve_bytes.new.bytes) (omega (arith, c.reserve_bytes.new.bytes.ok.0)) c.stage_boxed.ensures.kept c.stage_boxed.ensures.items c.reserve_bytes.ensures.marked).1
     ∙ c.reserve_bytes.ensures.blocks
 
 pub returns-clause-counted : goal.returns-clause-counted
 returns-clause-counted g c =
     let a = goal.at.returns-clause-counted g c in
-    let both = stays c.reserve_bytes.new.bytes.items c.stage_among.new.bytes.items c.reserve_bytes.new.handles.items c.stage_among.new.handles.items (vec_len c.reserve_bytes.new.bytes) (omega (arith, c.reserve_bytes.new.bytes.ok.0)) c.stage_among.ensures.kept c.stage_among.ensures.items c.reserve_bytes.ensures.marked in
-    counted_again c.reserve_bytes.new.bytes.items c.stage_among.new.bytes.items c.reserve_bytes.new.handles.items c.stage_among.new.handles.items c.args.total (moved g a.After-reserve_bytes) both.0 both.1
+    let both = stays c.reserve_bytes.new.bytes.items c.stage_boxed.new.bytes.items c.reserve_bytes.new.handles.items c.stage_boxed.new.handles.items (vec_len c.reserve_bytes.new.bytes) (omega (arith, c.reserve_bytes.new.bytes.ok.0)) c.stage_boxed.ensures.kept c.stage_boxed.ensures.items c.reserve_bytes.ensures.marked in
+    counted_again c.reserve_bytes.new.bytes.items c.stage_boxed.new.bytes.items c.reserve_bytes.new.handles.items c.stage_boxed.new.handles.items c.args.total (moved g a.After-reserve_bytes) both.0 both.1
 
 pub returns-clause-blocks : goal.returns-clause-blocks
 returns-clause-blocks g c =
-    (stays c.reserve_bytes.new.bytes.items c.stage_among.new.bytes.items c.reserve_bytes.new.handles.items c.stage_among.new.handles.items (vec_len c.reserve_bytes.new.bytes) (omega (arith, c.reserve_bytes.new.bytes.ok.0)) c.stage_among.ensures.kept c.stage_among.ensures.items c.reserve_bytes.ensures.marked).1
+    (stays c.reserve_bytes.new.bytes.items c.stage_boxed.new.bytes.items c.reserve_bytes.new.handles.items c.stage_boxed.new.handles.items (vec_len c.reserve_bytes.new.bytes) (omega (arith, c.reserve_bytes.new.bytes.ok.0)) c.stage_boxed.ensures.kept c.stage_boxed.ensures.items c.reserve_bytes.ensures.marked).1
     ∙ c.reserve_bytes.ensures.blocks
-
-pub returns-in_err-new-2-clause-counted : goal.returns-in_err-new-2-clause-counted
-returns-in_err-new-2-clause-counted g c =
-    let a = goal.at.returns-in_err-new-2-clause-counted g c in
-    let both = stays c.reserve_bytes.new.bytes.items c.stage_among.new.bytes.items c.reserve_bytes.new.handles.items c.stage_among.new.handles.items (vec_len c.reserve_bytes.new.bytes) (omega (arith, c.reserve_bytes.new.bytes.ok.0)) c.stage_among.ensures.kept c.stage_among.ensures.items c.reserve_bytes.ensures.marked in
-    counted_again c.reserve_bytes.new.bytes.items c.stage_among.new.bytes.items c.reserve_bytes.new.handles.items c.stage_among.new.handles.items c.args.total (moved g a.After-reserve_bytes) both.0 both.1
-
-pub returns-in_err-new-2-clause-blocks : goal.returns-in_err-new-2-clause-blocks
-returns-in_err-new-2-clause-blocks g c =
-    (stays c.reserve_bytes.new.bytes.items c.stage_among.new.bytes.items c.reserve_bytes.new.handles.items c.stage_among.new.handles.items (vec_len c.reserve_bytes.new.bytes) (omega (arith, c.reserve_bytes.new.bytes.ok.0)) c.stage_among.ensures.kept c.stage_among.ensures.items c.reserve_bytes.ensures.marked).1
-    ∙ c.reserve_bytes.ensures.blocks
-
