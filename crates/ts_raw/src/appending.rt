@@ -68,7 +68,7 @@ fn push_block<A: Allocator>(
         last: point.0,
         summary: Agg::single(point.0, point.1),
     };
-    handles.push(handle).unwrap();
+    handles.push_reserved(handle);
 }
 
 /// Appends a point to the last block in place. Its handle was removed from `handles`. There must be capacity.
@@ -108,7 +108,7 @@ fn push_last<A: Allocator>(
         summary: handle.summary.merge(Agg::single(point.0, point.1)),
         ..*handle
     };
-    handles.push(handle).unwrap();
+    handles.push_reserved(handle);
 }
 
 /// Appends a point after all others, to the last block if it can grow in place, else as a block of its own. There must

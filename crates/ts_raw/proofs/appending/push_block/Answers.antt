@@ -6,10 +6,10 @@ use Rattle.ts_raw.specs.CodedPoints.{coded_points, blocks_at, AreCountedBlocks, 
 use Rattle.ts_raw.proofs.PushLemmas.{all_within, others_from, new_mark, summary_of_one, rising_push, coded_less}
 use Rattle.ts_raw.proofs.SealingLemmas.{sealed, joined_push}
 use Rattle.ts_raw.proofs.appending.push_block.Given.{Over}
-use Rattle.ts_raw.proofs.appending.push_block.Goals.{After-unwrap}
+use Rattle.ts_raw.proofs.appending.push_block.Goals.{After-push_reserved}
 use Rattle.ts_raw.proofs.appending.push_block.Goals as goal
 
-handle : (g : Over) (c : After-unwrap g) → BlockHandle
+handle : (g : Over) (c : After-push_reserved g) → BlockHandle
 handle g c = record {
   start = c.len-start.result;
   values = 9;
@@ -20,7 +20,7 @@ handle g c = record {
   summary = c.single.result;
 }
 
-both : (g : Over) (c : After-unwrap g) → AreCountedBlocks c.begin.new.bytes.items (c.args.handles.now.items ++ handle g c ∷ []) (c.args.total + 1)
+both : (g : Over) (c : After-push_reserved g) → AreCountedBlocks c.begin.new.bytes.items (c.args.handles.now.items ++ handle g c ∷ []) (c.args.total + 1)
     × (coded_points c.begin.new.bytes.items (c.args.handles.now.items ++ handle g c ∷ []) ≡ coded_points c.args.bytes.now.items c.args.handles.now.items ++ c.args.point.now ∷ [])
     × (blocks_at c.begin.new.bytes.items (c.args.handles.now.items ++ handle g c ∷ []) ≡ blocks_at c.args.bytes.now.items c.args.handles.now.items ++ ((c.args.point.now ∷ []) ∷ []))
 unfolding handle
@@ -40,29 +40,29 @@ both g c =
     let s = sealed bytes new ms (handle g c) c.args.total (c.args.point.now ∷ []) c.requires.counted same (record { handle = encoded.0; points_are = encoded.1 }) block.block.points_are rising in
     (s.0, joined_push bytes new ms (ms ++ handle g c ∷ []) (c.args.point.now ∷ []) s.1, s.1)
 
-items : (g : Over) (c : After-unwrap g) → c.push.new.self.items ≡ c.args.handles.now.items ++ handle g c ∷ []
+items : (g : Over) (c : After-push_reserved g) → c.push_reserved.new.self.items ≡ c.args.handles.now.items ++ handle g c ∷ []
 unfolding handle
-items g c = c.push.ensures.items ∙ ap (λ r. if is_ok r then c.args.handles.now.items ++ handle g c ∷ [] else c.args.handles.now.items) c.unwrap.ensures
+items g c = c.push_reserved.ensures.items
 
 pub returns-clause-counted : goal.returns-clause-counted
 returns-clause-counted g c =
-    let at = (goal.at.returns-clause-counted g c).After-unwrap in
+    let at = (goal.at.returns-clause-counted g c).After-push_reserved in
     subst (λ (ms : List BlockHandle). AreCountedBlocks c.begin.new.bytes.items ms (c.args.total + 1)) (sym (items g at)) (both g at).0
 
 pub returns-clause-points : goal.returns-clause-points
 returns-clause-points g c =
-    let at = (goal.at.returns-clause-points g c).After-unwrap in
+    let at = (goal.at.returns-clause-points g c).After-push_reserved in
     ap (coded_points c.begin.new.bytes.items) (items g at) ∙ (both g at).1
 
 pub returns-clause-blocks : goal.returns-clause-blocks
 returns-clause-blocks g c =
-    let at = (goal.at.returns-clause-blocks g c).After-unwrap in
+    let at = (goal.at.returns-clause-blocks g c).After-push_reserved in
     ap (blocks_at c.begin.new.bytes.items) (items g at) ∙ (both g at).2
 
 pub returns-clause-others : goal.returns-clause-others
 returns-clause-others g c =
-    let at = (goal.at.returns-clause-others g c).After-unwrap in
+    let at = (goal.at.returns-clause-others g c).After-push_reserved in
     let bytes : List ℕ = c.args.bytes.now.items in
     let size : length bytes ≡ vec_len c.args.bytes.now = omega (arith, c.args.bytes.now.ok.0) in
-    subst (λ n. OthersEndBy n c.push.new.self.items) size
+    subst (λ n. OthersEndBy n c.push_reserved.new.self.items) size
     (subst (OthersEndBy (length bytes)) (sym (items g at)) (others_from (length bytes) c.args.handles.now.items (handle g at) (all_within bytes c.args.handles.now.items 0 c.requires.counted.coded.marked)))

@@ -8,7 +8,7 @@ use Rattle.ts_raw.specs.declared.block_handle.BlockHandle.{BlockHandle}
 use Rattle.ts_raw.specs.CodedPoints.{block_points_at, coded_points, blocks_at, AreCountedBlocks, OthersEndBy}
 use Rattle.ts_raw.proofs.PushLemmas.{last_block, last_before, last_values, marks_split, others_from, extended}
 use Rattle.ts_raw.proofs.appending.push_last.Given.{Over}
-use Rattle.ts_raw.proofs.appending.push_last.Goals.{After-unwrap}
+use Rattle.ts_raw.proofs.appending.push_last.Goals.{After-push_reserved}
 use Rattle.ts_raw.proofs.appending.push_last.Goals as goal
 
 pub append-values-requires-clause-ends : goal.append-values-requires-clause-ends
@@ -37,7 +37,7 @@ overflow_add-handle g c =
     let size : Fits w64 m.end = search rules in
     Fits-le (let n : m.start + m.values ≤ m.end = omega arith in n) size
 
-handle : (g : Over) (c : After-unwrap g) → BlockHandle
+handle : (g : Over) (c : After-push_reserved g) → BlockHandle
 handle g c = record c.args.handle.now {
   values = c.append-values.result - c.args.handle.now.start;
   end = c.len.result;
@@ -46,7 +46,7 @@ handle g c = record c.args.handle.now {
   summary = c.merge.result;
 }
 
-both : (g : Over) (c : After-unwrap g) → AreCountedBlocks c.append-values.new.bytes.items (c.args.handles.now.items ++ handle g c ∷ []) (c.args.total + 1)
+both : (g : Over) (c : After-push_reserved g) → AreCountedBlocks c.append-values.new.bytes.items (c.args.handles.now.items ++ handle g c ∷ []) (c.args.total + 1)
     × (coded_points c.append-values.new.bytes.items (c.args.handles.now.items ++ handle g c ∷ []) ≡ coded_points c.args.bytes.now.items (c.args.handles.now.items ++ c.args.handle.now ∷ []) ++ c.args.point.now ∷ [])
     × (blocks_at c.append-values.new.bytes.items (c.args.handles.now.items ++ handle g c ∷ []) ≡ blocks_at c.args.bytes.now.items c.args.handles.now.items ++ ((block_points_at c.args.bytes.now.items c.args.handle.now ++ c.args.point.now ∷ []) ∷ []))
 unfolding handle
@@ -64,9 +64,9 @@ both g c =
     extended bytes new c.args.handles.now.items m (handle g c) c.args.total c.args.point.now c.requires.counted c.requires.later here c.requires.apart valid refl refl refl refl end (c.merge.ensures ∙ ap (merged m.summary) one) c.append-values.ensures.before
     (subst (λ n. EndsInBlock new m.start n c.args.point.now.0 (block_points_at bytes m ++ c.args.point.now ∷ [])) index block)
 
-items : (g : Over) (c : After-unwrap g) → c.push.new.self.items ≡ c.args.handles.now.items ++ handle g c ∷ []
+items : (g : Over) (c : After-push_reserved g) → c.push_reserved.new.self.items ≡ c.args.handles.now.items ++ handle g c ∷ []
 unfolding handle
-items g c = c.push.ensures.items ∙ ap (λ r. if is_ok r then c.args.handles.now.items ++ handle g c ∷ [] else c.args.handles.now.items) c.unwrap.ensures
+items g c = c.push_reserved.ensures.items
 
 pub overflow_sub-handle : goal.overflow_sub-handle
 overflow_sub-handle g c =
@@ -79,22 +79,22 @@ overflow_sub-handle g c =
 
 pub returns-clause-counted : goal.returns-clause-counted
 returns-clause-counted g c =
-    let at = (goal.at.returns-clause-counted g c).After-unwrap in
+    let at = (goal.at.returns-clause-counted g c).After-push_reserved in
     subst (λ (ms : List BlockHandle). AreCountedBlocks c.append-values.new.bytes.items ms (c.args.total + 1)) (sym (items g at)) (both g at).0
 
 pub returns-clause-others : goal.returns-clause-others
 returns-clause-others g c = λ offset h.
-    let at = (goal.at.returns-clause-others g c).After-unwrap in
+    let at = (goal.at.returns-clause-others g c).After-push_reserved in
     subst (OthersEndBy offset) (sym (items g at)) (others_from offset c.args.handles.now.items (handle g at) h)
 
 pub returns-clause-points : goal.returns-clause-points
 returns-clause-points g c =
-    let at = (goal.at.returns-clause-points g c).After-unwrap in
+    let at = (goal.at.returns-clause-points g c).After-push_reserved in
     ap (coded_points c.append-values.new.bytes.items) (items g at) ∙ (both g at).1
 
 pub returns-clause-blocks : goal.returns-clause-blocks
 returns-clause-blocks g c =
-    let at = (goal.at.returns-clause-blocks g c).After-unwrap in
+    let at = (goal.at.returns-clause-blocks g c).After-push_reserved in
     ap (blocks_at c.append-values.new.bytes.items) (items g at) ∙ (both g at).2
 
 pub merge-requires : goal.merge-requires
