@@ -4,18 +4,18 @@ use Rattle.std.proofs.lemmas.Int.{ints}
 use Rattle.std.proofs.Math.Seq.{take-append_seam}
 use Rattle.std.proofs.lemmas.List.{length_push, map-append, take_rest}
 use Rattle.std.specs.List.{AllByRecursion}
-use Rattle.ts_core.specs.facts.Times.{IsTime, least_time}
+use Rattle.ts_core.specs.facts.Times.{least_time}
 use Rattle.ts_block.specs.Varints.{number_text, zigzag}
 use Rattle.ts_block.specs.NumbersRead.{number_at}
-use Rattle.ts_block.specs.Blocks.{times_of, values_of, head_text, step_between, steps_text, values_text, block_text, last_of, AreLater, IsBlockOf}
+use Rattle.ts_block.specs.Blocks.{times_of, values_of, step_between, steps_text, values_text, last_of, IsBlockOf}
 use Rattle.ts_block.specs.BlocksRead.{head_at, step_at}
 use Rattle.ts_block.specs.Decoding.{AreAt}
 use Rattle.ts_block.specs.Appending.{values_start, last_time}
 use Rattle.ts_block.specs.declared.place.Place.{Place}
 use Rattle.ts_block.specs.Splicing.{steps_of, first_or, IsPlace}
 use Rattle.ts_block.proofs.Choices.{ok_is}
-use Rattle.ts_block.proofs.DecodingLemmas.{values_behind, same_head, value_here, step_here, next_at}
-use Rattle.ts_block.proofs.AppendingLemmas.{steps_push, values_push, times_push, vals_push, last_push}
+use Rattle.ts_block.proofs.DecodingLemmas.{values_behind, same_head, value_here, step_here}
+use Rattle.ts_block.proofs.AppendingLemmas.{steps_push, times_push, last_push}
 
 -- ---- one more point before the place
 

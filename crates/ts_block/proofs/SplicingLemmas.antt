@@ -1,5 +1,5 @@
 -- Copying a block with one point more, and parts of a block.
-use Rattle.std.proofs.Common.{◌≡◌, ℕ, zero, suc, ◌+◌, ◌-◌, ◌<◌, ◌≤◌, ◌^◌, nat_eq, ℤ, ◌<ℤ◌, ◌≤ℤ◌, int_lt, int_cmp, Less, Equal, Greater, List, [], ◌∷◌, ◌++◌, length, get_or, take, drop, IsOk, Ok, true, false, Bool, cond, append_assoc, append-nil, length-append, refl, sym, ◌∙◌, ap, subst, arith, FitsSigned, w64, ⊎_elim}
+use Rattle.std.proofs.Common.{◌≡◌, ℕ, suc, ◌+◌, ◌-◌, ◌<◌, ◌≤◌, nat_eq, ℤ, ◌<ℤ◌, ◌≤ℤ◌, int_lt, int_cmp, Less, Equal, Greater, List, [], ◌∷◌, ◌++◌, length, get_or, take, drop, IsOk, Ok, true, false, Bool, cond, append_assoc, length-append, refl, sym, ◌∙◌, ap, subst, arith, FitsSigned, w64, ⊎_elim}
 use Rattle.std.proofs.Math.Seq.{take-append_seam, drop-append_seam}
 use Rattle.std.proofs.lemmas.List.{map-append}
 use Rattle.std.proofs.lemmas.Int.{ints}
@@ -292,7 +292,7 @@ module _ (points : List (ℤ × ℤ)) (are : ArePoints points) (t v : ℤ) (limi
     pub with_one : IsBlockWith points (t, v) (copied (count_with limit place t)) (length (text_to (count_with limit place t) place t ++ steps_after place t)) (int_lt t place.time)
     with_one =
         elim (int_lt t place.time) as (λ b. int_lt t place.time ≡ b → IsBlockWith points (t, v) (copied (count_with limit place t)) (length (text_to (count_with limit place t) place t ++ steps_after place t)) (int_lt t place.time)) [
-            true ↦ inserted
+          | true ↦ inserted
           | false ↦ replaced
         ] refl
 
@@ -351,13 +351,13 @@ module _ (points : List (ℤ × ℤ)) (are : ArePoints points) (count : ℕ) (la
       let text : head_text (n - count) place.time ++ place.later_steps.now ≡ head_text (length pl.later) pl.point.0 ++ steps_text pl.point.0 (times_of pl.later) = λ i. head_text (h i) (pl.time_is i) ++ pl.later_steps i in
       subst (λ (x : List (ℤ × ℤ)). IsPart x ((head_text (n - count) place.time ++ place.later_steps.now) ++ place.later_values.now) (length (head_text (n - count) place.time ++ place.later_steps.now)) (last_time points)) (sym drop_is)
       (record {
-          block = record {
-            points_are = behind_cut;
-            spelled = (λ i. text i ++ pl.later_values i) ∙ append_assoc (head_text (length pl.later) pl.point.0) (steps_text pl.point.0 (times_of pl.later)) (values_text (values_of (pl.point ∷ pl.later)));
-          };
-          values_at = ap length text ∙ length-append (head_text (length pl.later) pl.point.0) (steps_text pl.point.0 (times_of pl.later));
-          last_is = ap last_time pl.cut ∙ last_joined pl.earlier pl.point pl.later;
-        })
+        block = record {
+          points_are = behind_cut;
+          spelled = (λ i. text i ++ pl.later_values i) ∙ append_assoc (head_text (length pl.later) pl.point.0) (steps_text pl.point.0 (times_of pl.later)) (values_text (values_of (pl.point ∷ pl.later)));
+        };
+        values_at = ap length text ∙ length-append (head_text (length pl.later) pl.point.0) (steps_text pl.point.0 (times_of pl.later));
+        last_is = ap last_time pl.cut ∙ last_joined pl.earlier pl.point pl.later;
+      })
 
   pub first_part : 0 < count → IsPart (take count points) ((head_text (count - 1) place.first ++ place.earlier_steps.now) ++ place.earlier_values.now) (length (head_text (count - 1) place.first ++ place.earlier_steps.now)) place.before
   unfolding block_text

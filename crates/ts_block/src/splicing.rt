@@ -108,7 +108,12 @@ pub fn with_point<A: Allocator>(
     let limit = usize::from(block[0]);
     let place = find(block, values, limit, point.0);
     let mut out = Vec::with_capacity(alloc, block.len() + 20)?;
-    push_to(&mut out, count_after(limit, &place, point.0), &place, point.0)?;
+    push_to(
+        &mut out,
+        count_after(limit, &place, point.0),
+        &place,
+        point.0,
+    )?;
     push_after(&mut out, &place, point.0)?;
     let values = out.len();
     out.extend_from_slice(place.earlier_values)?;

@@ -1,5 +1,5 @@
 -- Encoding a block anew, with a point inserted or replaced.
-use Rattle.std.proofs.Common.{◌-◌, ◌≡◌, ℕ, zero, suc, ◌+◌, ◌<◌, ◌≤◌, ℤ, ◌<ℤ◌, ◌≤ℤ◌, int_cmp, is_lt, T, Less, Equal, Greater, List, [], ◌∷◌, ◌++◌, length, take, drop, get_or, set, insert, append_assoc, append-nil, length-append, length-drop, drop-cons, refl, sym, ◌∙◌, ap, subst, arith}
+use Rattle.std.proofs.Common.{◌-◌, ◌≡◌, ℕ, zero, suc, ◌+◌, ◌<◌, ◌≤◌, ℤ, ◌<ℤ◌, ◌≤ℤ◌, int_cmp, is_lt, T, Less, Equal, Greater, List, [], ◌∷◌, ◌++◌, length, take, drop, get_or, set, insert, append_assoc, append-nil, length-append, drop-cons, refl, sym, ◌∙◌, ap, subst, arith}
 use Rattle.std.proofs.lemmas.Int.{ints}
 use Rattle.std.proofs.lemmas.List.{take_all, take-append-drop, length-take-le}
 use Rattle.std.proofs.Math.ListN.{drop_of_length-le}
@@ -10,17 +10,14 @@ use Rattle.std.specs.List.{AllByRecursion}
 use Rattle.std.specs.FinMap.{put}
 use Rattle.std.specs.FinMap.Entries.{below_all, by_order}
 use Rattle.ts_core.proofs.lists.Places.{both_of}
-use Rattle.ts_core.specs.facts.Times.{IsTime}
 use Rattle.ts_block.specs.Blocks.{times_of, values_of, AreLater, ArePoints, AreValues, last_of}
 use Rattle.ts_block.specs.Appending.{last_time}
 use Rattle.ts_raw.specs.declared.block_handle.BlockHandle.{BlockHandle}
 use Rattle.ts_raw.specs.Columns.{AreTimed}
 use Rattle.ts_raw.specs.PlainColumns.{IsRising}
-use Rattle.ts_raw.specs.CodedPoints.{block_points_at, coded_points, blocks_at, IsBlockHandle, AreBlocks, AreBlockHandles, with_starts, count_in_blocks}
+use Rattle.ts_raw.specs.CodedPoints.{block_points_at, coded_points, blocks_at, AreBlocks, AreBlockHandles, with_starts, count_in_blocks}
 use Rattle.ts_raw.specs.declared.rewriting.Rewritten.{Rewritten}
 use Rattle.ts_raw.specs.Rewriting.{handles_replaced, blocks_of, IsEncoded}
-use Rattle.ts_raw.proofs.PointMaps.{rising-put, timed-put}
-use Rattle.ts_raw.proofs.CutLemmas.{is_rising_behind, timed_behind, timed_first}
 use Rattle.ts_raw.proofs.PushLemmas.{and_T, less_T}
 use Rattle.ts_raw.proofs.BlockLists.{mark_stays, take_next}
 

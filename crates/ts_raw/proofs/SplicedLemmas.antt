@@ -1,6 +1,6 @@
 -- Blocks that are copied with one point more, or in parts.
-use Rattle.std.proofs.Common.{◌≡◌, ℕ, zero, suc, ◌+◌, ◌-◌, ◌<◌, ◌≤◌, ℤ, ◌<ℤ◌, ◌≤ℤ◌, List, [], ◌∷◌, ◌++◌, length, take, drop, length-append, refl, sym, ◌∙◌, ap, subst, arith}
-use Rattle.ts_core.specs.aggregates.Aggregates.{Aggregate, empty_aggregate, aggregate_of_one, merged, aggregate_of_points}
+use Rattle.std.proofs.Common.{◌≡◌, ℕ, zero, suc, ◌+◌, ◌<◌, ◌≤◌, ℤ, ◌<ℤ◌, ◌≤ℤ◌, List, [], ◌∷◌, ◌++◌, length, take, drop, length-append, refl, sym, ◌∙◌, ap, subst, arith}
+use Rattle.ts_core.specs.aggregates.Aggregates.{Aggregate, aggregate_of_one, merged, aggregate_of_points}
 use Rattle.ts_core.specs.aggregates.MergeLaws.{aggregate_laws}
 use Rattle.ts_core.proofs.aggregates.Folds.{fold-middle}
 use Rattle.ts_core.proofs.aggregates.AggregatesLemmas.{count_of_fold}
@@ -8,11 +8,11 @@ use Rattle.std.proofs.Math.ListN.{drop_of_length-le}
 use Rattle.std.specs.FinMap.{put}
 use Rattle.std.proofs.Common.{int_cmp, append-nil, length-drop, get_or}
 use Rattle.std.proofs.lemmas.List.{take-append-drop, length-take-le}
-use Rattle.ts_block.specs.Blocks.{ArePoints, IsBlockOf}
-use Rattle.ts_block.specs.Appending.{values_start, last_time}
+use Rattle.ts_block.specs.Blocks.{ArePoints}
+use Rattle.ts_block.specs.Appending.{last_time}
 use Rattle.ts_block.specs.Splicing.{IsAdded}
 use Rattle.ts_raw.specs.declared.block_handle.BlockHandle.{BlockHandle}
-use Rattle.ts_raw.specs.CodedPoints.{IsBlockHandle, AreBlocks, AreBlockHandles, CutFits, blocks_at, block_text_at, block_points_at, coded_points}
+use Rattle.ts_raw.specs.CodedPoints.{IsBlockHandle, AreBlocks, AreBlockHandles, CutFits, blocks_at, block_points_at, coded_points}
 use Rattle.ts_raw.specs.Rewriting.{IsEncoded, AreHalves, cut_in_block}
 use Rattle.ts_raw.proofs.PushLemmas.{points_less}
 use Rattle.ts_raw.proofs.BlockLists.{mark_stays, mark_at}

@@ -4,9 +4,6 @@ use Rattle.std.specs.Ordering.{int_cmp}
 use Rattle.std.specs.FinMap.{put}
 use Rattle.ts_raw.specs.declared.block_handle.BlockHandle.{BlockHandle}
 use Rattle.ts_raw.specs.declared.rewriting.Rewritten.{Rewritten}
-use Rattle.ts_block.specs.Blocks.{values_of, AreValues}
-use Rattle.ts_raw.specs.Columns.{AreTimed}
-use Rattle.ts_raw.specs.PlainColumns.{IsRising}
 use Rattle.ts_raw.specs.CodedPoints.{IsBlockHandle, AreBlocks, block_points_at, coded_points, AllEndBefore}
 
 -- the handle is that of the block of these points

@@ -178,7 +178,14 @@ fn copy_last<A: Allocator + Copy>(
     let block = text_of(bytes.as_slice(), handle);
     let (text, values) = last_points(alloc, block, handle.values, handle.last, count)?;
     let summary = summary_of(Decoder::at(text.as_slice(), values));
-    push_text(bytes, text.as_slice(), values, handle.count - count, handle.last, summary)
+    push_text(
+        bytes,
+        text.as_slice(),
+        values,
+        handle.count - count,
+        handle.last,
+        summary,
+    )
 }
 
 /// Copies the halves of a block to the end of the bytes as two blocks.

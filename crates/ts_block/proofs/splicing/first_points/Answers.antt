@@ -1,4 +1,4 @@
-use Rattle.std.proofs.Common.{rules, ◌≡◌, ◌∙◌, ap, sym, subst, ◌+◌, ◌-◌, ◌<◌, ◌++◌, List, ℤ, ℕ, length, take, arith, vec_len}
+use Rattle.std.proofs.Common.{◌≡◌, ◌∙◌, ap, sym, subst, ◌-◌, ◌<◌, ◌++◌, List, ℤ, ℕ, length, take, arith, vec_len}
 use Rattle.ts_block.specs.Blocks.{head_text}
 use Rattle.ts_block.specs.Appending.{last_time}
 use Rattle.ts_block.specs.Splicing.{IsPart}

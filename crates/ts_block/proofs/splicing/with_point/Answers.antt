@@ -1,8 +1,8 @@
-use Rattle.std.proofs.Common.{rules, ◌≡◌, ◌∙◌, ap, sym, subst, ◌+◌, ◌<◌, ◌≤ℤ◌, ◌++◌, List, ℤ, ℕ, length, arith, int_lt, get_or, SFits, FitsSigned, w64, to_z-of_z, vec_len}
+use Rattle.std.proofs.Common.{rules, ◌≡◌, ◌∙◌, ap, sym, subst, ◌+◌, ◌<◌, ◌≤ℤ◌, ◌++◌, List, ℤ, ℕ, length, arith, int_lt, SFits, FitsSigned, w64, to_z-of_z, vec_len}
 use Rattle.ts_core.specs.facts.Times.{IsTime}
 use Rattle.ts_block.specs.Varints.{number_text, zigzag}
 use Rattle.ts_block.specs.Appending.{last_time}
-use Rattle.ts_block.specs.Splicing.{text_to, count_with, steps_after, values_after, IsBlockWith}
+use Rattle.ts_block.specs.Splicing.{text_to, count_with, steps_after, IsBlockWith}
 use Rattle.ts_block.proofs.DecodingLemmas.{one_reading}
 use Rattle.ts_block.proofs.SplicingLemmas.{count_byte, behind, value_there, with_one, count_few}
 use Rattle.ts_block.proofs.splicing.with_point.Given.{Over}

@@ -1,4 +1,4 @@
-use Rattle.std.proofs.Common.{◌≡◌, ℕ, List, [], ◌∷◌, ◌++◌, ◌+◌, length, vec_len, take, ◌∙◌, ap, sym, subst, refl, arith, is_ok, if◌then◌else◌, rules, SFits, w64, to_z-of_z}
+use Rattle.std.proofs.Common.{◌≡◌, ℕ, List, [], ◌∷◌, ◌++◌, ◌+◌, length, vec_len, take, ◌∙◌, ap, sym, subst, refl, arith, rules, SFits, w64, to_z-of_z}
 use Rattle.ts_core.specs.aggregates.Aggregates.{aggregate_of_one}
 use Rattle.ts_block.specs.Appending.{EndsInBlock}
 use Rattle.ts_raw.specs.declared.block_handle.BlockHandle.{BlockHandle}

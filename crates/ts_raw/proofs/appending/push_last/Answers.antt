@@ -1,4 +1,4 @@
-use Rattle.std.proofs.Common.{rules, Fits, SFits, w64, to_z-of_z, ◌≡◌, ℕ, List, [], ◌∷◌, ◌++◌, ◌+◌, ◌-◌, ◌≤◌, length, ◌∙◌, ap, sym, subst, refl, arith, is_ok, if◌then◌else◌}
+use Rattle.std.proofs.Common.{rules, Fits, SFits, w64, to_z-of_z, ◌≡◌, ℕ, List, [], ◌∷◌, ◌++◌, ◌+◌, ◌-◌, ◌≤◌, length, ◌∙◌, ap, sym, subst, refl, arith}
 use Rattle.std.proofs.Math.Facts.{Fits-le}
 use Rattle.ts_core.specs.facts.Times.{IsTime}
 use Rattle.ts_core.specs.aggregates.Aggregates.{Aggregate, aggregate_of_one, merged}

@@ -1,6 +1,6 @@
-use Rattle.std.proofs.Common.{rules, ◌≡◌, ◌∙◌, ap, sym, subst, ◌+◌, ◌≤◌, ℕ, ℤ, List, length, int_cmp, SFits, w64, to_z-of_z, arith}
+use Rattle.std.proofs.Common.{rules, ◌≡◌, ◌∙◌, ap, sym, subst, ℕ, ℤ, List, int_cmp, SFits, w64, to_z-of_z, arith}
 use Rattle.std.specs.FinMap.{put}
-use Rattle.ts_core.specs.aggregates.Aggregates.{Aggregate, aggregate_of_one, merged, aggregate_of_points}
+use Rattle.ts_core.specs.aggregates.Aggregates.{Aggregate, aggregate_of_one, merged}
 use Rattle.ts_block.specs.Blocks.{IsBlockOf}
 use Rattle.ts_block.specs.Splicing.{IsBlockWith}
 use Rattle.ts_raw.specs.CodedPoints.{block_text_at, block_points_at}

@@ -1,5 +1,5 @@
-use Rattle.std.proofs.Common.{◌≡◌, ◌∙◌, ap, sym, subst, ◌+◌, ◌/◌, ◌<◌, ◌≤◌, ℕ, ℤ, List, length, take, drop, vec_len, arith}
-use Rattle.ts_raw.specs.CodedPoints.{block_points_at, IsBlockHandle}
+use Rattle.std.proofs.Common.{◌≡◌, ◌∙◌, ap, subst, ◌/◌, ℕ, ℤ, List, length, take, drop, vec_len, arith}
+use Rattle.ts_raw.specs.CodedPoints.{block_points_at}
 use Rattle.ts_raw.specs.Rewriting.{IsEncoded}
 use Rattle.ts_raw.proofs.BlockLists.{mark_stays}
 use Rattle.ts_raw.proofs.SplicedLemmas.{stays_encoded, few_points}

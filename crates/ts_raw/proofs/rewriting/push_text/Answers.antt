@@ -1,6 +1,4 @@
-use Rattle.std.proofs.Common.{refl, ◌≡◌, ◌∙◌, ℕ, ℤ, List, ◌++◌, length, ap, subst, sym, arith, is_ok, if◌then◌else◌}
-use Rattle.ts_core.specs.aggregates.Aggregates.{aggregate_of_points}
-use Rattle.ts_block.specs.Appending.{values_start, last_time}
+use Rattle.std.proofs.Common.{◌≡◌, ◌∙◌, ℕ, ℤ, List, ◌++◌, length, ap, subst, arith, is_ok, if◌then◌else◌}
 use Rattle.ts_block.proofs.DecodingLemmas.{one_reading}
 use Rattle.ts_raw.specs.declared.block_handle.BlockHandle.{BlockHandle}
 use Rattle.ts_raw.specs.Rewriting.{IsEncoded}

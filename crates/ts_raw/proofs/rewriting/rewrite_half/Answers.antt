@@ -1,7 +1,4 @@
-use Rattle.std.proofs.Common.{rules, ◌≡◌, ◌∙◌, ap, sym, subst, ◌+◌, ◌<◌, ◌≤◌, ◌<ℤ◌, ◌≤ℤ◌, ℕ, ℤ, List, [], ◌∷◌, length, take, drop, vec_len, int_cmp, arith}
-use Rattle.std.specs.FinMap.{put}
-use Rattle.ts_raw.specs.CodedPoints.{AreBlocks, coded_points}
-use Rattle.ts_raw.specs.Rewriting.{AreHalves}
+use Rattle.std.proofs.Common.{rules, ◌≡◌, ◌∙◌, ap, sym, subst, ◌<ℤ◌, ◌≤ℤ◌, ℕ, List, length, take, vec_len, arith}
 use Rattle.ts_raw.proofs.SplicedLemmas.{in_first, in_second, second_last}
 use Rattle.ts_raw.proofs.rewriting.rewrite_half.Goals as goal
 

@@ -1,4 +1,4 @@
-use Rattle.std.proofs.Common.{rules, ◌≡◌, ◌∙◌, ap, sym, subst, ◌+◌, ◌≤◌, length, SFits, w64, to_z-of_z, arith}
+use Rattle.std.proofs.Common.{rules, ◌≡◌, ◌∙◌, ap, length, SFits, w64, to_z-of_z, arith}
 use Rattle.ts_core.specs.aggregates.Aggregates.{Aggregate, aggregate_of_one, merged, aggregate_of_points}
 use Rattle.ts_raw.proofs.SplicedLemmas.{summary_next}
 use Rattle.ts_raw.proofs.rewriting.summary_of.Goals as goal
