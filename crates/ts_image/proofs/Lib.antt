@@ -40,3 +40,4 @@ pub mod WholeStores
 pub mod WrittenPictures
 pub mod FittingImages
 pub mod ImageBytes
+pub mod FirstVersion

@@ -24,3 +24,4 @@ pub mod Saving
 pub mod ImageFaultTexts
 pub mod SavedImages
 pub mod WrittenImages
+pub mod FirstVersion

@@ -22,6 +22,7 @@ ghost use Rattle.ts_image.specs.ImageFaults.{AreUnambiguous};
 ghost use Rattle.ts_image.specs.Reloading.{Reloads};
 ghost use Rattle.ts_image.specs.SavedImages.{SavedImagesArePossible};
 ghost use Rattle.ts_image.specs.WrittenImages.{WrittenImagesAreAcceptable};
+ghost use Rattle.ts_image.specs.FirstVersion.{FirstImagesArePossible, FirstImagesFit, FirstImagesAreLoaded};
 
 mod cell_reading;
 mod cell_saving;
@@ -79,4 +80,12 @@ pub fn images_are_exact()
 pub fn saved_images_are_possible()
     ensures any { SavedImagesArePossible }
     ensures written { WrittenImagesAreAcceptable }
+{}
+
+/// Proves that each image of version 1, written of a store without an open run and without an added rule, is loaded, as
+/// a store that represents the same history.
+pub fn images_of_version_1_are_loaded()
+    ensures possible { FirstImagesArePossible }
+    ensures fits { FirstImagesFit }
+    ensures loaded { FirstImagesAreLoaded }
 {}
