@@ -7,9 +7,10 @@ use Rattle.std.proofs.lemmas.Bool.{cases_lt}
 use Rattle.std.proofs.Math.Seq.{get_or-append_seam}
 use Rattle.ts_core.specs.lists.Changes.{or_else}
 use Rattle.ts_cells.specs.Grids.{held, HasLost}
-use Rattle.ts_cells.specs.Rows.{no_slot, slot_of, by_series, IsSlotMap}
+use Rattle.ts_cells.specs.Rows.{no_slot, slot_of, width, by_series, IsSlotMap}
+use Rattle.ts_cells.proofs.SlotLemmas.{length-table, table_at, table_past, slot_past}
 
-same_number : (j k : ℕ) → (j == k) ≡ true → j ≡ k
+pub same_number : (j k : ℕ) → (j == k) ≡ true → j ≡ k
 same_number j k e = grind arith
 
 number_itself : (j k : ℕ) → j ≡ k → (j == k) ≡ true
@@ -54,15 +55,20 @@ module _ {P : Type 0} where
   no_part (x ∷ xs) (suc q) h e = no_part xs q (omega arith) e
 
   -- the part of a rollup series is at its slot
-  pub held_at : (parts : List P) (slots : List ℕ) (j : ℕ) → length parts ≤ no_slot → held (by_series parts slots) j ≡ slice_get parts (slot_of slots j)
-  held_at parts [] j h = sym (slice_get_past parts no_slot h)
-  held_at parts (p ∷ ps) zero h = refl
-  held_at parts (p ∷ ps) (suc j) h = held_at parts ps j h
+  pub held_at : (parts : List P) (slots : List (ℕ × ℕ)) (j : ℕ) → length parts ≤ no_slot → held (by_series parts slots) j ≡ slice_get parts (slot_of slots j)
+  held_at parts slots j h =
+      ⊎_elim {C = held (by_series parts slots) j ≡ slice_get parts (slot_of slots j)}
+      (λ (l : j < width slots). table_at (λ i. slice_get parts (slot_of slots i)) (width slots) j None l)
+      (λ (g : width slots ≤ j). table_past (λ i. slice_get parts (slot_of slots i)) (width slots) j None g ∙ sym (ap (slice_get parts) (slot_past slots j g) ∙ slice_get_past parts no_slot h))
+      (cases_lt j (width slots))
+
+  pub length-by_series : (parts : List P) (slots : List (ℕ × ℕ)) → length (by_series parts slots) ≡ width slots
+  length-by_series parts slots = length-table (λ i. slice_get parts (slot_of slots i)) (width slots)
 
 -- ---- slots
 
 -- a rollup series more, that had no cell
-module _ (slots series_list after : List ℕ) (series count : ℕ) (is : IsSlotMap slots series_list count) (absent : count ≤ slot_of slots series) (spare : count < no_slot) (put : (j : ℕ) → slot_of after j ≡ cond (j == series) count (slot_of slots j)) where
+module _ (slots : List (ℕ × ℕ)) (series_list : List ℕ) (after : List (ℕ × ℕ)) (series count : ℕ) (is : IsSlotMap slots series_list count) (absent : count ≤ slot_of slots series) (spare : count < no_slot) (put : (j : ℕ) → slot_of after j ≡ cond (j == series) count (slot_of slots j)) where
   made_there : (n : ℕ) → n < count + 1 → slot_of after (get_or (series_list ++ series ∷ []) n 0) ≡ n
   made_there n h =
       ⊎_elim {C = slot_of after (get_or (series_list ++ series ∷ []) n 0) ≡ n}
@@ -111,7 +117,7 @@ module _ (slots series_list after : List ℕ) (series count : ℕ) (is : IsSlotM
   }
 
 -- the rollup series of the last cell, without it
-module _ (slots series_list front : List ℕ) (series count : ℕ) (is : IsSlotMap slots series_list count) (last : series_list ≡ front ++ series ∷ []) where
+module _ (slots : List (ℕ × ℕ)) (series_list front : List ℕ) (series count : ℕ) (is : IsSlotMap slots series_list count) (last : series_list ≡ front ++ series ∷ []) where
   one_more : count ≡ length front + 1
   one_more = sym is.as_many ∙ ap length last ∙ length-append front (series ∷ [])
 
@@ -128,7 +134,7 @@ module _ (slots series_list front : List ℕ) (series count : ℕ) (is : IsSlotM
       ⊎_elim {C = slot_of slots j < length front} (λ l. l)
       (λ (g : length front ≤ slot_of slots j). absurd (other_number j series e (last_alone j (let m = one_more in omega arith)))) (cases_lt (slot_of slots j) (length front))
 
-  module _ (after : List ℕ) (gone : (j : ℕ) → slot_of after j ≡ cond (j == series) no_slot (slot_of slots j)) where
+  module _ (after : List (ℕ × ℕ)) (gone : (j : ℕ) → slot_of after j ≡ cond (j == series) no_slot (slot_of slots j)) where
     gone_there : (n : ℕ) → n < length front → slot_of after (get_or front n 0) ≡ n
     gone_there n h =
         let at : get_or series_list n 0 ≡ get_or front n 0 = ap (λ ls. get_or ls n 0) last ∙ get_or_append_left front (series ∷ []) 0 n h in
@@ -173,7 +179,7 @@ module _ (slots series_list front : List ℕ) (series count : ℕ) (is : IsSlotM
 
 module _ {P : Type 0} where
   -- a rollup series without a slot has no cell
-  pub none_held : (parts : List P) (slots : List ℕ) (series : ℕ) → length parts ≤ no_slot → length parts ≤ slot_of slots series → held (by_series parts slots) series ≡ None
+  pub none_held : (parts : List P) (slots : List (ℕ × ℕ)) (series : ℕ) → length parts ≤ no_slot → length parts ≤ slot_of slots series → held (by_series parts slots) series ≡ None
   none_held parts slots series f h = held_at parts slots series f ∙ slice_get_past parts (slot_of slots series) h
 
   -- nothing changes where there is no cell
@@ -192,17 +198,17 @@ module _ {P : Type 0} where
       ] refl
 
   -- a cell that exists stays when capacity is reserved
-  pub some_kept : (parts : List P) (slots : List ℕ) (series j : ℕ) (x : P) → length parts ≤ no_slot → slot_of slots series < length parts
+  pub some_kept : (parts : List P) (slots : List (ℕ × ℕ)) (series j : ℕ) (x : P) → length parts ≤ no_slot → slot_of slots series < length parts
       → held (by_series parts slots) j ≡ cond (j == series) (Some (or_else x (held (by_series parts slots) series))) (held (by_series parts slots) j)
   some_kept parts slots series j x f h =
       stays (by_series parts slots) series j x (get_or parts (slot_of slots series) x) (held_at parts slots series f ∙ slice_get-get_or parts (slot_of slots series) x h)
 
   -- the same slots, for more rollup series
-  pub same_held : (parts : List P) (slots after : List ℕ) (j : ℕ) → length parts ≤ no_slot → ((j : ℕ) → slot_of after j ≡ slot_of slots j) → held (by_series parts after) j ≡ held (by_series parts slots) j
+  pub same_held : (parts : List P) (slots after : List (ℕ × ℕ)) (j : ℕ) → length parts ≤ no_slot → ((j : ℕ) → slot_of after j ≡ slot_of slots j) → held (by_series parts after) j ≡ held (by_series parts slots) j
   same_held parts slots after j f same = held_at parts after j f ∙ ap (slice_get parts) (same j) ∙ sym (held_at parts slots j f)
 
   -- one cell has another part
-  pub part_put : (parts : List P) (slots series_list : List ℕ) (series p : ℕ) (v : P) → IsSlotMap slots series_list (length parts) → p ≡ slot_of slots series → p < length parts → (j : ℕ)
+  pub part_put : (parts : List P) (slots : List (ℕ × ℕ)) (series_list : List ℕ) (series p : ℕ) (v : P) → IsSlotMap slots series_list (length parts) → p ≡ slot_of slots series → p < length parts → (j : ℕ)
       → held (by_series (set parts p v) slots) j ≡ cond (j == series) (Some v) (held (by_series parts slots) j)
   part_put parts slots series_list series p v is at h j =
       held_at (set parts p v) slots j (let f = is.few in let l = length-set parts p v in omega arith)
@@ -214,7 +220,7 @@ module _ {P : Type 0} where
       ] refl
 
   -- one cell is created
-  pub part_made : (parts : List P) (slots series_list after : List ℕ) (series : ℕ) (x : P) → IsSlotMap slots series_list (length parts) → length parts ≤ slot_of slots series → length parts < no_slot
+  pub part_made : (parts : List P) (slots : List (ℕ × ℕ)) (series_list : List ℕ) (after : List (ℕ × ℕ)) (series : ℕ) (x : P) → IsSlotMap slots series_list (length parts) → length parts ≤ slot_of slots series → length parts < no_slot
       → ((j : ℕ) → slot_of after j ≡ cond (j == series) (length parts) (slot_of slots j)) → (j : ℕ) → held (by_series (parts ++ x ∷ []) after) j ≡ cond (j == series) (Some x) (held (by_series parts slots) j)
   part_made parts slots series_list after series x is absent spare put j =
       let long : length (parts ++ x ∷ []) ≡ length parts + 1 = length-append parts (x ∷ []) in
@@ -230,7 +236,7 @@ module _ {P : Type 0} where
       ]
 
   -- the last cell is removed
-  pub part_lost : (parts : List P) (slots series_list front after : List ℕ) (series n : ℕ) → IsSlotMap slots series_list (length parts) → series_list ≡ front ++ series ∷ [] → n + 1 ≡ length parts
+  pub part_lost : (parts : List P) (slots : List (ℕ × ℕ)) (series_list front : List ℕ) (after : List (ℕ × ℕ)) (series n : ℕ) → IsSlotMap slots series_list (length parts) → series_list ≡ front ++ series ∷ [] → n + 1 ≡ length parts
       → ((j : ℕ) → slot_of after j ≡ cond (j == series) no_slot (slot_of slots j)) → HasLost (by_series parts slots) (by_series (take n parts) after)
   part_lost parts slots series_list front after series n is last e gone =
       let many : length parts ≡ length front + 1 = one_more slots series_list front series (length parts) is last in

@@ -1,24 +1,37 @@
 -- The cells of one bucket in creation order, with the position of each rollup series' cell. (Own rules.)
-use Rattle.std.specs.Prelude.{◌≡◌, ℕ, ◌<◌, ◌≤◌, List, ◌++◌, replicate, length, get_or, map, Option, slice_get}
+use Rattle.std.specs.Prelude.{◌≡◌, ℕ, zero, suc, ◌<◌, ◌≤◌, ◌+◌, T, List, [], ◌∷◌, length, get_or, max, Option, slice_get}
+use Rattle.std.specs.Ordering.{nat_cmp}
+use Rattle.std.specs.FinMap.{is_sorted, find}
+use Rattle.ts_core.specs.lists.Changes.{or_else}
 
 -- marks a rollup series without a cell
 abbrev pub no_slot : ℕ
 no_slot = 4294967295
 
--- the position of a rollup series' cell
-abbrev pub slot_of : List ℕ → ℕ → ℕ
-slot_of slots series = get_or slots series no_slot
+-- rollup series with the positions of their cells, sorted by the rollup series' indices
+abbrev pub AreSlots : List (ℕ × ℕ) → Type 0
+AreSlots slots = T (is_sorted nat_cmp slots)
 
--- the positions of all rollup series, if the list begins at rollup series `first`
-abbrev pub from_first : ℕ → List ℕ → List ℕ
-from_first first slots = replicate first no_slot ++ slots
+-- the position of a rollup series' cell
+abbrev pub slot_of : List (ℕ × ℕ) → ℕ → ℕ
+slot_of slots series = or_else no_slot (find nat_cmp series slots)
+
+-- the first index after those of the rollup series
+abbrev pub width : List (ℕ × ℕ) → ℕ
+width [] = 0
+width (e ∷ es) = max (e.0 + 1) (width es)
+
+-- the values of a function from 0 on
+abbrev pub table : {X : Type 0} → (ℕ → X) → ℕ → List X
+table f zero = []
+table f (suc n) = f 0 ∷ table (λ j. f (suc j)) n
 
 -- the part of each rollup series
-abbrev pub by_series : {P : Type 0} → List P → List ℕ → List (Option P)
-by_series parts slots = map (slice_get parts) slots
+abbrev pub by_series : {P : Type 0} → List P → List (ℕ × ℕ) → List (Option P)
+by_series parts slots = table (λ j. slice_get parts (slot_of slots j)) (width slots)
 
 -- each cell is at the position of its rollup series, and at no other's
-pub record IsSlotMap (slots series_list : List ℕ) (count : ℕ) : Type 0 where
+pub record IsSlotMap (slots : List (ℕ × ℕ)) (series_list : List ℕ) (count : ℕ) : Type 0 where
   pub few : count ≤ no_slot
   pub as_many : length series_list ≡ count
   pub there : (n : ℕ) → n < count → slot_of slots (get_or series_list n 0) ≡ n

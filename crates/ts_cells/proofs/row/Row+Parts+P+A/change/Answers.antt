@@ -5,13 +5,13 @@ use Rattle.ts_core.specs.store.TwoParts.{PartsOf}
 use Rattle.ts_cells.specs.CellChanges.{parts_after}
 use Rattle.ts_cells.specs.Grids.{RowOf, held}
 use Rattle.ts_cells.specs.Rows.{slot_of, by_series}
-use Rattle.ts_cells.proofs.RowLemmas.{held_at, none_held, none_put, part_put}
+use Rattle.ts_cells.proofs.RowLemmas.{length-by_series, held_at, none_held, none_put, part_put}
 use Rattle.ts_cells.proofs.row.Row+Parts+P+A.change.Goals as goal
 
 pub returns-then-slot-len-clause-cells : goal.returns-then-slot-len-clause-cells
 returns-then-slot-len-clause-cells g c = λ j.
     let parts : List (PartsOf g.row.P.Denot) = c.self.inside.parts.items in
-    let slots : List ℕ = c.self.inside.slots in
+    let slots : List (ℕ × ℕ) = c.self.inside.slots in
     let series : ℕ = c.args.series in
     let f : PartsOf g.row.P.Denot → PartsOf g.row.P.Denot = parts_after g.P.Partial.size g.P.Partial.join c.args.change in
     let slot : c.get-slot.result ≡ slot_of slots series = c.get-slot.ensures in
@@ -27,10 +27,17 @@ returns-then-slot-len-clause-cells g c = λ j.
 pub returns-else-slot-len-clause-cells : goal.returns-else-slot-len-clause-cells
 returns-else-slot-len-clause-cells g c = λ j.
     let parts : List (PartsOf g.row.P.Denot) = c.self.inside.parts.items in
-    let slots : List ℕ = c.self.inside.slots in
+    let slots : List (ℕ × ℕ) = c.self.inside.slots in
     let series : ℕ = c.args.series in
     let f : PartsOf g.row.P.Denot → PartsOf g.row.P.Denot = parts_after g.P.Partial.size g.P.Partial.join c.args.change in
     let slot : c.get-slot.result ≡ slot_of slots series = c.get-slot.ensures in
     let past : length parts ≤ c.get-slot.result = search rules in
     subst (λ (s : RowOf (PartsOf g.row.P.Denot)). held s.1 j ≡ cond (j == series) (option_map f (held s.1 series)) (held s.1 j)) c.self.view_is
     (none_put (by_series parts slots) series j f (none_held parts slots series c.self.invariant.few (omega arith)))
+
+pub returns-then-slot-len-clause-len : goal.returns-then-slot-len-clause-len
+returns-then-slot-len-clause-len g c =
+    let parts : List (PartsOf g.row.P.Denot) = c.self.inside.parts.items in
+    let slots : List (ℕ × ℕ) = c.self.inside.slots in
+    let after : List (PartsOf g.row.P.Denot) = set parts c.get-slot.result c.apply.new.parts in
+    subst (λ (s : RowOf (PartsOf g.row.P.Denot)). length (by_series after slots) ≡ length s.1) c.self.view_is (length-by_series after slots ∙ sym (length-by_series parts slots))

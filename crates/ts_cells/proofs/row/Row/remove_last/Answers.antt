@@ -1,13 +1,13 @@
-use Rattle.std.proofs.Common.{rules, arith, ◌≡◌, ◌+◌, ℕ, List, None, length, take, sym, ◌∙◌, ap, subst}
+use Rattle.std.proofs.Common.{rules, arith, ◌≡◌, ◌≤◌, ◌+◌, ℕ, List, None, length, take, sym, ◌∙◌, ap, subst}
 use Rattle.ts_cells.specs.Grids.{RowOf, held, HasLost}
 use Rattle.ts_cells.specs.Rows.{by_series}
-use Rattle.ts_cells.proofs.RowLemmas.{none_held, gone_mapped, part_lost}
+use Rattle.ts_cells.proofs.RowLemmas.{length-by_series, none_held, gone_mapped, part_lost}
 use Rattle.ts_cells.proofs.row.Row.remove_last.Goals as goal
 
 pub returns-in_default-clause-none : goal.returns-in_default-clause-none
 returns-in_default-clause-none g c =
     let parts : List g.row.P.Denot = c.self.inside.parts.items in
-    let slots : List ℕ = c.self.inside.slots in
+    let slots : List (ℕ × ℕ) = c.self.inside.slots in
     let no_series_list : length c.self.inside.series_list.items ≡ 0 = search rules in
     let none : length parts ≡ 0 = sym c.self.invariant.as_many ∙ no_series_list in (
       λ j. subst (λ (s : RowOf g.row.P.Denot). held s.1 j ≡ None) c.self.view_is (none_held parts slots j c.self.invariant.few (omega arith)),
@@ -22,9 +22,19 @@ invariant_of-self-2 g c =
 pub returns-clause-removed : goal.returns-clause-removed
 returns-clause-removed g c =
     let parts : List g.row.P.Denot = c.self.inside.parts.items in
-    let slots : List ℕ = c.self.inside.slots in
+    let slots : List (ℕ × ℕ) = c.self.inside.slots in
     let many : length c.pop-2.new.self.items + 1 ≡ length parts = search rules in
     let front : c.pop-2.new.self.items ≡ take (length c.pop-2.new.self.items) parts = search rules in
     subst (λ (s : RowOf g.row.P.Denot). HasLost s.1 (by_series c.pop-2.new.self.items c.remove.new.self)) c.self.view_is
     (subst (λ ps. HasLost (by_series parts slots) (by_series ps c.remove.new.self)) (sym front)
     (part_lost parts slots c.self.inside.series_list.items c.pop.new.self.items c.remove.new.self c.in-Some.series (length c.pop-2.new.self.items) c.self.invariant c.in-Some.ensures.items many c.remove.ensures.slots))
+
+pub returns-clause-len : goal.returns-clause-len
+returns-clause-len g c =
+    let parts : List g.row.P.Denot = c.self.inside.parts.items in
+    let slots : List (ℕ × ℕ) = c.self.inside.slots in
+    let left : List g.row.P.Denot = c.pop-2.new.self.items in
+    let narrow = c.remove.ensures.len in
+    let a = length-by_series left c.remove.new.self in
+    let b = length-by_series parts slots in
+    subst (λ (s : RowOf g.row.P.Denot). length (by_series left c.remove.new.self) ≤ length s.1) c.self.view_is (omega arith)
