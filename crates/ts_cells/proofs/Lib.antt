@@ -5,6 +5,7 @@ pub mod Searches
 -- Rollup series: their indices in order
 pub mod RollupSeriesOrder
 pub mod RollupSeriesLemmas
+pub mod RankLemmas
 -- Rows: cells by the positions of their rollup series
 pub mod RowLemmas
 pub mod SlotLemmas

@@ -1,5 +1,5 @@
 -- The entries of a walk: those of the finite map, in its order.
-use Rattle.std.proofs.Common.{◌≡◌, ℕ, ℤ, Bool, true, false, cond, ◌&&◌, T, List, [], ◌∷◌, ◌++◌, get_or, map, filter, refl, sym, ◌∙◌, ap, ap₂, subst, Option, Some, None, is_eq, is_lt, true≢false, Less}
+use Rattle.std.proofs.Common.{◌≡◌, ℕ, ℤ, zero, suc, ◌<◌, ◌≤◌, ◌+◌, ◌-◌, length, drop, arith, Bool, true, false, cond, ◌&&◌, T, List, [], ◌∷◌, ◌++◌, get_or, map, filter, refl, sym, ◌∙◌, ap, ap₂, subst, Option, Some, None, is_eq, is_lt, true≢false, Less}
 use Rattle.std.specs.Ordering.{int_cmp, eq_by_cmp, ordering_then}
 use Rattle.std.specs.Cmp.{int_cmp_total}
 use Rattle.std.specs.List.{AllByRecursion}
@@ -237,3 +237,38 @@ module _ {P : Type 0} (ls : List RollupSeries) (order : List ℕ) (rows : List (
   -- the walk over the rows of a range
   pub walk_entries : (from to : ℤ) → map entry_of (walk_left ls order (filter (λ (r : RowOf P). is_within from to r.0) rows) order) ≡ entries_within from to (from_entries {R = cell_cmp} (entries_of ls rows))
   walk_entries from to = sym (ap (filter (λ (e : Cell × P). is_within from to e.0.index)) walk_whole ∙ walk_within ls (is_within from to) order rows)
+
+-- ---- steps of a walk
+
+module _ {P : Type 0} (ls : List RollupSeries) (i : ℤ) (cs : List (Option P)) where
+  -- a rollup series without a cell
+  pub skip_one : (order : List ℕ) (at : ℕ) → at < length order → held cs (get_or order at 0) ≡ None → row_left ls i cs (drop (suc at) order) ≡ row_left ls i cs (drop at order)
+  skip_one [] at h e = absurd (omega arith)
+  skip_one (n ∷ ns) zero h e = sym (ap (λ (o : Option P). with_entry o n (cell_in ls i n) (row_left ls i cs ns)) e)
+  skip_one (n ∷ ns) (suc at) h e = skip_one ns at (omega arith) e
+
+  -- a cell
+  pub take_one : (order : List ℕ) (at : ℕ) (p : P) → at < length order → held cs (get_or order at 0) ≡ Some p
+      → row_left ls i cs (drop at order) ≡ record { series = get_or order at 0; cell = cell_in ls i (get_or order at 0); part = p } ∷ row_left ls i cs (drop (suc at) order)
+  take_one [] at p h e = absurd (omega arith)
+  take_one (n ∷ ns) zero p h e = ap (λ (o : Option P). with_entry o n (cell_in ls i n) (row_left ls i cs ns)) e
+  take_one (n ∷ ns) (suc at) p h e = take_one ns at p (omega arith) e
+
+  skip_many : (order : List ℕ) (at k : ℕ) → at + k ≤ length order → ((p : ℕ) → at ≤ p → p < at + k → held cs (get_or order p 0) ≡ None) → row_left ls i cs (drop (at + k) order) ≡ row_left ls i cs (drop at order)
+  skip_many order at zero h f = ap (λ n. row_left ls i cs (drop n order)) (omega arith)
+  skip_many order at (suc k) h f =
+      ap (λ n. row_left ls i cs (drop n order)) (let e : at + suc k ≡ suc (at + k) = omega arith in e)
+      ∙ skip_one order (at + k) (omega arith) (f (at + k) (omega arith) (omega arith)) ∙ skip_many order at k (omega arith) (λ p a b. f p a (omega arith))
+
+  -- several without cells
+  pub skip_to : (order : List ℕ) (at to : ℕ) → at ≤ to → to ≤ length order → ((p : ℕ) → at ≤ p → p < to → held cs (get_or order p 0) ≡ None) → row_left ls i cs (drop to order) ≡ row_left ls i cs (drop at order)
+  skip_to order at to l h f =
+      let e : at + (to - at) ≡ to = omega arith in
+      ap (λ n. row_left ls i cs (drop n order)) (sym e) ∙ skip_many order at (to - at) (omega arith) (λ p a b. f p a (omega arith))
+
+  -- none from the end on
+  pub past_end : (order : List ℕ) (at : ℕ) → length order ≤ at → row_left ls i cs (drop at order) ≡ []
+  past_end [] zero h = refl
+  past_end [] (suc at) h = refl
+  past_end (n ∷ ns) zero h = absurd (omega arith)
+  past_end (n ∷ ns) (suc at) h = past_end ns at (omega arith)

@@ -1,6 +1,6 @@
 -- The rollup series of a rule, indexed in creation order, found by their hashes, and sorted by their texts. (Own
 -- rules.)
-use Rattle.std.specs.Prelude.{◌≡◌, ℕ, ◌<◌, T, List, [], ◌∷◌, map, length, get_or, Option, Some, None}
+use Rattle.std.specs.Prelude.{◌≡◌, ℕ, ◌<◌, ◌+◌, T, List, [], ◌∷◌, map, length, get_or, Option, Some, None, if◌then◌else◌, nat_lt}
 use Rattle.std.specs.Hash.FoldHasher.{initial, write, finish}
 use Rattle.std.specs.declared.hash.FoldHasher.{FoldHasher}
 use Rattle.std.specs.declared.cmp.Ordering.{Ordering}
@@ -36,6 +36,18 @@ pub record IsOrdered (series_list : List RollupSeries) (order : List ℕ) : Type
   pub inside : AreInside series_list order
   pub all : (j : ℕ) → j < length series_list → find rollup_series_cmp (get_or series_list j no_rollup_series) (series_numbered series_list order) ≡ Some j
 
+-- the position of a rollup series in the order after one more was inserted
+abbrev pub shifted : ℕ → ℕ → ℕ
+shifted at rank = if nat_lt rank at then rank else rank + 1
+
+-- the position of each of `count` rollup series in the order
+pub record IsRanked (count : ℕ) (order ranks : List ℕ) : Type 0 where
+  pub long : length order ≡ count
+  pub as_many : length ranks ≡ count
+  pub inside : (p : ℕ) → p < count → get_or order p 0 < count
+  pub there : (p : ℕ) → p < count → get_or ranks (get_or order p 0) 0 ≡ p
+  pub low : (j : ℕ) → j < count → get_or ranks j 0 < count
+
 -- ---- hashes of rollup series; their values have no meaning
 
 abbrev pub hash_of_texts : FoldHasher → List Text → FoldHasher
@@ -46,6 +58,7 @@ unfoldable pub hash_of_rollup_series : RollupSeries → ℕ
 hash_of_rollup_series l = finish (hash_of_texts (write initial l.field) l.group)
 
 -- rollup series with their hashes and their order
-pub record AreFound (series_list : List RollupSeries) (hashes order : List ℕ) : Type 0 where
+pub record AreFound (series_list : List RollupSeries) (hashes order ranks : List ℕ) : Type 0 where
   pub table : IsTable hash_of_rollup_series series_list hashes
   pub ordered : IsOrdered series_list order
+  pub ranked : IsRanked (length series_list) order ranks

@@ -1,11 +1,11 @@
 //! The rollup series of a rule, indexed in creation order: a hash table by field and group, with a sorted list.
-ghost use Rattle.std.specs.Prelude.{◌≡◌, ◌≤◌, [], length, IsOk, IfSome, IfNone, IfOk, OnOk, OnErr, slice_get};
+ghost use Rattle.std.specs.Prelude.{◌≡◌, ◌≤◌, ◌<◌, ℕ, [], length, get_or, IsOk, IfSome, IfNone, IfOk, OnOk, OnErr, slice_get};
 ghost use Rattle.std.specs.declared.cmp.Ordering.{Ordering};
 ghost use Rattle.std.specs.List.Sorted.{IsPartitionPoint};
 ghost use Rattle.ts_core.specs.lists.Members.{Among};
 ghost use Rattle.ts_core.specs.lists.Numbered.{IsAt, Gains};
 ghost use Rattle.ts_cells.specs.Grids.{rollup_series_named};
-ghost use Rattle.ts_cells.specs.RollupSeriesTable.{found_cmp, IsOrdered};
+ghost use Rattle.ts_cells.specs.RollupSeriesTable.{found_cmp, IsOrdered, IsRanked, shifted};
 
 use crate::rollup_series::{RollupSeries, hash_rollup_series};
 use std::alloc::{AllocError, Allocator};
@@ -21,6 +21,8 @@ pub(crate) struct RollupSeriesTable<A: Allocator> {
     chains: Chains<A>,
     /// Indices of all rollup series, sorted by field and group. Iterators follow it.
     order: Vec<u32, A>,
+    /// Position of each rollup series in `order`.
+    ranks: Vec<u32, A>,
 }
 
 impl<A: Allocator> Model for RollupSeriesTable<A> {
@@ -35,7 +37,7 @@ impl<A: Allocator> Model for RollupSeriesTable<A> {
 
     ghost view = { λ s. s.series_list.items };
 
-    ghost invariant = { λ s. AreFound s.series_list.items s.chains s.order.items };
+    ghost invariant = { λ s. AreFound s.series_list.items s.chains s.order.items s.ranks.items };
 }
 
 /// Compares the rollup series with this index with that of a field and a group. A missing rollup series comes first.
@@ -68,6 +70,24 @@ fn index_in_order<A: Allocator + Copy>(
     order.partition_point(|number| compare_at(series_list, *number, field, group).is_lt())
 }
 
+/// Adds one to those of the first `count` positions that are `at` or more. All are below `count`.
+fn shift<A: Allocator>(ranks: &mut Vec<u32, A>, at: u32, count: u32)
+    requires many { count ≤ length ranks.old.items }
+    requires low { (j : ℕ) → j < count → get_or ranks.old.items j 0 < count }
+    ensures len { length ranks.new.items ≡ length ranks.old.items }
+    ensures ranks { (j : ℕ) → j < count → get_or ranks.new.items j 0 ≡ shifted at (get_or ranks.old.items j 0) }
+    ensures others { (j : ℕ) → count ≤ j → get_or ranks.new.items j 0 ≡ get_or ranks.old.items j 0 }
+{
+    let mut done = if at < count { 0 } else { count };
+    while done < count {
+        let rank = ranks[done as usize];
+        if rank >= at {
+            ranks[done as usize] = rank + 1;
+        }
+        done += 1;
+    }
+}
+
 impl<A: Allocator + Copy> RollupSeriesTable<A> {
     /// Creates an empty table. Does not allocate.
     pub(crate) fn new(alloc: A) -> RollupSeriesTable<A>
@@ -77,6 +97,7 @@ impl<A: Allocator + Copy> RollupSeriesTable<A> {
             series_list: Vec::new(alloc),
             chains: Chains::new(alloc),
             order: Vec::new(alloc),
+            ranks: Vec::new(alloc),
         }
     }
 
@@ -87,11 +108,13 @@ impl<A: Allocator + Copy> RollupSeriesTable<A> {
         self.series_list.as_slice()
     }
 
-    /// Returns the indices of all rollup series, sorted by field and group.
-    pub(crate) fn order(&self) -> &[u32]
-        ensures { IsOrdered self.now result.now }
+    /// Returns the indices of all rollup series, sorted by field and group, and the position of each rollup series
+    /// among them.
+    pub(crate) fn order(&self) -> (&[u32], &[u32])
+        ensures ordered { IsOrdered self.now result.0.now }
+        ensures ranked { IsRanked (length self.now) result.0.now result.1.now }
     {
-        self.order.as_slice()
+        (self.order.as_slice(), self.ranks.as_slice())
     }
 
     /// Looks up the rollup series of a field and a group; returns its index.
@@ -125,6 +148,7 @@ impl<A: Allocator + Copy> RollupSeriesTable<A> {
         let series = RollupSeries::new(*self.series_list.allocator(), field, group)?;
         reserve_eighth(&mut self.series_list, 1)?;
         reserve_eighth(&mut self.order, 1)?;
+        reserve_eighth(&mut self.ranks, 1)?;
         let at = index_in_order(
             self.series_list.as_slice(),
             self.order.as_slice(),
@@ -134,6 +158,8 @@ impl<A: Allocator + Copy> RollupSeriesTable<A> {
         self.chains.push(hash_rollup_series(field, group))?;
         self.series_list.push(series).unwrap();
         self.order.insert(at, number).unwrap();
+        self.ranks.push(at as u32).unwrap();
+        shift(&mut self.ranks, at as u32, number);
         Ok(number)
     }
 }

@@ -1,23 +1,19 @@
-use Rattle.std.proofs.Common.{rules, ◌≡◌, ℕ, List, ◌∷◌, Option, None, sym, ◌∙◌, ap, subst}
-use Rattle.ts_cells.specs.Grids.{cell_in, held}
-use Rattle.ts_cells.specs.RollupSeriesTable.{AreInside}
-use Rattle.ts_cells.specs.Walks.{with_entry, row_left}
+use Rattle.std.proofs.Common.{rules, arith, ◌≡◌, ◌<◌, ◌+◌, ℕ, suc, List, Option, None, length, get_or, drop, ◌∙◌, ap}
+use Rattle.ts_cells.specs.Grids.{held}
+use Rattle.ts_cells.specs.Walks.{row_left}
+use Rattle.ts_cells.proofs.RankLemmas.{rank_skipped}
+use Rattle.ts_cells.proofs.WalkLemmas.{skip_one, skip_to}
 use Rattle.ts_cells.proofs.walk.first_in.Goals as goal
 
-pub returns-in-Some-get-clause-inside : goal.returns-in-Some-get-clause-inside
-returns-in-Some-get-clause-inside g c = λ ls a.
-    let first : c.loop-series.left.now ≡ c.in-Some.series.now ∷ c.in-Some.others.now = c.in-Some.ensures.cases.0 in
-    subst (AreInside ls) first (c.loop-series.invariant.inside ls a)
-
-pub loop-series-preserved : goal.loop-series-preserved
-loop-series-preserved g c =
-    let series : ℕ = c.in-Some.series.now in
-    let others : List ℕ = c.in-Some.others.now in
-    let first : c.loop-series.left.now ≡ series ∷ others = c.in-Some.ensures.cases.0 in
-    let none : held c.args.row.now.1 series ≡ None = search rules in
+pub loop-at-preserved-then-tries-eq0 : goal.loop-at-preserved-then-tries-eq0
+loop-at-preserved-then-tries-eq0 g c =
+    let order : List ℕ = c.args.order.now in
+    let at : ℕ = c.loop-at.at in
+    let cs : List (Option g.row.P.Denot) = c.args.row.now.1 in
+    let within : at < length order = search rules in
+    let none : held cs (get_or order at 0) ≡ None = search rules in
     record {
       same = λ ls.
-          sym (ap (λ (o : Option g.row.P.Denot). with_entry o series (cell_in ls c.args.row.now.0 series) (row_left ls c.args.row.now.0 c.args.row.now.1 others)) none)
-          ∙ ap (row_left ls c.args.row.now.0 c.args.row.now.1) (sym first) ∙ c.loop-series.invariant.same ls;
-      inside = λ ls a. (subst (AreInside ls) first (c.loop-series.invariant.inside ls a)).1;
+          skip_to ls c.args.row.now.0 cs order (at + 1) c.next_rank-at.result c.next_rank-at.ensures.low (search rules) (rank_skipped order c.args.ranks.now cs (at + 1) c.next_rank-at.result c.requires (search rules) c.next_rank-at.ensures.skipped)
+          ∙ ap (λ n. row_left ls c.args.row.now.0 cs (drop n order)) (let e : at + 1 ≡ suc at = omega arith in e) ∙ skip_one ls c.args.row.now.0 cs order at within none ∙ c.loop-at.invariant.same ls;
     }

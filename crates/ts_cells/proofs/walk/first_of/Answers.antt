@@ -1,10 +1,7 @@
-use Rattle.std.proofs.Common.{◌≡◌, List, ◌∷◌, ◌++◌, sym, ◌∙◌, ap}
+use Rattle.std.proofs.Common.{◌≡◌, List, ◌∷◌, ◌++◌, sym, ◌∙◌, ap, drop}
 use Rattle.ts_cells.specs.Grids.{RowOf}
 use Rattle.ts_cells.specs.Walks.{CellWithPart, walk_left}
 use Rattle.ts_cells.proofs.walk.first_of.Goals as goal
-
-pub returns-in-Some-first_in-clause-inside : goal.returns-in-Some-first_in-clause-inside
-returns-in-Some-first_in-clause-inside g c = λ ls a b. c.in-Some-first_in.ensures.inside ls (c.loop-row.invariant.inside ls a b)
 
 pub loop-row-preserved : goal.loop-row-preserved
 loop-row-preserved g c =
@@ -14,6 +11,5 @@ loop-row-preserved g c =
     record {
       same = λ ls.
           sym (ap (λ (ks : List (CellWithPart g.row.P.Denot)). ks ++ walk_left ls c.args.order.now others c.args.order.now) (c.in_default-first_in.ensures.none ls))
-          ∙ ap (λ (rs : List (RowOf g.row.P.Denot)). walk_left ls c.args.order.now rs c.loop-row.left.now) (sym first) ∙ c.loop-row.invariant.same ls;
-      inside = λ ls a b. a;
+          ∙ ap (λ (rs : List (RowOf g.row.P.Denot)). walk_left ls c.args.order.now rs (drop c.loop-row.from c.args.order.now)) (sym first) ∙ c.loop-row.invariant.same ls;
     }
