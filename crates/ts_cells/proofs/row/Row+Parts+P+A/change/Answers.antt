@@ -14,15 +14,15 @@ returns-then-slot-len-clause-cells g c = λ j.
     let slots : List (ℕ × ℕ) = c.self.inside.slots in
     let series : ℕ = c.args.series in
     let f : PartsOf g.row.P.Denot → PartsOf g.row.P.Denot = parts_after g.P.Partial.size g.P.Partial.join c.args.change in
-    let slot : c.get-slot.result ≡ slot_of slots series = c.get-slot.ensures in
-    let within : c.get-slot.result < length parts = search rules in
+    let slot : c.find_slot-slot.result ≡ slot_of slots series = c.find_slot-slot.ensures in
+    let within : c.find_slot-slot.result < length parts = search rules in
     let was : PartsOf g.row.P.Denot = c.index_mut.result.now in
-    let is : was ≡ get_or parts c.get-slot.result was = c.index_mut.ensures.value in
+    let is : was ≡ get_or parts c.find_slot-slot.result was = c.index_mut.ensures.value in
     let here : held (by_series parts slots) series ≡ Some was =
-    held_at parts slots series c.self.invariant.few ∙ ap (slice_get parts) (sym slot) ∙ slice_get-get_or parts c.get-slot.result was within ∙ ap Some (sym is) in
+    held_at parts slots series c.self.invariant.few ∙ ap (slice_get parts) (sym slot) ∙ slice_get-get_or parts c.find_slot-slot.result was within ∙ ap Some (sym is) in
     let now : Some c.apply.new.parts ≡ option_map f (held (by_series parts slots) series) = ap Some c.apply.ensures ∙ ap (option_map f) (sym here) in
-    subst (λ (s : RowOf (PartsOf g.row.P.Denot)). held (by_series (set parts c.get-slot.result c.apply.new.parts) slots) j ≡ cond (j == series) (option_map f (held s.1 series)) (held s.1 j)) c.self.view_is
-    (part_put parts slots c.self.inside.series_list.items series c.get-slot.result c.apply.new.parts c.self.invariant slot within j ∙ ap (λ o. cond (j == series) o (held (by_series parts slots) j)) now)
+    subst (λ (s : RowOf (PartsOf g.row.P.Denot)). held (by_series (set parts c.find_slot-slot.result c.apply.new.parts) slots) j ≡ cond (j == series) (option_map f (held s.1 series)) (held s.1 j)) c.self.view_is
+    (part_put parts slots c.self.inside.series_list.items series c.find_slot-slot.result c.apply.new.parts c.self.invariant slot within j ∙ ap (λ o. cond (j == series) o (held (by_series parts slots) j)) now)
 
 pub returns-else-slot-len-clause-cells : goal.returns-else-slot-len-clause-cells
 returns-else-slot-len-clause-cells g c = λ j.
@@ -30,8 +30,8 @@ returns-else-slot-len-clause-cells g c = λ j.
     let slots : List (ℕ × ℕ) = c.self.inside.slots in
     let series : ℕ = c.args.series in
     let f : PartsOf g.row.P.Denot → PartsOf g.row.P.Denot = parts_after g.P.Partial.size g.P.Partial.join c.args.change in
-    let slot : c.get-slot.result ≡ slot_of slots series = c.get-slot.ensures in
-    let past : length parts ≤ c.get-slot.result = search rules in
+    let slot : c.find_slot-slot.result ≡ slot_of slots series = c.find_slot-slot.ensures in
+    let past : length parts ≤ c.find_slot-slot.result = search rules in
     subst (λ (s : RowOf (PartsOf g.row.P.Denot)). held s.1 j ≡ cond (j == series) (option_map f (held s.1 series)) (held s.1 j)) c.self.view_is
     (none_put (by_series parts slots) series j f (none_held parts slots series c.self.invariant.few (omega arith)))
 
@@ -39,5 +39,5 @@ pub returns-then-slot-len-clause-len : goal.returns-then-slot-len-clause-len
 returns-then-slot-len-clause-len g c =
     let parts : List (PartsOf g.row.P.Denot) = c.self.inside.parts.items in
     let slots : List (ℕ × ℕ) = c.self.inside.slots in
-    let after : List (PartsOf g.row.P.Denot) = set parts c.get-slot.result c.apply.new.parts in
+    let after : List (PartsOf g.row.P.Denot) = set parts c.find_slot-slot.result c.apply.new.parts in
     subst (λ (s : RowOf (PartsOf g.row.P.Denot)). length (by_series after slots) ≡ length s.1) c.self.view_is (length-by_series after slots ∙ sym (length-by_series parts slots))
