@@ -1,5 +1,5 @@
 //! The rollup series of a rule, indexed in creation order: a hash table by field and group, with a sorted list.
-ghost use Rattle.std.specs.Prelude.{◌≡◌, ◌≤◌, ◌<◌, ℕ, [], length, get_or, IsOk, IfSome, IfNone, IfOk, OnOk, OnErr, slice_get};
+ghost use Rattle.std.specs.Prelude.{◌≡◌, ◌≤◌, ◌<◌, ◌^◌, ℕ, [], length, get_or, IsOk, IfSome, IfNone, IfOk, OnOk, OnErr, slice_get};
 ghost use Rattle.std.specs.declared.cmp.Ordering.{Ordering};
 ghost use Rattle.std.specs.List.Sorted.{IsPartitionPoint};
 ghost use Rattle.ts_core.specs.lists.Members.{Among};
@@ -71,19 +71,18 @@ fn index_in_order<A: Allocator + Copy>(
 }
 
 /// Adds one to those of the first `count` positions that are `at` or more. All are below `count`.
-fn shift<A: Allocator>(ranks: &mut Vec<u32, A>, at: u32, count: u32)
-    requires many { count ≤ length ranks.old.items }
-    requires low { (j : ℕ) → j < count → get_or ranks.old.items j 0 < count }
-    ensures len { length ranks.new.items ≡ length ranks.old.items }
-    ensures ranks { (j : ℕ) → j < count → get_or ranks.new.items j 0 ≡ shifted at (get_or ranks.old.items j 0) }
-    ensures others { (j : ℕ) → count ≤ j → get_or ranks.new.items j 0 ≡ get_or ranks.old.items j 0 }
+fn shift(ranks: &mut [u32], at: u32, count: usize)
+    requires many { count ≤ length ranks.old }
+    requires few { count < 2 ^ 32 }
+    requires low { (j : ℕ) → j < count → get_or ranks.old j 0 < count }
+    ensures len { length ranks.new ≡ length ranks.old }
+    ensures ranks { (j : ℕ) → j < count → get_or ranks.new j 0 ≡ shifted at (get_or ranks.old j 0) }
+    ensures others { (j : ℕ) → count ≤ j → get_or ranks.new j 0 ≡ get_or ranks.old j 0 }
 {
-    let mut done = if at < count { 0 } else { count };
+    let mut done = if (at as usize) < count { 0 } else { count };
     while done < count {
-        let rank = ranks[done as usize];
-        if rank >= at {
-            ranks[done as usize] = rank + 1;
-        }
+        let rank = ranks[done];
+        ranks[done] = if rank >= at { rank + 1 } else { rank };
         done += 1;
     }
 }
@@ -159,7 +158,7 @@ impl<A: Allocator + Copy> RollupSeriesTable<A> {
         self.series_list.push(series).unwrap();
         self.order.insert(at, number).unwrap();
         self.ranks.push(at as u32).unwrap();
-        shift(&mut self.ranks, at as u32, number);
+        shift(self.ranks.as_mut_slice(), at as u32, number as usize);
         Ok(number)
     }
 }

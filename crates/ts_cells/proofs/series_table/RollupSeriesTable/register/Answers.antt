@@ -1,4 +1,4 @@
-use Rattle.std.proofs.Common.{rules, arith, ◌≡◌, ◌≤◌, ◌<◌, ◌+◌, ℕ, get_or, length-append, List, [], ◌∷◌, ◌++◌, length, insert, is_ok, if◌then◌else◌, refl, sym, ◌∙◌, ap, subst, inl, Less, Greater}
+use Rattle.std.proofs.Common.{rules, arith, take, drop, vec_len, ◌≡◌, ◌≤◌, ◌<◌, ◌+◌, ℕ, get_or, length-append, List, [], ◌∷◌, ◌++◌, length, insert, is_ok, if◌then◌else◌, refl, sym, ◌∙◌, ap, subst, inl, Less, Greater}
 use Rattle.std.specs.List.{slice_get}
 use Rattle.std.specs.List.Sorted.{IsPartitionPoint}
 use Rattle.ts_core.specs.lists.Members.{Among}
@@ -7,7 +7,7 @@ use Rattle.ts_core.proofs.lists.NumberedLemmas.{at_among, at_end}
 use Rattle.ts_core.proofs.lists.TableLemmas.{table_more}
 use Rattle.ts_cells.specs.Grids.{RollupSeries, rollup_series_named}
 use Rattle.ts_cells.specs.RollupSeriesTable.{found_cmp, hash_of_rollup_series, AreFound, IsRanked, shifted}
-use Rattle.std.proofs.lemmas.List.{get_or_append_left}
+use Rattle.std.proofs.lemmas.List.{get_or_append_left, take_at}
 use Rattle.std.proofs.Math.Seq.{get_or-append_seam}
 use Rattle.ts_cells.proofs.RankLemmas.{ranked_more}
 use Rattle.ts_cells.proofs.RollupSeriesOrder.{order_more}
@@ -19,22 +19,22 @@ returns-in-Some-clause-ok g c =
     let l : RollupSeries = rollup_series_named c.args.field.now c.args.group.now in inl (at_among c.args.self.now c.in-Some.number l c.in-Some.ensures.found, refl)
 
 -- the rollup series follows the others
-pushed : (g : Over) (c : goal.After-shift g) → c.push-2.new.self.items ≡ c.self.inside.series_list.items ++ rollup_series_named c.args.field.now c.args.group.now ∷ []
+pushed : (g : Over) (c : goal.After-self-1 g) → c.push-2.new.self.items ≡ c.self.inside.series_list.items ++ rollup_series_named c.args.field.now c.args.group.now ∷ []
 pushed g c =
     let before : List RollupSeries = c.self.inside.series_list.items in
     c.push-2.ensures.items ∙ ap (λ r. if is_ok r then c.reserve_eighth.new.list.items ++ c.in_ok-series.series ∷ [] else c.reserve_eighth.new.list.items) c.unwrap.ensures
     ∙ ap (λ (xs : List RollupSeries). xs ++ c.in_ok-series.series ∷ []) c.reserve_eighth.ensures.items ∙ ap (λ (x : RollupSeries). before ++ x ∷ []) c.in_ok-series.ensures
 
 -- its number is how many there were
-counted : (g : Over) (c : goal.After-shift g) → c.in_ok-number.number ≡ length c.self.inside.series_list.items
+counted : (g : Over) (c : goal.After-self-1 g) → c.in_ok-number.number ≡ length c.self.inside.series_list.items
 counted g c = search rules
 
 -- it wasn't there
-unknown : (g : Over) (c : goal.After-shift g) → Among (rollup_series_named c.args.field.now c.args.group.now) c.self.inside.series_list.items → ⊥
+unknown : (g : Over) (c : goal.After-self-1 g) → Among (rollup_series_named c.args.field.now c.args.group.now) c.self.inside.series_list.items → ⊥
 unknown g c = subst (λ (xs : List RollupSeries). Among (rollup_series_named c.args.field.now c.args.group.now) xs → ⊥) (sym c.self.view_is) c.in_default.ensures.absent
 
 -- its number is in the order
-ordered : (g : Over) (c : goal.After-shift g) → c.insert.new.self.items ≡ insert c.self.inside.order.items c.index_in_order-at.result (length c.self.inside.series_list.items)
+ordered : (g : Over) (c : goal.After-self-1 g) → c.insert.new.self.items ≡ insert c.self.inside.order.items c.index_in_order-at.result (length c.self.inside.series_list.items)
 ordered g c =
     let order : List ℕ = c.self.inside.order.items in
     let at : ℕ = c.index_in_order-at.result in
@@ -43,13 +43,13 @@ ordered g c =
     ∙ ap (λ xs. insert xs at number) c.reserve_eighth-2.ensures.items ∙ ap (insert order at) (counted g c)
 
 -- the positions before the shift, with the new one
-placed : (g : Over) (c : goal.After-shift g) → c.push-3.new.self.items ≡ c.self.inside.ranks.items ++ c.index_in_order-at.result ∷ []
+placed : (g : Over) (c : goal.After-self-1 g) → c.as_mut_slice.result.now ≡ c.self.inside.ranks.items ++ c.index_in_order-at.result ∷ []
 placed g c =
     let at : ℕ = c.index_in_order-at.result in
-    c.push-3.ensures.items ∙ ap (λ r. if is_ok r then c.reserve_eighth-3.new.list.items ++ at ∷ [] else c.reserve_eighth-3.new.list.items) c.unwrap-3.ensures
+    c.as_mut_slice.ensures.value ∙ c.push-3.ensures.items ∙ ap (λ r. if is_ok r then c.reserve_eighth-3.new.list.items ++ at ∷ [] else c.reserve_eighth-3.new.list.items) c.unwrap-3.ensures
     ∙ ap (λ xs. xs ++ at ∷ []) c.reserve_eighth-3.ensures.items
 
-ranked : (g : Over) (c : goal.After-shift g) → IsRanked (length (c.self.inside.series_list.items ++ rollup_series_named c.args.field.now c.args.group.now ∷ [])) (insert c.self.inside.order.items c.index_in_order-at.result (length c.self.inside.series_list.items)) c.shift.new.ranks.items
+ranked : (g : Over) (c : goal.After-self-1 g) → IsRanked (length (c.self.inside.series_list.items ++ rollup_series_named c.args.field.now c.args.group.now ∷ [])) (insert c.self.inside.order.items c.index_in_order-at.result (length c.self.inside.series_list.items)) c.shift.new.ranks
 ranked g c =
     let l : RollupSeries = rollup_series_named c.args.field.now c.args.group.now in
     let ls : List RollupSeries = c.self.inside.series_list.items in
@@ -62,12 +62,12 @@ ranked g c =
     let long = is.long in
     let many = is.as_many in
     let count = counted g c in
-    let size : length c.shift.new.ranks.items ≡ n + 1 = c.shift.ensures.len ∙ ap length (placed g c) ∙ length-append ranks (at ∷ []) ∙ ap (λ m. m + 1) is.as_many in
-    let put : (j : ℕ) → j < n → get_or c.shift.new.ranks.items j 0 ≡ shifted at (get_or ranks j 0) = λ j h.
+    let size : length c.shift.new.ranks ≡ n + 1 = c.shift.ensures.len ∙ ap length (placed g c) ∙ length-append ranks (at ∷ []) ∙ ap (λ m. m + 1) is.as_many in
+    let put : (j : ℕ) → j < n → get_or c.shift.new.ranks j 0 ≡ shifted at (get_or ranks j 0) = λ j h.
     c.shift.ensures.ranks j (omega arith) ∙ ap (shifted at) (ap (λ xs. get_or xs j 0) (placed g c) ∙ get_or_append_left ranks (at ∷ []) 0 j (omega arith)) in
-    let new : get_or c.shift.new.ranks.items n 0 ≡ at =
+    let new : get_or c.shift.new.ranks n 0 ≡ at =
     c.shift.ensures.others n (omega arith) ∙ ap (λ xs. get_or xs n 0) (placed g c) ∙ ap (λ m. get_or (ranks ++ at ∷ []) m 0) (sym is.as_many) ∙ get_or-append_seam ranks at [] 0 in
-    subst (λ m. IsRanked m (insert order at n) c.shift.new.ranks.items) (sym (length-append ls (l ∷ []))) (ranked_more n at order ranks c.shift.new.ranks.items is (omega arith) size put new)
+    subst (λ m. IsRanked m (insert order at n) c.shift.new.ranks) (sym (length-append ls (l ∷ []))) (ranked_more n at order ranks c.shift.new.ranks is (omega arith) size put new)
 
 pub invariant_of-self-2 : goal.invariant_of-self-2
 invariant_of-self-2 g c =
@@ -80,14 +80,19 @@ invariant_of-self-2 g c =
     let slot : IsPartitionPoint (λ n. found_cmp (slice_get ls n) l ≡ Less) (λ n. found_cmp (slice_get ls n) l ≡ Greater) order at =
     rw (c.as_slice.ensures.value, c.as_slice-2.ensures.value, c.reserve_eighth.ensures.items, c.reserve_eighth-2.ensures.items) at c.index_in_order-at.ensures.slot in
     let hashed : c.push.new.self ≡ hashes ++ hash_of_rollup_series l ∷ [] = c.in_ok-push.ensures.ok ∙ ap (λ n. hashes ++ n ∷ []) c.hash_rollup_series.ensures in
-    let found : AreFound (ls ++ l ∷ []) (hashes ++ hash_of_rollup_series l ∷ []) (insert order at (length ls)) c.shift.new.ranks.items = record {
+    let found : AreFound (ls ++ l ∷ []) (hashes ++ hash_of_rollup_series l ∷ []) (insert order at (length ls)) c.shift.new.ranks = record {
       table = table_more hash_of_rollup_series ls hashes l c.self.invariant.table (unknown g c);
       ordered = order_more ls order l at c.self.invariant.ordered (unknown g c) bound slot;
       ranked = ranked g c;
     } in
-    subst (λ (xs : List RollupSeries). AreFound xs c.push.new.self c.insert.new.self.items c.shift.new.ranks.items) (sym (pushed g c))
-    (subst (λ hs. AreFound (ls ++ l ∷ []) hs c.insert.new.self.items c.shift.new.ranks.items) (sym hashed)
-    (subst (λ os. AreFound (ls ++ l ∷ []) (hashes ++ hash_of_rollup_series l ∷ []) os c.shift.new.ranks.items) (sym (ordered g c)) found))
+    let items : List ℕ = c.push-3.new.self.items in
+    let size : vec_len c.push-3.new.self ≡ length items = search rules in
+    let seam : length c.shift.new.ranks ≡ vec_len c.push-3.new.self = c.shift.ensures.len ∙ ap length c.as_mut_slice.ensures.value ∙ sym size in
+    let back : take (vec_len c.push-3.new.self) (c.shift.new.ranks ++ drop (length c.shift.new.ranks) items) ≡ c.shift.new.ranks = take_at c.shift.new.ranks (drop (length c.shift.new.ranks) items) (vec_len c.push-3.new.self) seam in
+    subst (AreFound c.push-2.new.self.items c.push.new.self c.insert.new.self.items) (sym back)
+    (subst (λ (xs : List RollupSeries). AreFound xs c.push.new.self c.insert.new.self.items c.shift.new.ranks) (sym (pushed g c))
+    (subst (λ hs. AreFound (ls ++ l ∷ []) hs c.insert.new.self.items c.shift.new.ranks) (sym hashed)
+    (subst (λ os. AreFound (ls ++ l ∷ []) (hashes ++ hash_of_rollup_series l ∷ []) os c.shift.new.ranks) (sym (ordered g c)) found)))
 
 pub returns-clause-number : goal.returns-clause-number
 returns-clause-number g c =
