@@ -21,6 +21,8 @@ pub mod TagLemmas
 pub mod FieldLemmas
 pub mod MarkLemmas
 pub mod StepsPutLemmas
+-- Ends: the same without parts
+pub mod EndLemmas
 -- Scan, PartTexts: byte by byte
 pub mod ScanLemmas
 pub mod PieceLemmas

@@ -13,14 +13,15 @@ use Rattle.std.proofs.lemmas.Bool.{le-ltb}
 use Rattle.ts_core.specs.facts.Facts.{Text}
 use Rattle.ts_line.specs.declared.fault.LineFault.{LineFault}
 use Rattle.ts_line.specs.Parts.{LinePart, Parts}
-use Rattle.ts_line.specs.declared.scan.Stops.TheVariants.{Space}
+use Rattle.ts_line.specs.declared.scan.Stops.TheVariants.{Space, Comma}
 use Rattle.ts_line.specs.Scan.{end_of, spaces_end}
+use Rattle.ts_line.specs.PartTexts.{piece_at}
 use Rattle.ts_line.specs.TagParts.{tags_at}
 use Rattle.ts_line.specs.Fields.{fields_at}
 use Rattle.ts_line.specs.Lines.{is_bare_space, trimmed, content, measurement_at, time_at, time_by, time_of, parts_at, line_of}
 use Rattle.ts_core.specs.text.Numbers.{is_number}
 use Rattle.ts_line.specs.ReadSteps.{◌>>=◌}
-use Rattle.ts_line.specs.Readings.{NeedsMemory, IfOutOfMemory}
+use Rattle.ts_line.specs.Readings.{IfOutOfMemory}
 use Rattle.ts_line.specs.declared.fault.ReadLineError.{ReadLineError}
 use Rattle.ts_line.specs.declared.fault.ReadLineError.TheVariants as errors
 use Rattle.std.proofs.lemmas.Bool.Decides.{nat_tests}
@@ -62,15 +63,13 @@ some_line : (r : Result Parts LineFault) → (r >>= λ p. Ok (Some p)) ≡ Ok No
 some_line (Ok p) e = absurd cc
 some_line (Err f) e = absurd cc
 
--- a line that isn't blank or a comment needs memory
-pub needs_memory : (unit now : ℤ) (source : Text) → length source ≤ 65536 → ltb 65536 (length source) ≡ false → eqb (spaces_end (content source) 0) (length (content source)) ≡ false
-    → eqb (slice_index (content source) (spaces_end (content source) 0)) 35 ≡ false → NeedsMemory unit now source
+-- a line that isn't blank or a comment is one that has parts or an error
+pub not_none : (unit now : ℤ) (source : Text) → ltb 65536 (length source) ≡ false → eqb (spaces_end (content source) 0) (length (content source)) ≡ false
+    → eqb (slice_index (content source) (spaces_end (content source) 0)) 35 ≡ false → line_of unit now source ≡ Ok None → ⊥
 unfolding line_of
-needs_memory unit now source le a b c = record {
-  short = le;
-  some = λ e. (let read : (parts_at unit now (content source) (spaces_end (content source) 0) >>= λ p. Ok (Some p)) ≡ Ok None = rw (a, b, c) at e in
-      some_line (parts_at unit now (content source) (spaces_end (content source) 0)) read);
-}
+not_none unit now source a b c e =
+    let read : (parts_at unit now (content source) (spaces_end (content source) 0) >>= λ p. Ok (Some p)) ≡ Ok None = rw (a, b, c) at e in
+    some_line (parts_at unit now (content source) (spaces_end (content source) 0)) read
 
 pub memory_by : {X : Type 0} (r : Result X ReadLineError) (Fact : Type 0) → Fact → IfOutOfMemory r Fact
 memory_by (Ok x) Fact h = tt
@@ -101,3 +100,12 @@ unit_fits Minutes = grind (arith, ints)
 unit_fits Hours = grind (arith, ints)
 unit_fits Days = grind (arith, ints)
 unit_fits Weeks = grind (arith, ints)
+
+-- ---- the first error, read without parts
+
+pub measurement_kept : (line : Text) (start end : ℕ) → end ≡ end_of Comma line start → end_of Space line start ≤ start + 4096 → (end ≡ start → ⊥) → measurement_at line start ≡ Ok (piece_at Comma line start end, end)
+unfolding measurement_at
+measurement_kept line start end e short ne =
+    let no : ltb (start + 4096) (end_of Space line start) ≡ false = le-ltb (start + 4096) (end_of Space line start) short in
+    let some : eqb end start ≡ false = grind (arith, nat_tests) in
+    rw (no, ← e, some) refl

@@ -1,6 +1,5 @@
 -- The names of a line that was read, which aren't empty; no key is `time`.
-use Rattle.std.proofs.Common.{◌≡◌, ℕ, ℤ, ◌+◌, ◌≤◌, Bool, true, false, ◌&&◌, List, [], ◌∷◌, length, map, bytes_eq, Ok, refl, sym, ap, subst, arith}
-use Rattle.std.proofs.lemmas.Bool.{and_parts}
+use Rattle.std.proofs.Common.{◌≡◌, ℕ, ℤ, ◌+◌, ◌≤◌, Bool, true, false, List, [], ◌∷◌, length, map, bytes_eq, Ok, refl, sym, ap, subst, arith}
 use Rattle.std.proofs.lemmas.List.{length-map}
 use Rattle.std.specs.List.{AllByRecursion}
 use Rattle.std.specs.FinMap as finmap
@@ -8,33 +7,18 @@ use Rattle.std.specs.FinMap.{put, entries_sorted}
 use Rattle.std.specs.declared.cmp.Ordering.{Ordering}
 use Rattle.std.specs.declared.cmp.Ordering.TheVariants.{Less, Equal, Greater}
 use Rattle.ts_core.specs.facts.Facts.{Text, text_cmp}
-use Rattle.ts_line.specs.declared.scan.Stops.{Stops}
 use Rattle.ts_line.specs.declared.scan.Stops.TheVariants.{Comma, Equals}
 use Rattle.ts_line.specs.Names.{IsName, IsKey, AreKeys, AreTagTexts, IsStatable}
 use Rattle.ts_line.specs.Parts.{LinePart, Parts, tag_texts, field_text, series_of, AreFields, AreParts}
-use Rattle.ts_line.specs.Scan.{is_backslash, spaces_end}
-use Rattle.ts_line.specs.PartTexts.{begins_escapable, unescaped}
+use Rattle.ts_line.specs.Scan.{spaces_end}
 use Rattle.ts_line.specs.Fields.{with_field}
 use Rattle.ts_line.specs.Lines.{parts_at}
 use Rattle.ts_line.specs.Spelling.{tags_from, AreTags, IsWrittenField, field_spelling, field_from, with_fields}
+use Rattle.ts_line.proofs.PieceLemmas.{text_some}
 use Rattle.ts_line.proofs.SortingLemmas.{insert_all, entries_put_all}
 use Rattle.ts_line.proofs.TagFacts.{AreTold}
 use Rattle.ts_line.proofs.FieldFacts.{AreFieldsTold}
 use Rattle.ts_line.proofs.SpellingFacts.{IsMeasurement, ArePartsAt, parts_told}
-
--- ---- a part that isn't empty has a text that isn't
-
-some_after : (stops : Stops) (bs : Text) → begins_escapable stops bs ≡ true → 1 ≤ length bs
-some_after stops [] e = absurd cc
-some_after stops (c ∷ bs) e = omega arith
-
-unescaped_by : (stops : Stops) (b : ℕ) (bs : Text) (e : Bool) → (is_backslash b && begins_escapable stops bs) ≡ e → (1 ≤ length bs → IsName (unescaped stops bs)) → IsName (unescaped stops (b ∷ bs))
-unescaped_by stops b bs true e ih = rw e (ih (some_after stops bs (and_parts (is_backslash b) (begins_escapable stops bs) e).1))
-unescaped_by stops b bs false e ih = rw e (omega arith)
-
-text_some : (stops : Stops) (raw : Text) → 1 ≤ length raw → IsName (unescaped stops raw)
-text_some stops [] some = absurd (omega arith)
-text_some stops (b ∷ bs) some = unescaped_by stops b bs (is_backslash b && begins_escapable stops bs) refl (text_some stops bs)
 
 -- ---- tags
 

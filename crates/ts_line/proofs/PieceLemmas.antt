@@ -1,9 +1,10 @@
 -- The text that a part spells, byte by byte.
-use Rattle.std.proofs.Common.{◌≡◌, ℕ, ◌+◌, ◌-◌, ◌<◌, ◌≤◌, Bool, true, false, cond, ◌&&◌, [], ◌∷◌, ◌++◌, length, get_or, drop, slice_range, refl, sym, ap, ◌∙◌, arith, append_assoc, append-nil}
+use Rattle.std.proofs.Common.{◌≡◌, ℕ, ◌+◌, ◌-◌, ◌<◌, ◌≤◌, Bool, true, false, cond, ◌&&◌, [], ◌∷◌, ◌++◌, length, get_or, drop, slice_range, bytes_eq, eqb, refl, sym, ap, ◌∙◌, arith, append_assoc, append-nil, length-drop, ⊎_elim}
 use Rattle.std.specs.List.{list_any}
 use Rattle.std.proofs.Math.Bool.{and-false}
-use Rattle.std.proofs.lemmas.Bool.{or_parts}
-use Rattle.std.proofs.lemmas.List.{at_drop_more}
+use Rattle.std.proofs.lemmas.Bool.{or_parts, and_parts, ne_eqb, cases_lt}
+use Rattle.std.proofs.lemmas.List.{at_drop_more, at_drop_all}
+use Rattle.std.proofs.lemmas.Bool.Decides.{nat_tests}
 use Rattle.ts_core.specs.facts.Facts.{Text}
 use Rattle.ts_line.specs.declared.scan.Stops.{Stops}
 use Rattle.ts_line.specs.Scan.{is_backslash, is_stop}
@@ -56,3 +57,76 @@ text_cut stops raw from i before total lt e so_far =
     let zero : (i + 1) - (i + 1) ≡ 0 = omega arith in
     let none : slice_range raw (i + 1) (i + 1) ≡ [] = rw zero refl in
     rw (none, append-nil (before ++ slice_range raw from i), ← escape_passed stops raw i lt e) so_far
+
+-- ---- a part that isn't empty has a text that isn't
+
+some_after : (stops : Stops) (bs : Text) → begins_escapable stops bs ≡ true → 1 ≤ length bs
+some_after stops [] e = absurd cc
+some_after stops (c ∷ bs) e = omega arith
+
+unescaped_by : (stops : Stops) (b : ℕ) (bs : Text) (e : Bool) → (is_backslash b && begins_escapable stops bs) ≡ e → (1 ≤ length bs → 1 ≤ length (unescaped stops bs)) → 1 ≤ length (unescaped stops (b ∷ bs))
+unescaped_by stops b bs true e ih = rw e (ih (some_after stops bs (and_parts (is_backslash b) (begins_escapable stops bs) e).1))
+unescaped_by stops b bs false e ih = rw e (omega arith)
+
+pub text_some : (stops : Stops) (raw : Text) → 1 ≤ length raw → 1 ≤ length (unescaped stops raw)
+text_some stops [] some = absurd (omega arith)
+text_some stops (b ∷ bs) some = unescaped_by stops b bs (is_backslash b && begins_escapable stops bs) refl (text_some stops bs)
+
+-- ---- two texts, byte by byte
+
+-- the texts of what is left of two parts
+abbrev pub same_from : Stops → Text → ℕ → Text → ℕ → Bool
+same_from stops xs i ys j = bytes_eq (unescaped stops (drop i xs)) (unescaped stops (drop j ys))
+
+pub left_passed : (stops : Stops) (xs ys : Text) (i j : ℕ) → i < length xs → is_escape_at stops xs i ≡ true → same_from stops xs (i + 1) ys j ≡ same_from stops xs i ys j
+left_passed stops xs ys i j lt e = ap (λ (t : Text). bytes_eq t (unescaped stops (drop j ys))) (sym (escape_passed stops xs i lt e))
+
+pub right_passed : (stops : Stops) (xs ys : Text) (i j : ℕ) → j < length ys → is_escape_at stops ys j ≡ true → same_from stops xs i ys (j + 1) ≡ same_from stops xs i ys j
+right_passed stops xs ys i j lt e = ap (λ (t : Text). bytes_eq (unescaped stops (drop i xs)) t) (sym (escape_passed stops ys j lt e))
+
+byte_first : (stops : Stops) (xs : Text) (i : ℕ) → i < length xs → is_escape_at stops xs i ≡ false → unescaped stops (drop i xs) ≡ get_or xs i 0 ∷ unescaped stops (drop (i + 1) xs)
+byte_first stops xs i lt e = unescaped_step stops xs i lt ∙ rw e refl
+
+two_bytes : (stops : Stops) (xs ys : Text) (i j : ℕ) → i < length xs → j < length ys → is_escape_at stops xs i ≡ false → is_escape_at stops ys j ≡ false
+    → same_from stops xs i ys j ≡ (eqb (get_or xs i 0) (get_or ys j 0) && same_from stops xs (i + 1) ys (j + 1))
+two_bytes stops xs ys i j lt lt' e e' = rw (byte_first stops xs i lt e, byte_first stops ys j lt' e') refl
+
+pub both_passed : (stops : Stops) (xs ys : Text) (i j : ℕ) → i < length xs → j < length ys → is_escape_at stops xs i ≡ false → is_escape_at stops ys j ≡ false
+    → get_or xs i 0 ≡ get_or ys j 0 → same_from stops xs (i + 1) ys (j + 1) ≡ same_from stops xs i ys j
+both_passed stops xs ys i j lt lt' e e' same =
+    let yes : eqb (get_or xs i 0) (get_or ys j 0) ≡ true = grind (arith, nat_tests) in
+    sym (two_bytes stops xs ys i j lt lt' e e' ∙ rw yes refl)
+
+pub bytes_differ : (stops : Stops) (xs ys : Text) (i j : ℕ) → i < length xs → j < length ys → is_escape_at stops xs i ≡ false → is_escape_at stops ys j ≡ false
+    → (get_or xs i 0 ≡ get_or ys j 0 → ⊥) → same_from stops xs i ys j ≡ false
+bytes_differ stops xs ys i j lt lt' e e' other = two_bytes stops xs ys i j lt lt' e e' ∙ rw (ne_eqb _ _ other) refl
+
+none_and_some : (xs ys : Text) → xs ≡ [] → 1 ≤ length ys → (bytes_eq xs ys ≡ false) × (bytes_eq ys xs ≡ false)
+none_and_some xs [] e some = absurd (omega arith)
+none_and_some xs (y ∷ ys) e some = rw e (refl, refl)
+
+nothing_from : (stops : Stops) (xs : Text) (i : ℕ) → length xs ≤ i → unescaped stops (drop i xs) ≡ []
+nothing_from stops xs i le = at_drop_all (unescaped stops) xs i le
+
+some_from : (stops : Stops) (xs : Text) (i : ℕ) → i < length xs → 1 ≤ length (unescaped stops (drop i xs))
+some_from stops xs i lt = text_some stops (drop i xs) (omega (arith, lt, length-drop i xs))
+
+-- both ended, so they are the same
+pub both_ended : (stops : Stops) (xs ys : Text) (i j : ℕ) → length xs ≤ i → length ys ≤ j → same_from stops xs i ys j ≡ true
+both_ended stops xs ys i j le le' = rw (nothing_from stops xs i le, nothing_from stops ys j le') refl
+
+pub left_ended : (stops : Stops) (xs ys : Text) (i j : ℕ) → length xs ≤ i → j < length ys → same_from stops xs i ys j ≡ false
+left_ended stops xs ys i j le lt = (none_and_some (unescaped stops (drop i xs)) (unescaped stops (drop j ys)) (nothing_from stops xs i le) (some_from stops ys j lt)).0
+
+pub right_ended : (stops : Stops) (xs ys : Text) (i j : ℕ) → i < length xs → length ys ≤ j → same_from stops xs i ys j ≡ false
+right_ended stops xs ys i j lt le = (none_and_some (unescaped stops (drop j ys)) (unescaped stops (drop i xs)) (nothing_from stops ys j le) (some_from stops xs i lt)).1
+
+-- what is left of both, where the first ended
+pub left_rest : (stops : Stops) (xs ys : Text) (i j : ℕ) → length xs ≤ i → j ≤ length ys → eqb j (length ys) ≡ same_from stops xs i ys j
+left_rest stops xs ys i j le within = ⊎_elim
+    (λ (lt : j < length ys). let no : eqb j (length ys) ≡ false = grind (arith, nat_tests) in no ∙ sym (left_ended stops xs ys i j le lt))
+    (λ (past : length ys ≤ j). let yes : eqb j (length ys) ≡ true = grind (arith, nat_tests) in yes ∙ sym (both_ended stops xs ys i j le past))
+    (cases_lt j (length ys))
+
+pub right_rest : (stops : Stops) (xs ys : Text) (i j : ℕ) → i < length xs → length ys ≤ j → eqb i (length xs) ≡ same_from stops xs i ys j
+right_rest stops xs ys i j lt le = let no : eqb i (length xs) ≡ false = grind (arith, nat_tests) in no ∙ sym (right_ended stops xs ys i j lt le)

@@ -18,3 +18,4 @@ pub mod Sorting
 pub mod NameFilters
 pub mod StepsPut
 pub mod Digits
+pub mod Ends

@@ -1,5 +1,5 @@
 -- Reading a line against spelling it, and the texts that need memory. (Own rules.)
-use Rattle.std.specs.Prelude.{◌≡◌, ◌≤◌, ℤ, length, Option, Some, None, IfSome, Result, Ok, Err, IfOk}
+use Rattle.std.specs.Prelude.{◌≡◌, ℤ, Option, Some, IfSome, Result, Ok, Err, IfOk}
 use Rattle.ts_core.specs.facts.Facts.{Text}
 use Rattle.ts_line.specs.declared.fault.ReadLineError.{ReadLineError}
 use Rattle.ts_line.specs.declared.fault.ReadLineError.TheVariants as errors
@@ -13,10 +13,10 @@ pub record IsReadAsSpelled (unit now : ℤ) (source : Text) (result : Result (Op
   pub told : IfOk result (λ o. IfSome o (IsSpelling unit now source))
   pub only : (parts : Parts) → IsSpelling unit now source parts → GivesIfMemory (λ o. o) result (Ok (Some parts))
 
--- the text needs memory: it isn't too long, blank or a comment
+-- the text needs memory: it is a line without an error
 pub record NeedsMemory (unit now : ℤ) (source : Text) : Type 0 where
-  pub short : length source ≤ 65536
-  pub some : line_of unit now source ≡ Ok None → ⊥
+  pub parts : Parts
+  pub read : line_of unit now source ≡ Ok (Some parts)
 
 -- the fact holds if the call ran out of memory
 abbrev pub IfOutOfMemory : {X : Type 0} → Result X ReadLineError → Type 0 → Type 0

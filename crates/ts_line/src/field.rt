@@ -18,14 +18,14 @@ use std::alloc::{AllocError, Allocator};
 use ts_core::{after, byte_at};
 
 /// Limit on the fields of a line, repeated names included.
-const FIELD_LIMIT: usize = 256;
+pub(crate) const FIELD_LIMIT: usize = 256;
 
 /// Initial capacity of the field list.
 const FIELDS_AT_FIRST: usize = 16;
 
 /// Parses the value at `at` of the field at `start`; returns it and the offset after it. A short integer, as most
 /// values are, is read in one pass.
-fn value_at(start: usize, line: &str, at: usize) -> Result<(i64, usize), LineFault>
+pub(crate) fn value_at(start: usize, line: &str, at: usize) -> Result<(i64, usize), LineFault>
     requires { IsCharBoundary line.now at }
     ensures value { result ≡ value_begun_at start line.now at }
     ensures boundary { IfOk result (λ x. IsCharBoundary line.now x.1) }

@@ -14,6 +14,7 @@
 //! line, and specs/Spelling.antt, which writes it.
 #![tactic(auto)]
 
+mod ends;
 mod fault;
 mod field;
 mod line;

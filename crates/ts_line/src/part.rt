@@ -1,9 +1,10 @@
 //! Builds parts and resolves their escapes.
-ghost use Rattle.std.specs.Prelude.{◌≡◌, ◌<◌, ◌+◌, ◌&&◌, length, IfOk, slice_index, slice_range, drop, string_bytes};
+ghost use Rattle.std.specs.Prelude.{◌≡◌, ◌<◌, ◌+◌, ◌&&◌, length, IfOk, bytes_eq, slice_index, slice_range, drop, string_bytes};
 ghost use Rattle.std.specs.Cow.{cow_str_bytes};
 ghost use Rattle.std.specs.List.{list_any};
 ghost use Rattle.std.specs.Str.{IsCharBoundary};
 ghost use Rattle.ts_core.specs.text.Cursors.{IsOffsetFrom};
+ghost use Rattle.ts_line.specs.declared.scan.Stops.TheVariants.{Equals};
 ghost use Rattle.ts_line.specs.Scan.{is_backslash, is_stop};
 ghost use Rattle.ts_line.specs.PartTexts.{begins_escapable, unescaped, piece_at};
 
@@ -78,4 +79,27 @@ fn unescaped<A: Allocator>(alloc: A, raw: &str, stops: Stops) -> Result<String<A
     }
     text.push_str(&raw[from..])?;
     Ok(text)
+}
+
+/// Returns true if two keys spell the same text. Does not allocate.
+pub fn have_same_text(left: &str, right: &str) -> bool
+    ensures { result ≡ bytes_eq (unescaped Equals left.now) (unescaped Equals right.now) }
+{
+    let lefts = left.as_bytes();
+    let rights = right.as_bytes();
+    let mut at = 0;
+    let mut other = 0;
+    while at < lefts.len() && other < rights.len() {
+        if is_escape_at(lefts, at, Stops::Equals) {
+            at += 1;
+        } else if is_escape_at(rights, other, Stops::Equals) {
+            other += 1;
+        } else if lefts[at] == rights[other] {
+            at += 1;
+            other += 1;
+        } else {
+            return false;
+        }
+    }
+    at == lefts.len() && other == rights.len()
 }

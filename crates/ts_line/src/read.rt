@@ -1,5 +1,5 @@
 //! `read_line`: parses a line from left to right, up to its first error.
-ghost use Rattle.std.specs.Prelude.{◌≡◌, ◌<◌, ◌≤◌, true, length, IfOk, IfSome};
+ghost use Rattle.std.specs.Prelude.{◌≡◌, ◌<◌, ◌≤◌, true, length, IfOk, IfSome, None, Ok};
 ghost use Rattle.std.specs.Str.{IsCharBoundary};
 ghost use Rattle.ts_line.specs.EscapeLaws.{ReadsPairs};
 ghost use Rattle.ts_line.specs.Spans.{AreInOrder, pieces_of};
@@ -8,6 +8,7 @@ ghost use Rattle.ts_line.specs.ReadSteps.{GivesIfMemory};
 ghost use Rattle.ts_core.specs.facts.TimeUnits.{nanoseconds_of};
 ghost use Rattle.ts_line.specs.Lines.{is_bare_space, trimmed, without_return, content, measurement_at, time_at, parts_at, line_of};
 
+use crate::ends::first_fault;
 use crate::fault::{LineFault, LineFaultKind, ReadLineError};
 use crate::field::fields;
 use crate::line::{Line, Part};
@@ -20,15 +21,15 @@ use std::alloc::Allocator;
 use ts_core::{Time, TimeUnit, byte_at, is_number};
 
 /// Limit on the bytes of a line.
-const LINE_LIMIT: usize = 65_536;
+pub(crate) const LINE_LIMIT: usize = 65_536;
 
 /// Limit on the bytes of a series key: the measurement with its tags.
-const KEY_LIMIT: usize = 4_096;
+pub(crate) const KEY_LIMIT: usize = 4_096;
 
 /// Parses a line given without its line feed. Returns its parts, or `None` for a comment or a blank line.
 /// A timestamp counts units of `precision`; without one, the time is `now`.
-/// On an error in the text, returns the first one with its byte offset; on allocation failure, `OutOfMemory`. Does not
-/// allocate for a text that is too long, blank or a comment.
+/// On an error in the text, returns the first one with its byte offset; on allocation failure in a line without an
+/// error, `OutOfMemory`. Does not allocate for a text that is too long, blank or a comment.
 pub fn read_line<A: Allocator + Copy>(
     alloc: A,
     text: &str,
@@ -38,7 +39,7 @@ pub fn read_line<A: Allocator + Copy>(
     // exactly no line, its parts or its first error
     ensures value { GivesIfMemory (λ o. o) result (line_of (nanoseconds_of precision) now text.now) }
 
-    // only a text that needs memory runs out of it: one that is not too long, not blank and no comment
+    // only a line without an error runs out of memory
     ensures memory { IfOutOfMemory result (NeedsMemory (nanoseconds_of precision) now text.now) }
 
     // round trip: a line that is read is a spelling of its parts, and each spelling of parts is read as these parts
@@ -50,7 +51,26 @@ pub fn read_line<A: Allocator + Copy>(
     // testing for a backslash directly before a byte agrees with reading escapes in pairs
     ensures pairs { ReadsPairs }
 {
-    whole_line(alloc, text, precision, now)
+    line_or_fault(alloc, text, precision, now)
+}
+
+/// Parses a line; on allocation failure, looks for the line's first error again, without memory.
+fn line_or_fault<A: Allocator + Copy>(
+    alloc: A,
+    text: &str,
+    precision: TimeUnit,
+    now: Time,
+) -> Result<Option<Line<'_, A>>, ReadLineError>
+    ensures value { GivesIfMemory (λ o. o) result (line_of (nanoseconds_of precision) now text.now) }
+    ensures memory { IfOutOfMemory result (NeedsMemory (nanoseconds_of precision) now text.now) }
+{
+    let result = whole_line(alloc, text, precision, now);
+    if let Err(ReadLineError::OutOfMemory) = result {
+        if let Some(fault) = first_fault(text, precision, now) {
+            return Err(ReadLineError::Fault(fault));
+        }
+    }
+    result
 }
 
 #[tactic(auto, unfolding(crate::specs::Lines::line_of, crate::specs::Lines::content))]
@@ -61,7 +81,7 @@ fn whole_line<A: Allocator + Copy>(
     now: Time,
 ) -> Result<Option<Line<'_, A>>, ReadLineError>
     ensures value { GivesIfMemory (λ o. o) result (line_of (nanoseconds_of precision) now text.now) }
-    ensures memory { IfOutOfMemory result (NeedsMemory (nanoseconds_of precision) now text.now) }
+    ensures memory { IfOutOfMemory result (line_of (nanoseconds_of precision) now text.now ≡ Ok None → ⊥) }
 {
     if text.len() > LINE_LIMIT {
         return Err(ReadLineError::Fault(LineFaultKind::OverLimit.at(LINE_LIMIT)));
@@ -111,7 +131,7 @@ fn end_without_return(source: &str) -> usize
 
 /// Strips one trailing carriage return, then trailing unescaped spaces.
 #[tactic(auto, unfolding(crate::specs::Lines::content))]
-fn content(source: &str) -> &str
+pub(crate) fn content(source: &str) -> &str
     ensures { result.now ≡ content source.now }
 {
     let end = end_without_spaces(source, end_without_return(source));
@@ -143,7 +163,7 @@ fn measurement<'a, A: Allocator>(
 
 /// Parses the timestamp after the fields; returns `now` if there is none.
 #[tactic(auto, unfolding(crate::specs::Lines::time_at))]
-fn time(line: &str, at: usize, precision: TimeUnit, now: Time) -> Result<Time, LineFault>
+pub(crate) fn time(line: &str, at: usize, precision: TimeUnit, now: Time) -> Result<Time, LineFault>
     requires { IsCharBoundary line.now at }
     ensures { result ≡ time_at (nanoseconds_of precision) now line.now at }
 {

@@ -6,12 +6,12 @@ use Rattle.ts_line.proofs.read.read_line.Goals as goal
 
 pub returns-clause-spelled : goal.returns-clause-spelled
 returns-clause-spelled g c = record {
-  told = told_of (nanoseconds_of c.args.precision) c.args.now c.args.text.now c.whole_line.result c.whole_line.ensures.value;
-  only = read_of (nanoseconds_of c.args.precision) c.args.now c.args.text.now c.whole_line.result c.whole_line.ensures.value;
+  told = told_of (nanoseconds_of c.args.precision) c.args.now c.args.text.now c.line_or_fault.result c.line_or_fault.ensures.value;
+  only = read_of (nanoseconds_of c.args.precision) c.args.now c.args.text.now c.line_or_fault.result c.line_or_fault.ensures.value;
 }
 
 pub returns-clause-pairs : goal.returns-clause-pairs
 returns-clause-pairs g c = reads_pairs
 
 pub returns-clause-spans : goal.returns-clause-spans
-returns-clause-spans g c = placed_by (nanoseconds_of c.args.precision) c.args.now c.args.text.now c.whole_line.result (told_of (nanoseconds_of c.args.precision) c.args.now c.args.text.now c.whole_line.result c.whole_line.ensures.value)
+returns-clause-spans g c = placed_by (nanoseconds_of c.args.precision) c.args.now c.args.text.now c.line_or_fault.result (told_of (nanoseconds_of c.args.precision) c.args.now c.args.text.now c.line_or_fault.result c.line_or_fault.ensures.value)

@@ -5,7 +5,7 @@ use Rattle.ts_core.specs.facts.Facts.{Text}
 use Rattle.ts_core.specs.facts.TimeUnits.{nanoseconds_of}
 use Rattle.ts_line.specs.Scan.{spaces_end}
 use Rattle.ts_line.specs.Lines.{content}
-use Rattle.ts_line.proofs.LineLemmas.{line_read, needs_memory, memory_by}
+use Rattle.ts_line.proofs.LineLemmas.{line_read, not_none, memory_by}
 use Rattle.ts_line.proofs.read.whole_line.Goals as goal
 
 pub after_spaces-start-requires : goal.after_spaces-start-requires
@@ -29,4 +29,4 @@ returns-in_err-parts-clause-memory g c =
     let short : ltb 65536 (length source) ≡ false = le-ltb 65536 (length source) c.if-text-gt-LINE_LIMIT.false in
     let some : eqb (spaces_end (content source) 0) (length (content source)) ≡ false = rw (← line, ← start) (ne_eqb _ _ c.if-start-line.false) in
     let told : eqb (slice_index (content source) (spaces_end (content source) 0)) 35 ≡ false = rw (← line, ← start) (ne_eqb _ _ (λ e. c.if-byte_at-eq35.false (c.byte_at.ensures ∙ e))) in
-    memory_by _ _ (needs_memory (nanoseconds_of c.args.precision) c.args.now source c.if-text-gt-LINE_LIMIT.false short some told)
+    memory_by _ _ (not_none (nanoseconds_of c.args.precision) c.args.now source short some told)

@@ -1,0 +1,38 @@
+-- Ends of the parts of a line, read without the parts. (Own rules.)
+use Rattle.std.specs.Prelude.{◌≡◌, ℕ, ℤ, zero, suc, ◌+◌, List, [], ◌∷◌, ◌==◌, if◌then◌else◌, slice_index, Option, Some, None, Result, Ok, Err}
+use Rattle.ts_core.specs.facts.Facts.{Text}
+use Rattle.ts_line.specs.declared.fault.LineFault.{LineFault}
+use Rattle.ts_line.specs.declared.scan.Stops.TheVariants.{Equals}
+use Rattle.ts_line.specs.Parts.{LinePart, Parts}
+use Rattle.ts_line.specs.PartTexts.{piece_at}
+use Rattle.ts_line.specs.TagParts.{pair_at}
+
+-- the offset after what the step reads, or the step's error
+abbrev pub EndsAs : {X : Type 0} → Result ℕ LineFault → Result (X × ℕ) LineFault → Type 0
+EndsAs {X} (Ok end) read = (x : X) × (read ≡ Ok (x, end))
+EndsAs (Err fault) read = read ≡ Err fault
+
+-- the offsets after the key and after the value of the tag at `start`, or its error
+abbrev pub EndsAsPair : Text → ℕ → Result (ℕ × ℕ) LineFault → Type 0
+EndsAsPair line start (Ok ends) = pair_at line start ≡ Ok ((piece_at Equals line start ends.0, piece_at Equals line (ends.0 + 1) ends.1), ends.1)
+EndsAsPair line start (Err fault) = pair_at line start ≡ Err fault
+
+-- a tag and those after it
+abbrev pub then_pairs : (ℕ → List (LinePart × LinePart)) → Result ((LinePart × LinePart) × ℕ) LineFault → List (LinePart × LinePart)
+then_pairs after (Ok t) = t.0 ∷ after t.1
+then_pairs after (Err fault) = []
+
+-- the tags from `at`, each after a comma, up to the first error; at most n of them
+abbrev pub pairs_at : ℕ → Text → ℕ → List (LinePart × LinePart)
+pairs_at zero line at = []
+pairs_at (suc n) line at = if slice_index line at == 44 then then_pairs (pairs_at n line) (pair_at line (at + 1)) else []
+
+-- the time of the parts, or the error
+abbrev pub time_only : Result Parts LineFault → Result ℤ LineFault
+time_only (Ok p) = Ok p.time
+time_only (Err fault) = Err fault
+
+-- the error of a line, if it has one
+abbrev pub fault_of : {X : Type 0} → Result X LineFault → Option LineFault
+fault_of (Ok x) = None
+fault_of (Err fault) = Some fault
