@@ -86,7 +86,7 @@ module _ (precision : TimeUnit) (now : ℤ) where
     refuses : (parts : Parts) (fault : WriteFault) → parts_in text ≡ Ok (Some parts) → refusal_in old parts ≡ Some fault → WritesText old text (Refused (Write fault)) old
 
   -- From `old`, a text that runs out of memory may lead to that state: its series may be registered. A comment, a blank
-  -- line or a text that is too long needs no memory.
+  -- line or a text with a fault needs no memory.
   pub data RunsOutOfMemory (old : LineState) (text : Text) : LineState → Type 0 where
     in_parsing : NeedsMemory (nanoseconds_of precision) now text → RunsOutOfMemory old text old
     in_writing : (parts : Parts) (series : List Series) → parts_in text ≡ Ok (Some parts) → refusal_in old parts ≡ None → MayGain old.series series (series_of parts) → RunsOutOfMemory old text (with_series series old)

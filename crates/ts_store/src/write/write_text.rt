@@ -60,7 +60,7 @@ impl LineOutcome {
 impl<A: Allocator + Copy> Store<A> {
     /// Parses the text of a line, and writes it. A timestamp counts units of `precision`; without one, the time is
     /// `now`. `arena` allocates the line's parts, which are dropped. When out of memory, no fact is accepted, but the
-    /// line's series may be registered. A comment, a blank line or a text that is too long needs no memory.
+    /// line's series may be registered. A comment, a blank line or a text with a fault needs no memory.
     pub fn write_text<L: Allocator + Copy>(
         &mut self,
         arena: L,
