@@ -35,7 +35,7 @@ struct Exchange<'a> {
 }
 
 /// Serves a request.
-fn exchange<'a>(
+fn serve<'a>(
     alloc: Global,
     store: &mut Store<Global>,
     now: Time,
@@ -70,7 +70,7 @@ fn retained(alloc: Global) -> Result<(Store<Global>, Time), Fail> {
 /// Returns true if the store's count of the second minute ends its reply this way.
 fn counts(alloc: Global, store: &mut Store<Global>, now: Time, end: &str) -> bool {
     let reader = PieceReader::new(COUNT.as_bytes(), NEVER, NEVER);
-    let asked = exchange(alloc, store, now, reader, ample(alloc));
+    let asked = serve(alloc, store, now, reader, ample(alloc));
     asked.writer.written.as_slice().ends_with(end.as_bytes())
 }
 
@@ -78,7 +78,7 @@ fn counts(alloc: Global, store: &mut Store<Global>, now: Time, end: &str) -> boo
 fn does_nothing(alloc: Global, piece: usize, call: usize) -> Result<bool, Fail> {
     let (mut store, now) = retained(alloc)?;
     let reader = PieceReader::new(BATCH.as_bytes(), piece, call);
-    let failed = exchange(alloc, &mut store, now, reader, ample(alloc));
+    let failed = serve(alloc, &mut store, now, reader, ample(alloc));
     let is_reported = failed.result == Err(IoFault::Reader)
         && failed.reader.calls == call.saturating_add(1)
         && failed.writer.calls == 0;
@@ -100,7 +100,7 @@ fn is_executed(alloc: Global, call: usize, failure: Failure) -> Result<bool, Fai
     let (mut store, now) = retained(alloc)?;
     let reader = PieceReader::new(BATCH.as_bytes(), NEVER, NEVER);
     let writer = PieceWriter::new(Vec::new(alloc), 1, call, failure);
-    let failed = exchange(alloc, &mut store, now, reader, writer);
+    let failed = serve(alloc, &mut store, now, reader, writer);
     let is_reported = failed.result == Err(IoFault::Writer)
         && failed.writer.calls == call.saturating_add(1)
         && Some(failed.writer.written.as_slice()) == REPLY.as_bytes().get(..call);
@@ -121,7 +121,7 @@ fn a_failed_write_of_a_reply_comes_after_the_event(rt: HostRuntime) -> Result<()
 fn a_request_without_failures_is_answered(rt: HostRuntime) -> Result<(), Fail> {
     let (mut store, now) = retained(rt.alloc())?;
     let reader = PieceReader::new(BATCH.as_bytes(), 7, NEVER);
-    let served = exchange(rt.alloc(), &mut store, now, reader, ample(rt.alloc()));
+    let served = serve(rt.alloc(), &mut store, now, reader, ample(rt.alloc()));
     let reply = Served::Reply {
         status: Status::BadRequest,
         route: Route::Write,
@@ -137,7 +137,7 @@ fn a_request_without_failures_is_answered(rt: HostRuntime) -> Result<(), Fail> {
 #[test]
 fn a_connection_without_a_byte_has_no_reply(rt: HostRuntime) -> Result<(), Fail> {
     let (mut store, now) = retained(rt.alloc())?;
-    let served = exchange(
+    let served = serve(
         rt.alloc(),
         &mut store,
         now,
