@@ -65,8 +65,9 @@ const OF_RULE: [Key; 6] = [
 fn object_with(keys: &[Key], name: &str, value: &str, text: &mut String) -> Result<(), AllocError> {
     let mut mark = "{";
     for key in keys {
-        let value = if key.name == name { value } else { key.sample };
-        push_all(text, &[mark, "\"", key.name, "\":", value])?;
+        text.push_str(mark)?;
+        push_all(text, &["\"", key.name, "\":"])?;
+        text.push_str(if key.name == name { value } else { key.sample })?;
         mark = ",";
     }
     text.push_str("}")
