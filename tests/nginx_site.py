@@ -39,7 +39,9 @@ class Nginx:
             f'events {{}} http {{ access_log off; {temporary} include {self.path("site.conf")}; }}\n',
         )
         call = [nginx(), '-p', self.folder.name, '-c', self.path('nginx.conf'), '-e', self.path('errors')]
-        self.process = subprocess.Popen(call, stdin=subprocess.DEVNULL, stdout=subprocess.DEVNULL, stderr=subprocess.DEVNULL)
+        self.process = subprocess.Popen(
+            call, stdin=subprocess.DEVNULL, stdout=subprocess.DEVNULL, stderr=subprocess.DEVNULL
+        )
         self.wait_until_it_listens()
 
     def path(self, name):

@@ -11,12 +11,23 @@ import time
 from served import free_port
 
 ELEMENT = 'element-6066-11e4-a52e-4f735466cecf'
-OPTIONS = ('--headless=new', '--no-sandbox', '--disable-gpu', '--disable-dev-shm-usage', '--hide-scrollbars', '--window-size=1200,1090')
+OPTIONS = (
+    '--headless=new',
+    '--no-sandbox',
+    '--disable-gpu',
+    '--disable-dev-shm-usage',
+    '--hide-scrollbars',
+    '--window-size=1200,1090',
+)
 
 
 def missing_parts():
     """Returns the names of Debian's packages that aren't installed."""
-    return [package for package, name in (('chromium', 'chromium'), ('chromium-driver', 'chromedriver')) if not shutil.which(name)]
+    return [
+        package
+        for package, name in (('chromium', 'chromium'), ('chromium-driver', 'chromedriver'))
+        if not shutil.which(name)
+    ]
 
 
 class Browser:
@@ -27,9 +38,15 @@ class Browser:
         self.port = free_port()
         environment = dict(os.environ, TZ=zone, HOME=self.folder.name)
         call = ['chromedriver', f'--port={self.port}']
-        self.process = subprocess.Popen(call, env=environment, stdin=subprocess.DEVNULL, stdout=subprocess.DEVNULL, stderr=subprocess.DEVNULL)
+        self.process = subprocess.Popen(
+            call, env=environment, stdin=subprocess.DEVNULL, stdout=subprocess.DEVNULL, stderr=subprocess.DEVNULL
+        )
         arguments = [*OPTIONS, f'--user-data-dir={self.folder.name}/profile']
-        wanted = {'capabilities': {'alwaysMatch': {'goog:chromeOptions': {'args': arguments, 'binary': shutil.which('chromium')}}}}
+        wanted = {
+            'capabilities': {
+                'alwaysMatch': {'goog:chromeOptions': {'args': arguments, 'binary': shutil.which('chromium')}}
+            }
+        }
         self.session = '/session/' + self.when_it_listens(wanted)['sessionId']
 
     def when_it_listens(self, wanted):
@@ -43,7 +60,9 @@ class Browser:
     def ask(self, method, target, body=None):
         """Returns the value of chromedriver's reply."""
         connection = http.client.HTTPConnection('127.0.0.1', self.port, timeout=60)
-        connection.request(method, target, None if body is None else json.dumps(body), {'Content-Type': 'application/json'})
+        connection.request(
+            method, target, None if body is None else json.dumps(body), {'Content-Type': 'application/json'}
+        )
         value = json.loads(connection.getresponse().read())['value']
         connection.close()
         if isinstance(value, dict) and 'error' in value:

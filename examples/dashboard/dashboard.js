@@ -1,16 +1,30 @@
 // Draws the panels of a file as charts, from answers of /query. Its state is that file and the page's address alone:
-//   range (seconds up to now), or from and to (seconds of the Unix epoch); interval; refresh; zone; panels (a file's name)
-// Each range is widened to whole buckets, so that cells can answer where raw points are gone. No proof speaks of this page.
+//   range (seconds up to now), or from and to (seconds of the Unix epoch); interval; refresh; zone; panels (a file)
+// Each range is widened to whole buckets, so that cells can answer where raw points are gone. No proof speaks of this
+// page.
 "use strict";
 
 const SECONDS_OF = { s: 1, m: 60, h: 3600, d: 86400, w: 604800 };
-const RANGES = { 900: "15 minutes", 3600: "1 hour", 10800: "3 hours", 21600: "6 hours", 43200: "12 hours", 86400: "1 day",
-  172800: "2 days", 604800: "7 days", 2592000: "30 days", 7776000: "90 days", 31536000: "365 days" };
+const RANGES = {
+  900: "15 minutes",
+  3600: "1 hour",
+  10800: "3 hours",
+  21600: "6 hours",
+  43200: "12 hours",
+  86400: "1 day",
+  172800: "2 days",
+  604800: "7 days",
+  2592000: "30 days",
+  7776000: "90 days",
+  31536000: "365 days",
+};
 const INTERVALS = ["1m", "5m", "15m", "1h", "6h", "1d"];
 const REFRESHES = { panel: "as the panel says", 0: "never", 10: "10 s", 30: "30 s", 60: "1 minute", 300: "5 minutes" };
 const ZONES = { local: "local time", utc: "UTC" };
 const DEFAULTS = { range: "21600", interval: "auto", refresh: "panel", zone: "local", panels: "main" };
-const TICK_STEPS = [10, 30, 60, 300, 600, 900, 1800, 3600, 7200, 10800, 21600, 43200, 86400, 172800, 604800, 2592000, 7776000];
+const TICK_STEPS = [
+  10, 30, 60, 300, 600, 900, 1800, 3600, 7200, 10800, 21600, 43200, 86400, 172800, 604800, 2592000, 7776000,
+];
 const COLOURS = ["#0072b2", "#c04f00", "#007a5a", "#a0478a", "#7a5c00", "#4b4b4b", "#c02942", "#3d5a98"];
 const PIXELS_PER_BUCKET = 4;
 const MOST_BUCKETS = 10000;
@@ -19,21 +33,24 @@ const PATIENCE = 60000;
 // The words are those of `tsdb faults`; the cures are for one who may change the panel, the rules or the view.
 const FAULTS = {
   71: ["a syntax error in a query", "Correct the panel's query at the marked place."],
-  72: ["this part of InfluxQL isn't supported", "Write the marked part otherwise: a panel selects functions of one field, with time($interval)."],
+  72: ["this part of InfluxQL isn't supported",
+    "Write the marked part otherwise: a panel selects functions of one field, with time($interval)."],
   73: ["the query has no lower time bound", "Write $range into the panel's WHERE."],
-  74: ["a number, a duration or a time is out of range", "Correct the marked number, duration or time; times are in UTC."],
+  74: ["a number, a duration or a time is out of range",
+    "Correct the marked number, duration or time; times are in UTC."],
   75: ["two columns have the same name, or one is named time", "Give one of the columns another name with AS."],
   76: ["there are more than 16 statements", "Divide the panel into several."],
   77: ["the range has more than 10,000 buckets", "Choose a longer interval or a shorter range."],
   78: ["the first bucket starts before the least time", "Choose a later range."],
-  91: ["the query needs dropped points, and no cells fit it", "Choose a longer interval, which that of a rule divides, or a later range. " +
-    "If that doesn't help, no rule of the measurement keeps all tags that the panel names, or its cells have expired."],
+  91: ["the query needs dropped points, and no cells fit it",
+    "Choose a longer interval, which that of a rule divides, or a later range. If that doesn't help, no rule " +
+    "of the measurement keeps all tags that the panel names, or its cells have expired."],
   92: ["more than 1,000,000 buckets of rules would have to be searched for a plan", "Choose a shorter range."],
 };
 
 // ---- Numbers, texts and times
 
-/// Returns the number of a value: of null none, of a mean's fraction "n/d" the quotient, of a sum's long text the nearest.
+/// Returns the number of a value: null of null, the quotient of a mean's fraction "n/d", the nearest of a long sum's text.
 function numberOf(value) {
   if (value === null) return null;
   const [numerator, denominator = "1"] = String(value).split("/");
@@ -175,7 +192,7 @@ function queryOf(panel, [from, to], interval) {
   return panel.query.replaceAll("$range", `time >= ${from}s AND time < ${to}s`).replaceAll("$interval", interval);
 }
 
-/// Returns a panel's answer at the first interval that isn't refused for the lack of cells, or throws the first refusal.
+/// Returns a panel's answer at the first interval that isn't refused for lack of cells, or throws the first refusal.
 async function answerOf(panel, view, width) {
   let first = null;
   for (const interval of intervalsFor(panel, view, width)) {
@@ -206,7 +223,10 @@ function writePlan(certificate, zone) {
     if (rollup) addPiece(pieces, `cells of the rule ${rollup[1]}`, rollup[2], rollup[3]);
     if (raw) addPiece(pieces, "raw points", raw[1], raw[2]);
   }
-  const texts = pieces.map((piece) => `${piece.source} from ${writeTime(piece.from, zone, { ...DAY, ...CLOCK })} to ${writeShortly(piece.to, piece.from, zone)}`);
+  const texts = pieces.map((piece) => {
+    const start = writeTime(piece.from, zone, { ...DAY, ...CLOCK });
+    return `${piece.source} from ${start} to ${writeShortly(piece.to, piece.from, zone)}`;
+  });
   return "Read from " + texts.join(", then ") + ".";
 }
 
@@ -248,7 +268,8 @@ function datasetsOf(all, seconds) {
   const isOpen = (point) => point.x + seconds * 1000 > Date.now();
   return all.map((series, index) => {
     const points = series.points;
-    const isLone = (at) => (!points[at - 1] || points[at - 1].y === null) && (!points[at + 1] || points[at + 1].y === null);
+    const isGap = (at) => !points[at] || points[at].y === null;
+    const isLone = (at) => isGap(at - 1) && isGap(at + 1);
     const colour = COLOURS[index % COLOURS.length];
     return {
       label: series.label,
@@ -267,6 +288,7 @@ function datasetsOf(all, seconds) {
 
 function chartOptions(panel, view, bounds, seconds) {
   const zone = view.zone;
+  const localZone = Intl.DateTimeFormat().resolvedOptions().timeZone;
   const withUnit = (value) => writeNumber(value) + (panel.unit ? " " + panel.unit : "");
   return {
     animation: false,
@@ -280,11 +302,14 @@ function chartOptions(panel, view, bounds, seconds) {
         type: "linear",
         min: bounds[0] * 1000,
         max: bounds[1] * 1000,
-        title: { display: true, text: zone === "utc" ? "UTC" : "local time, " + Intl.DateTimeFormat().resolvedOptions().timeZone, color: "#4a5361" },
+        title: { display: true, text: zone === "utc" ? "UTC" : "local time, " + localZone, color: "#4a5361" },
         afterBuildTicks: (axis) => (axis.ticks = ticksBetween(axis.min, axis.max, zone).map((value) => ({ value }))),
         ticks: { callback: (tick) => writeTick(tick, zone), autoSkip: false, maxRotation: 0, color: "#1a1a1a" },
       },
-      y: { title: { display: Boolean(panel.unit), text: panel.unit, color: "#4a5361" }, ticks: { color: "#1a1a1a", callback: (value) => writeNumber(value) } },
+      y: {
+        title: { display: Boolean(panel.unit), text: panel.unit, color: "#4a5361" },
+        ticks: { color: "#1a1a1a", callback: (value) => writeNumber(value) },
+      },
     },
     plugins: {
       legend: { labels: { color: "#1a1a1a", boxWidth: 14, boxHeight: 3 } },
@@ -301,7 +326,8 @@ function chartOptions(panel, view, bounds, seconds) {
 /// Returns a bucket's start and end in words, and whether it still fills.
 function writeBucket(start, seconds, zone) {
   const end = start + seconds * 1000;
-  return `${writeTime(start, zone, WHOLE)} to ${writeShortly(end, start, zone)}` + (end > Date.now() ? " (unfinished)" : "");
+  const words = writeRange(start, end, zone);
+  return end > Date.now() ? words + " (unfinished)" : words;
 }
 
 function element(name, text, attributes = {}) {
@@ -314,9 +340,11 @@ function element(name, text, attributes = {}) {
 /// Returns a table of the points, the latest bucket first.
 function tableOf(panel, all, seconds, zone) {
   const table = element("table");
-  table.append(element("caption", panel.title + (panel.unit ? ", in " + panel.unit : "") + ", the latest bucket first"));
+  const unit = panel.unit ? ", in " + panel.unit : "";
+  table.append(element("caption", panel.title + unit + ", the latest bucket first"));
   const head = element("tr");
-  head.append(element("th", "Bucket", { scope: "col" }), ...all.map((series) => element("th", series.label, { scope: "col" })));
+  const names = ["Bucket", ...all.map((series) => series.label)];
+  head.append(...names.map((name) => element("th", name, { scope: "col" })));
   table.append(element("thead"), element("tbody"));
   table.tHead.append(head);
   const rows = new Map();
@@ -402,22 +430,32 @@ class Panel {
     this.plan.textContent = plan;
     this.note.textContent = this.notesOn(view, answer).join(" ");
     if (!this.all.length) {
-      this.say("empty", "No points in this range", "Nothing was written here between these times, or under another name.", answer.query, null);
+      const cure = "Nothing was written here between these times, or under another name.";
+      this.say("empty", "No points in this range", cure, answer.query, null);
       return;
     }
     this.chartBox.hidden = this.table.hidden = false;
     const options = chartOptions(this.panel, view, answer.bounds, seconds);
     if (this.chart) this.chart.destroy();
     this.chart = new Chart(this.canvas, { type: "line", data: { datasets: datasetsOf(this.all, seconds) }, options });
-    this.canvas.setAttribute("aria-label", `${this.panel.title}: a chart of ${this.all.length} lines every ${answer.interval}; the table below it has its numbers`);
+    const label = `a chart of ${this.all.length} lines every ${answer.interval}; the table below it has its numbers`;
+    this.canvas.setAttribute("aria-label", `${this.panel.title}: ${label}`);
     this.fillTable();
   }
 
   notesOn(view, answer) {
     const notes = [`Every ${answer.interval}.`];
-    if (answer.refused) notes.push(`A shorter interval is refused (fault ${answer.refused.fault}): ${FAULTS[answer.refused.fault][0]}.`);
-    if (this.all.length && answer.bounds[1] * 1000 > Date.now()) notes.push("The dashed part goes to the last bucket, which is unfinished.");
-    if ((zoneOffset(view.zone, answer.bounds[0] * 1000) / 1000) % this.seconds) notes.push("Buckets begin at whole ones of UTC, not of the local clock.");
+    const [from, to] = answer.bounds;
+    if (answer.refused) {
+      const fault = answer.refused.fault;
+      notes.push(`A shorter interval is refused (fault ${fault}): ${FAULTS[fault][0]}.`);
+    }
+    if (this.all.length && to * 1000 > Date.now()) {
+      notes.push("The dashed part goes to the last bucket, which is unfinished.");
+    }
+    if ((zoneOffset(view.zone, from * 1000) / 1000) % this.seconds) {
+      notes.push("Buckets begin at whole ones of UTC, not of the local clock.");
+    }
     return notes;
   }
 
@@ -439,7 +477,8 @@ class Panel {
     this.setState(error.kind);
     const [words, cure] = FAULTS[error.fault] || [error.message, ""];
     if (error.kind === "stopped") {
-      this.say("stopped", "No answer: " + error.message, "Look whether the store runs: systemctl status tsdb. The page asks again.", error.query, null);
+      const advice = "Look whether the store runs: systemctl status tsdb. The page asks again.";
+      this.say("stopped", "No answer: " + error.message, advice, error.query, null);
     } else if (error.fault) {
       this.say("refused", `Refused: ${words} (${error.message})`, cure, error.query, error.offset);
     } else {
@@ -518,6 +557,10 @@ function moveView(part, factor) {
   changeView({ from: Math.round(middle - half), to: Math.round(middle + half) });
 }
 
+function writeRange(from, to, zone) {
+  return `${writeTime(from, zone, WHOLE)} to ${writeShortly(to, from, zone)}`;
+}
+
 function fillSelect(select, choices, chosen) {
   select.replaceChildren();
   for (const [value, text] of choices) select.append(new Option(text, value, false, value === String(chosen)));
@@ -526,11 +569,12 @@ function fillSelect(select, choices, chosen) {
 function fillForm() {
   const form = document.getElementById("view").elements;
   const ranges = Object.entries(RANGES);
-  if (view.from !== null) ranges.unshift(["", `${writeTime(view.from * 1000, view.zone, WHOLE)} to ${writeShortly(view.to * 1000, view.from * 1000, view.zone)}`]);
+  if (view.from !== null) ranges.unshift(["", writeRange(view.from * 1000, view.to * 1000, view.zone)]);
   else if (!(view.range in RANGES)) ranges.unshift([view.range, view.range + " s"]);
   fillSelect(form.range, ranges, view.from === null ? view.range : "");
-  const intervals = [...new Set([...INTERVALS, ...panels.flatMap((panel) => panel.panel.intervals || []), ...(view.interval === "auto" ? [] : [view.interval])])];
-  fillSelect(form.interval, [["auto", "auto"], ...intervals.map((interval) => [interval, interval])], view.interval);
+  const named = panels.flatMap((panel) => panel.panel.intervals || []);
+  const intervals = new Set(["auto", ...INTERVALS, ...named, view.interval]);
+  fillSelect(form.interval, [...intervals].map((interval) => [interval, interval]), view.interval);
   fillSelect(form.refresh, Object.entries(REFRESHES), view.refresh);
   fillSelect(form.zone, Object.entries(ZONES), view.zone);
 }
@@ -538,8 +582,12 @@ function fillForm() {
 function listenToForm() {
   const form = document.getElementById("view");
   form.addEventListener("submit", (event) => event.preventDefault());
-  form.elements.range.addEventListener("change", (event) => event.target.value && changeView({ range: event.target.value, from: null, to: null }));
-  for (const name of ["interval", "refresh", "zone"]) form.elements[name].addEventListener("change", (event) => changeView({ [name]: event.target.value }));
+  form.elements.range.addEventListener("change", (event) => {
+    if (event.target.value) changeView({ range: event.target.value, from: null, to: null });
+  });
+  for (const name of ["interval", "refresh", "zone"]) {
+    form.elements[name].addEventListener("change", (event) => changeView({ [name]: event.target.value }));
+  }
   form.elements.earlier.addEventListener("click", () => moveView(-0.5, 1));
   form.elements.later.addEventListener("click", () => moveView(0.5, 1));
   form.elements.in.addEventListener("click", () => moveView(0, 0.5));
@@ -553,9 +601,10 @@ function slipOf(panel) {
   for (const part of ["$range", "$interval"]) if (!panel.query.includes(part)) return `its query lacks ${part}`;
   if (panel.scale !== undefined && !(panel.scale > 0)) return '"scale" is no number above 0';
   if (panel.refresh !== undefined && !(panel.refresh >= 0)) return '"refresh" is no number of seconds';
-  if (panel.intervals !== undefined && !(Array.isArray(panel.intervals) && panel.intervals.length && panel.intervals.every((interval) => secondsOf(interval) > 0)))
-    return '"intervals" is no list such as ["1m","1h"]';
-  return null;
+  const intervals = panel.intervals === undefined ? INTERVALS : panel.intervals;
+  const isList = Array.isArray(intervals) && intervals.length > 0;
+  if (isList && intervals.every((interval) => secondsOf(interval) > 0)) return null;
+  return '"intervals" is no list such as ["1m","1h"]';
 }
 
 /// Returns the title and the panels of the file that the view names. Throws an error with one line if it is wrong.

@@ -10,8 +10,8 @@
       </Module>
     </Plugin>
 
-Gauges are multiplied by Scale and rounded; counters are whole already. A plugin is a measurement, with the tags host, type,
-instance and type_instance. Lines that no server took are kept, up to 10,000, and sent again with the next ones."""
+Gauges are multiplied by Scale and rounded; counters are whole already. A plugin is a measurement, with the tags host,
+type, instance and type_instance. Lines that no server took are kept, up to 10,000, and sent again with the next ones."""
 import time
 import urllib.error
 import urllib.request
@@ -61,7 +61,12 @@ class Writer:
             fields.append(f'{escaped(source[0])}={whole}i')
         if not fields:
             return None
-        tags = [('host', values.host), ('instance', values.plugin_instance), ('type', values.type), ('type_instance', values.type_instance)]
+        tags = [
+            ('host', values.host),
+            ('instance', values.plugin_instance),
+            ('type', values.type),
+            ('type_instance', values.type_instance),
+        ]
         key = ''.join([escaped(values.plugin)] + [f',{name}={escaped(value)}' for name, value in tags if value])
         return f'{key} {",".join(fields)} {round(values.time * 1000)}'
 
@@ -72,7 +77,9 @@ class Writer:
         if not lines:
             return
         try:
-            urllib.request.urlopen(urllib.request.Request(self.url, '\n'.join(lines).encode()), timeout=PATIENCE).close()
+            urllib.request.urlopen(
+                urllib.request.Request(self.url, '\n'.join(lines).encode()), timeout=PATIENCE
+            ).close()
         except urllib.error.HTTPError as error:
             words = error.read().decode(errors='replace')
             collectd.error(f'collectd_tsdb: {error.code} {words}')
