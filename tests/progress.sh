@@ -1,53 +1,85 @@
 # How far a run over all crates is, for ./tsdb and ./check, which read this file. A crate counts by the lines of its sources:
-# its proof takes 2 to 6 processor minutes per thousand of them, and its wrong bodies about twice as long.
+# its proof takes 2 to 6 processor minutes per thousand of them, and its wrong bodies about as long again.
 
-# Reads the crates of a repository, lowest first, and starts the clock.
+# Reads the crates of a repository, lowest first, and starts the clock. With a crate's name, only that one and those below it.
 begin_progress() {
-  local crate
-  progress_began=$SECONDS all_lines=0
+  local crate below
+  progress_began=$SECONDS all_lines=0 proved_lines=0
   crates=()
-  declare -gA lines_of
-  while read -r crate; do
-    crates+=("$crate")
+  declare -gA lines_of=() below_of=() is_proved=()
+  while IFS=: read -r crate below; do
+    crates+=("${crate%% *}")
+    below_of[${crate%% *}]=$(grep -ow 'ts_[a-z_]*' <<<"$below" | paste -sd ' ' || true)
+  done < <(sed -n '/^[a-z][a-z0-9_]* *[a-z]*:/p' "$1/crates.txt")
+  [ $# -lt 2 ] || keep_below "$2"
+  for crate in "${crates[@]}"; do
     lines_of[$crate]=$(find "$1/crates/$crate/src" -name '*.rt' -exec cat {} + | wc -l)
     all_lines=$((all_lines + lines_of[$crate]))
-  done < <(sed -n 's/^\([a-z][a-z0-9_]*\) *[a-z]*:.*/\1/p' "$1/crates.txt")
+  done
+}
+
+# Keeps of the crates only the named one and those that it depends on, which crates.txt lists before it.
+keep_below() {
+  local index crate
+  declare -A is_needed=([$1]=1)
+  for ((index = ${#crates[@]} - 1; index >= 0; index--)); do
+    crate=${crates[index]}
+    if [ -n "${is_needed[$crate]:-}" ]; then
+      for crate in ${below_of[$crate]}; do is_needed[$crate]=1; done
+    else
+      unset "crates[index]"
+    fi
+  done
+  crates=("${crates[@]}")
+}
+
+# Prints how many checks run side by side here: one per processor, as far as there are 4 GB for each, and at least one.
+jobs_here() {
+  local processors held
+  processors=$(nproc) held=$(awk '/^MemAvailable:/ { print int($2 / 4000000) }' /proc/meminfo)
+  echo $((held < 1 ? 1 : held < processors ? held : processors))
+}
+
+# Prints at most N crates that aren't proved and stand on proved ones: `ready_crates N RUNNING..`, without those that are running.
+ready_crates() {
+  local crate below room=$1
+  shift
+  for crate in "${crates[@]}"; do
+    [ "$room" -gt 0 ] || return 0
+    [ -z "${is_proved[$crate]:-}" ] && [[ " $* " != *" $crate "* ]] || continue
+    for below in ${below_of[$crate]}; do
+      [ -n "${is_proved[$below]:-}" ] || continue 2
+    done
+    echo "$crate"
+    room=$((room - 1))
+  done
 }
 
 minutes_so_far() {
   echo "$(((SECONDS - progress_began + 30) / 60)) minutes"
 }
 
-# Returns 'M minutes so far, about N to come' after DONE of ALL lines; without an estimate before a tenth of them.
-time_at() {
-  printf '%s so far' "$(minutes_so_far)"
-  if [ $(($1 * 10)) -ge "$2" ]; then
-    printf ', %s %d to come' "${3:-about}" $((((SECONDS - progress_began) * ($2 - $1) / $1 + 59) / 60))
+# Notes that a crate is proved, and reports 'NAME: proved CRATE, 3 of 15: M minutes so far, about N to come' on standard error; there
+# is no estimate before a tenth of the lines. `report_proved NAME CRATE [TIMES] [WORD]`: all work takes TIMES as long as the proofs.
+report_proved() {
+  local all=$((all_lines * ${3:-1})) estimate=
+  is_proved[$2]=1 proved_lines=$((proved_lines + lines_of[$2]))
+  if [ $((proved_lines * 10)) -ge $all ]; then
+    estimate=", ${4:-about} $((((SECONDS - progress_began) * (all - proved_lines) / proved_lines + 59) / 60)) to come"
   fi
-}
-
-# Returns 'crate 3 of 15, NAME: 4 minutes so far, about 20 to come' for the crate that is proved next.
-progress_at() {
-  local crate number=1 done_lines=0
-  for crate in "${crates[@]}"; do
-    [ "$crate" = "$1" ] && break
-    number=$((number + 1)) done_lines=$((done_lines + lines_of[$crate]))
-  done
-  echo "crate $number of ${#crates[@]}, $1: $(time_at $done_lines $all_lines)"
+  echo "$1: proved $2, ${#is_proved[@]} of ${#crates[@]}: $(minutes_so_far) so far$estimate" >&2
 }
 
 # Copies the output of `rt ci`, and reports after each crate how far it is. The gate says nothing of single wrong bodies while it tries them
 # beside the proofs, so what is to come is at most the time of both.
 follow_gate() {
-  local line crate number=0 done_lines=0
+  local line crate
   while IFS= read -r line; do
     printf '%s\n' "$line"
     case $line in
     'rt: '*' proved' | 'rt: '*' is kept: '*)
       crate=${line#rt: } crate=${crate%% *}
-      [ -n "${lines_of[$crate]:-}" ] || continue
-      number=$((number + 1)) done_lines=$((done_lines + lines_of[$crate]))
-      echo "check: proved $crate, crate $number of ${#crates[@]}: $(time_at $done_lines $((3 * all_lines)) 'at most')" >&2
+      [ -z "${lines_of[$crate]:-}" ] || report_proved check "$crate" 3 'at most'
       ;;
     esac
   done

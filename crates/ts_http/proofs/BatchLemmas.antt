@@ -6,11 +6,11 @@ use Rattle.ts_core.specs.facts.Facts.{Text}
 use Rattle.ts_core.specs.store.StoreData.{StoreData}
 use Rattle.ts_core.specs.declared.facts.time_unit.TimeUnit.{TimeUnit}
 use Rattle.ts_store.specs.write.LineTexts.{refusal_of, refusal_text, line_refusal_text}
-use Rattle.ts_store.specs.store.WholeStates.{WholeState, IsWholeStateOf, TakesText}
+use Rattle.ts_store.specs.store.WholeStates.{WholeState, IsWholeStateOf, TakesText, LineWrites}
 use Rattle.ts_store.specs.declared.write.write_text.LineOutcome.{LineOutcome}
 use Rattle.ts_store.specs.declared.write.write_text.LineRefusal.{LineRefusal}
 use Rattle.ts_http.specs.Batches.{TakesLines, body_lines, onto_first_reply, refusals_from}
-use Rattle.ts_http.specs.Tallies.{TallyIs, LineWrites, WritesLines, numbered_refusal, first_of}
+use Rattle.ts_http.specs.Tallies.{TallyIs, WritesLines, numbered_refusal, first_of}
 use Rattle.ts_http.specs.declared.batch.Tally.{Tally}
 
 -- ---- tallies

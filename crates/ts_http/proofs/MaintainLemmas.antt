@@ -19,7 +19,7 @@ use Rattle.ts_http.specs.declared.outcome.Outcome.{Outcome}
 use Rattle.ts_http.specs.declared.outcome.Outcome.TheVariants as outcomes
 use Rattle.ts_http.specs.declared.refusal.Refusal.{Refusal}
 use Rattle.ts_http.specs.declared.refusal.Refusal.TheVariants as refusals
-use Rattle.ts_http.proofs.WholeLemmas.{Steps, last_step}
+use Rattle.ts_store.proofs.store.WholeStatesKept.{Steps, last_step}
 
 -- ---- the run begins if none is open
 

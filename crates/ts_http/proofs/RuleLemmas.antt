@@ -17,7 +17,7 @@ use Rattle.ts_store.specs.store.WholeStates.{IsWholeStateOf, without_rule}
 use Rattle.ts_store.specs.rules.RuleTexts.{rule_for, settings_in, low_in, TextComes}
 use Rattle.ts_store.specs.rules.RulesChanged.{RuleGoes}
 use Rattle.ts_store.specs.declared.rules.rule_text.AddedRule.{AddedRule}
-use Rattle.ts_http.proofs.WholeLemmas.{rule_added, rule_dropped}
+use Rattle.ts_store.proofs.store.WholeStatesKept.{rule_added, rule_dropped}
 
 -- ---- POST
 

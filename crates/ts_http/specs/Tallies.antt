@@ -4,7 +4,7 @@ use Rattle.ts_core.specs.facts.Facts.{Text}
 use Rattle.ts_core.specs.store.StoreData.{StoreData}
 use Rattle.ts_core.specs.declared.facts.time_unit.TimeUnit.{TimeUnit}
 use Rattle.ts_store.specs.write.LineTexts.{line_refusal_text, refusal_text}
-use Rattle.ts_store.specs.store.WholeStates.{WholeState, IsWholeStateOf, TakesText, StopsInText}
+use Rattle.ts_store.specs.store.WholeStates.{WholeState, IsWholeStateOf}
 use Rattle.ts_store.specs.declared.write.write_text.LineOutcome.{LineOutcome}
 use Rattle.ts_store.specs.declared.write.write_text.LineRefusal.{LineRefusal}
 use Rattle.ts_http.specs.Batches.{TakesLines, StopsAtLine, body_lines, refusals_from}
@@ -22,11 +22,6 @@ pub record TallyIs (outcomes : List (Option Text)) (t : Tally) : Type 0 where
   pub lines : t.lines ≡ length outcomes
   pub dropped : t.dropped ≡ length (refusals_from 1 outcomes)
   pub first : option_map numbered_refusal t.first ≡ first_of (refusals_from 1 outcomes)
-
--- the effect of the text of a line on a store that was in this state
-abbrev pub LineWrites : TimeUnit → ℤ → WholeState → Text → {E : Type 0} → Result LineOutcome E → StoreData → Type 0
-LineWrites precision now s text (Ok outcome) new = (s' : WholeState) × TakesText precision now s text outcome s' × IsWholeStateOf s' new
-LineWrites precision now s text (Err e) new = (s' : WholeState) × StopsInText precision now s text s' × IsWholeStateOf s' new
 
 -- the effect of the lines of a body on a store that was in this state
 abbrev pub WritesLines : TimeUnit → ℤ → WholeState → Text → {E : Type 0} → Result Tally E → StoreData → Type 0

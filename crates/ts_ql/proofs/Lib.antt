@@ -21,7 +21,8 @@ pub mod RunLemmas
 pub mod KeywordLemmas
 pub mod TokenEnds
 pub mod ReadingLemmas
--- Values of literals.
+-- Values of literals, and ends of durations.
+pub mod DurationEnds
 pub mod MagnitudeLaws
 pub mod LiteralLemmas
 pub mod DateLemmas

@@ -24,7 +24,7 @@ digits_added sum n (b ∷ bs) rest w =
 digit_not_s : (b : ℕ) → is_ascii_digit b ≡ true → (b == 115) ≡ false
 digit_not_s b is = grind (arith, nat_tests, is)
 
-first_not_s : (ds rest : Text) → IsNumeral 10 ds → (slice_index (ds ++ rest) 0 == 115) ≡ false
+pub first_not_s : (ds rest : Text) → IsNumeral 10 ds → (slice_index (ds ++ rest) 0 == 115) ≡ false
 first_not_s [] rest w = absurd (omega (arith, w.0))
 first_not_s (b ∷ bs) rest w = digit_not_s b (digit_is b w.1.0)
 

@@ -1,6 +1,6 @@
 -- The queries that the tokens of a text mean, or their first error.
 -- (InfluxData 1.8, InfluxQL reference: queries. Own rule: the tokens before the first error begin some valid text.)
-use Rattle.std.specs.Prelude.{◌≡◌, ◌⊎◌, ◌≤◌, ℤ, List, [], ◌∷◌, ◌++◌, length, map, nat_lt, Bool, true, false, Some, None, Result, Ok, Err, ⊤}
+use Rattle.std.specs.Prelude.{◌≡◌, ◌⊎◌, ◌≤◌, ℕ, ◌+◌, ℤ, List, [], ◌∷◌, ◌++◌, length, drop, map, nat_lt, Bool, true, false, Some, None, Result, Ok, Err, ⊤}
 use Rattle.std.specs.Str.Parse.{AllDigits, digits_value}
 use Rattle.ts_core.specs.facts.Facts.{Text}
 use Rattle.ts_core.specs.facts.Durations.{Term, AreTerms, spelled, total}
@@ -8,6 +8,7 @@ use Rattle.ts_ql.specs.declared.fault.ParseError.{ParseError}
 use Rattle.ts_ql.specs.declared.fault.ParseError.TheVariants as errors
 use Rattle.ts_ql.specs.QueryFaults.{Fault, Syntax, as_fault, unexpected, Gives}
 use Rattle.ts_ql.specs.Grammar.{Item, Any, This, Examine, Is, Script}
+use Rattle.ts_ql.specs.Lexing.{duration_end}
 use Rattle.ts_ql.specs.Literals.{magnitude}
 use Rattle.ts_ql.specs.Meanings.{script_queries}
 use Rattle.ts_ql.specs.Selects.{Select}
@@ -125,3 +126,16 @@ IntegersCount = (digits : Text) → AllDigits 10 digits → magnitude digits ≡
 pub record LiteralsCount : Type 0 where
   pub durations : DurationsCount
   pub integers : IntegersCount
+
+-- terms stand in the text from one offset to another; no terms end where they begin
+pub record TermsEndAt (text : Text) (from end : ℕ) : Type 0 where
+  pub terms : List Term
+  pub are_terms : AreTerms terms
+  pub behind : Text
+  pub parts : drop from text ≡ spelled terms ++ behind
+  pub ends : end ≡ from + length (spelled terms)
+
+-- a duration ends at the last offset at which terms from its start end
+unfoldable pub DurationsEndLast : Type 0
+DurationsEndLast =
+    (text : Text) (from : ℕ) → TermsEndAt text from (duration_end text from) × ((end : ℕ) → TermsEndAt text from end → end ≤ duration_end text from)

@@ -1,7 +1,7 @@
 //! `parse`: a state machine that parses a text token by token, statement by statement.
 ghost use Rattle.std.specs.Prelude.{◌≡◌, ◌≤◌, ◌&&◌, length};
 ghost use Rattle.ts_ql.specs.QueryFaults.{Gives};
-ghost use Rattle.ts_ql.specs.Laws.{ReadsText, IsDecided, LiteralsCount};
+ghost use Rattle.ts_ql.specs.Laws.{ReadsText, IsDecided, LiteralsCount, DurationsEndLast};
 ghost use Rattle.ts_ql.specs.MomentSteps.{CanAddMore};
 ghost use Rattle.ts_ql.specs.Reading.{next_clause, may_end, is_end, after_end, progress, start_progress, LeavesState, begun, ended, step, queries_of};
 ghost use Rattle.ts_ql.specs.Tokens.{lexeme};
@@ -189,6 +189,7 @@ pub fn parse<A: Allocator + Copy>(
     ensures reading { ReadsText (λ v. v.items) now text.now result }
     ensures decided { IsDecided now text.now }
     ensures literals { LiteralsCount }
+    ensures ends { DurationsEndLast }
 {
     if text.len() > 65_536 {
         return Err(ParseError::Fault(QlFaultKind::Syntax.at(65_536)));

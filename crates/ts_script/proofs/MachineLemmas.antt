@@ -11,20 +11,21 @@ use Rattle.ts_core.specs.store.StoreData.{StoreData, OfEachHistory, GoesOn, stat
 use Rattle.ts_core.specs.moves.StoreMoves.{run_begun}
 use Rattle.ts_core.specs.store.Marks.{Marks, marks_of}
 use Rattle.ts_core.specs.store.StoreStates.{StandsFor}
-use Rattle.ts_core.specs.store.History.{History, Begin, Step as StepEvent, IsRunOpen}
+use Rattle.ts_core.specs.store.History.{History, Begin, IsRunOpen}
 use Rattle.ts_store.specs.write.LineTexts.{LineState as StoreState, IsStateOf as IsStoreIn, opened as opened_store, parts_in, WritesFrom}
-use Rattle.ts_store.specs.store.Inventories.{Inventory, inventory_of, new_inventory, all_waiting, facts_of_text, GrowsAfter, steps_in, StepsTo, LeavesRecent}
+use Rattle.ts_store.specs.store.Inventories.{Inventory, inventory_of, new_inventory, all_waiting, facts_of_text, GrowsAfter, steps_in, LeavesRecent}
+use Rattle.ts_store.specs.store.WholeStates.{WholeState, IsWholeStateOf, rules_in, lows_in, with_begin, LineWrites}
 use Rattle.ts_store.specs.read.PointsRead.{all_raw}
 use Rattle.ts_store.specs.write.StoreFaultTexts.{run_in_progress_text}
 use Rattle.ts_store.specs.retain.WholeRuns.{steps_taken, whole_run, TakesStep, Retains}
 use Rattle.ts_store.specs.declared.store.retention.StepAnswer.{StepAnswer}
-use Rattle.ts_store.specs.declared.store.retention.StepAnswer.TheVariants.{Moved, Done}
 use Rattle.ts_store.specs.declared.write.write_text.LineOutcome.{LineOutcome}
 use Rattle.ts_core.specs.declared.facts.time_unit.TimeUnit.{TimeUnit}
 use Rattle.ts_core.specs.text.FaultTexts.{memory_text}
 use Rattle.ts_reply.specs.Answering.{IsReply}
 use Rattle.ts_reply.specs.Explaining.{IsExplanation}
 use Rattle.ts_reply.specs.declared.epoch.Epoch.{Epoch}
+use Rattle.ts_store.proofs.store.WholeStatesKept.{line_written, step_taken}
 use Rattle.ts_script.specs.ScriptLines.{script_line_limit}
 use Rattle.ts_script.specs.ScriptCertificates.{with_line_feeds}
 use Rattle.ts_script.specs.Commands.{SetSettings, At, SetPrecision, SetEpoch, Write, Live, Retain, BeginRun, StepRun, SetCertificate, Query, Explain, Count, CountFault, Unknown, is_skipped, command_of}
@@ -32,7 +33,7 @@ use Rattle.ts_script.specs.MarksTexts.{marks_text}
 use Rattle.ts_script.specs.ScriptReplies.{line, text_of, step_text, written_text, unknown_text, bad_range_text}
 use Rattle.ts_script.specs.declared.reply.Reply.{Reply}
 use Rattle.ts_script.specs.declared.reply.Reply.TheVariants.{OutOfMemory}
-use Rattle.ts_script.specs.Machine.{State, no_longer_fresh, with_certificate, with_store, opened_with, with_begin, with_one_step, is_last, with_run, rules_in, lows_in, facts_of_line, RunsWhole, current_marks_text, at_moment, in_precision, in_epoch, Counts, Transition, Step, opens, refuses_settings, opens_no_memory, opens_late, moves, sets, shows, writes, writes_no_memory, retains, refuses_retain, retains_no_memory, begins, refuses_begin, begins_no_memory, steps, steps_idle, sets_certificate, sets_certificate_no_memory, replies, replies_no_memory, explains, explains_no_memory, tells_live, counts, counts_nothing, refuses_count, refuses_unknown, too_long, no_text, skips, does}
+use Rattle.ts_script.specs.Machine.{State, no_longer_fresh, with_certificate, with_store, opened_with, whole_of, with_whole, with_open_run, with_run, RunsWhole, current_marks_text, at_moment, in_precision, in_epoch, Counts, Transition, Step, opens, refuses_settings, opens_no_memory, opens_late, moves, sets, shows, writes, writes_no_memory, retains, refuses_retain, retains_no_memory, begins, refuses_begin, begins_no_memory, steps, steps_idle, sets_certificate, sets_certificate_no_memory, replies, replies_no_memory, explains, explains_no_memory, tells_live, counts, counts_nothing, refuses_count, refuses_unknown, too_long, no_text, skips, does}
 use Rattle.ts_script.specs.MachineState.{MachineState, keeping, IsMachineIn, HasReply, HasExplanation, TransitionTo, Refused, StepTo}
 
 -- ---- writing
@@ -41,33 +42,27 @@ use Rattle.ts_script.specs.MachineState.{MachineState, keeping, IsMachineIn, Has
 abbrev pub serving : ℤ → TimeUnit → Epoch → Bool → Option Text → StoreData → MachineState
 serving t p e f c k = record { moment = t; precision = p; epoch = e; fresh = f; certificate = c; kept = k }
 
--- the effect of a text is one in the state's precision, at its moment
-written_by : {E : Type 0} (s : State) (m : MachineState) (text : Text) (r : Result LineOutcome E) (k : StoreData) → IsMachineIn s m → WritesFrom m.precision m.moment s.store text r k → WritesFrom s.precision s.moment s.store text r k
-written_by s m text r k i w = subst (λ (t : ℤ). WritesFrom s.precision t s.store text r k) i.moment (subst (λ (p : TimeUnit). WritesFrom p m.moment s.store text r k) i.precision w)
-
--- so do the columns and cells that it creates
-added_by : {E : Type 0} (s : State) (m : MachineState) (text : Text) (r : Result LineOutcome E) (k : StoreData) → IsMachineIn s m
-    → GrowsAfter m.kept.settings.rules m.kept.marks.lows (facts_of_text (parts_in m.precision m.moment text)) r (inventory_of m.kept) (inventory_of k)
-    → GrowsAfter (rules_in s) (lows_in s) (facts_of_line s text) r s.inventory (inventory_of k)
-added_by s m text r k i g =
-    subst (λ (z : Inventory). GrowsAfter (rules_in s) (lows_in s) (facts_of_line s text) r z (inventory_of k)) i.inventory
-    (subst (λ (t : ℤ). GrowsAfter (rules_in s) (lows_in s) (facts_of_text (parts_in s.precision t text)) r (inventory_of m.kept) (inventory_of k)) i.moment
-    (subst (λ (p : TimeUnit). GrowsAfter (rules_in s) (lows_in s) (facts_of_text (parts_in p m.moment text)) r (inventory_of m.kept) (inventory_of k)) i.precision
-    (subst (λ (z : Marks). GrowsAfter (rules_in s) z.lows (facts_of_text (parts_in m.precision m.moment text)) r (inventory_of m.kept) (inventory_of k)) i.store.stands.marks
-    (subst (λ (z : Settings). GrowsAfter z.rules m.kept.marks.lows (facts_of_text (parts_in m.precision m.moment text)) r (inventory_of m.kept) (inventory_of k)) i.store.stands.settings g))))
-
 -- a machine whose store is in this state
 pub storing : (s : State) (m : MachineState) (new : StoreState) (k : StoreData) → IsMachineIn s m → IsStoreIn new k → IsMachineIn (with_store new (inventory_of k) s) (keeping k m)
 storing s m new k i is = record { moment = i.moment; precision = i.precision; epoch = i.epoch; fresh = i.fresh; certificate = i.certificate; store = is; inventory = refl }
 
+-- the same, with the inventory
+pub held : (s : State) (m : MachineState) (new : WholeState) (k : StoreData) → IsMachineIn s m → IsWholeStateOf new k → IsMachineIn (with_whole new s) (keeping k m)
+held s m new k i is = record { moment = i.moment; precision = i.precision; epoch = i.epoch; fresh = i.fresh; certificate = i.certificate; store = is.store; inventory = is.inventory }
+
+pub whole_in : (s : State) (m : MachineState) → IsMachineIn s m → IsWholeStateOf (whole_of s) m.kept
+whole_in s m i = record { store = i.store; inventory = i.inventory }
+
+wrote_as : {E : Type 0} (text : Text) (r : Result LineOutcome E) (s : State) (m : MachineState) (k : StoreData) → IsMachineIn s m → LineWrites s.precision s.moment (whole_of s) text r k → TransitionTo (Write text) s (written_text r) (keeping k m)
+wrote_as text (Ok outcome) s m k i w = (with_whole w.0 s, writes text outcome w.0 w.1, held s m w.0 k i w.2)
+wrote_as text (Err e) s m k i w = (with_whole w.0 s, writes_no_memory text w.0 w.1, held s m w.0 k i w.2)
+
+-- the effect of a text is one in the state's precision, at its moment
 pub wrote : {E : Type 0} (text : Text) (r : Result LineOutcome E) (s : State) (m : MachineState) (k : StoreData) → IsMachineIn s m → ((t : StoreState) → IsStoreIn t m.kept → WritesFrom m.precision m.moment t text r k)
     → GrowsAfter m.kept.settings.rules m.kept.marks.lows (facts_of_text (parts_in m.precision m.moment text)) r (inventory_of m.kept) (inventory_of k) → TransitionTo (Write text) s (written_text r) (keeping k m)
-wrote {E} text (Ok outcome) s m k i each grows =
-    let w = written_by {E = E} s m text (Ok outcome) k i (each s.store i.store) in
-    (with_store w.0 (inventory_of k) s, writes text outcome w.0 (inventory_of k) w.1 (added_by {E = E} s m text (Ok outcome) k i grows), storing s m w.0 k i w.2)
-wrote {E} text (Err e) s m k i each grows =
-    let w = written_by {E = E} s m text (Err e) k i (each s.store i.store) in
-    (with_store w.0 (inventory_of k) s, writes_no_memory text w.0 (inventory_of k) w.1 (added_by {E = E} s m text (Err e) k i grows), storing s m w.0 k i w.2)
+wrote {E} text r s m k i each grows =
+    let w = line_written {E = E} m.precision m.moment text r m.kept k each grows (whole_of s) (whole_in s m i) in
+    wrote_as {E = E} text r s m k i (subst (λ (t : ℤ). LineWrites s.precision t (whole_of s) text {E = E} r k) i.moment (subst (λ (p : TimeUnit). LineWrites p m.moment (whole_of s) text {E = E} r k) i.precision w))
 
 -- ---- the other commands
 
@@ -137,11 +132,11 @@ retained answer s m k i idle r told =
     let stands : StandsFor s.store.opening (whole_run s.moment r.steps s.store.history) (state_of k) = subst (λ (t : ℤ). StandsFor s.store.opening (whole_run t r.steps s.store.history) (state_of k)) i.moment (r.history s.store.opening s.store.history i.store.stands) in
     let new : State = with_run r.steps (inventory_of k) s in
     let marks : answer ≡ line (current_marks_text new) = told ∙ (λ j. line (marks_text (stands.settings j) (stands.marks j))) in
-    let lows : k.marks.lows ≡ lows_in (with_begin s) = ap (λ (z : Marks). z.lows) (stands.marks ∙ steps_marks s.store.opening r.steps (Begin s.moment ∷ s.store.history)) in
+    let lows : k.marks.lows ≡ lows_in (with_begin s.moment (whole_of s)) = ap (λ (z : Marks). z.lows) (stands.marks ∙ steps_marks s.store.opening r.steps (Begin s.moment ∷ s.store.history)) in
     let whole : RunsWhole s r.steps (inventory_of k) = record {
       count = r.inventory_steps ∙ (λ j. steps_in (lows j) (all_waiting (i.inventory j)));
-      left = subst (λ (z : Inventory). LeavesRecent (rules_in s) (lows_in (with_begin s)) z (inventory_of k)) i.inventory
-          (subst (λ (ls : List ℤ). LeavesRecent (rules_in s) ls (inventory_of m.kept) (inventory_of k)) lows
+      left = subst (λ (z : Inventory). LeavesRecent (rules_in (whole_of s)) (lows_in (with_begin s.moment (whole_of s))) z (inventory_of k)) i.inventory
+          (subst (λ (ls : List ℤ). LeavesRecent (rules_in (whole_of s)) ls (inventory_of m.kept) (inventory_of k)) lows
           (subst (λ (z : Settings). LeavesRecent z.rules k.marks.lows (inventory_of m.kept) (inventory_of k)) i.store.stands.settings r.inventory));
     } in (
       new,
@@ -155,9 +150,9 @@ retained_no_memory s m i = (s, retains_no_memory, i)
 pub begun : (answer : Text) (s : State) (m : MachineState) (k : StoreData) → IsMachineIn s m → IsClosed s → k ≡ run_begun m.moment m.kept → GoesOn m.kept (Begin m.moment) k → answer ≡ line (marks_text k.settings k.marks) → TransitionTo BeginRun s answer (keeping k m)
 begun answer s m k i idle is goes told =
     let stands : StandsFor s.store.opening (Begin s.moment ∷ s.store.history) (state_of k) = subst (λ (t : ℤ). StandsFor s.store.opening (Begin t ∷ s.store.history) (state_of k)) i.moment (goes s.store.opening s.store.history i.store.stands) in
-    let marks : answer ≡ line (current_marks_text (with_begin s)) = told ∙ (λ j. line (marks_text (stands.settings j) (stands.marks j))) in (
-      with_begin s,
-      subst (λ (a : Text). Transition s BeginRun a (with_begin s)) (sym marks) (begins idle),
+    let marks : answer ≡ line (current_marks_text (with_open_run s)) = told ∙ (λ j. line (marks_text (stands.settings j) (stands.marks j))) in (
+      with_open_run s,
+      subst (λ (a : Text). Transition s BeginRun a (with_open_run s)) (sym marks) (begins idle),
       record {
         moment = i.moment;
         precision = i.precision;
@@ -193,19 +188,10 @@ begin_refused r s m k i refused same some = (s, refuses_begin (i.store.stands.ru
 
 -- ---- steps
 
-went_on : (answer : StepAnswer) (m : MachineState) (k : StoreData) → TakesStep m.kept k answer → GoesOn m.kept (StepEvent (is_last answer)) k
-went_on Moved m k t = (t.moved refl).0
-went_on Done m k t = (t.done refl).0
-
 stepped_by : (running : Bool) (answer : StepAnswer) (s : State) (m : MachineState) (k : StoreData) → m.kept.running ≡ running → IsMachineIn s m → TakesStep m.kept k answer → TransitionTo StepRun s (step_text answer) (keeping k m)
 stepped_by true answer s m k e i t =
-    let to : StepsTo (lows_in s) s.inventory answer (inventory_of k) =
-    subst (λ (z : Inventory). StepsTo (lows_in s) z answer (inventory_of k)) i.inventory
-    (subst (λ (z : Marks). StepsTo z.lows (inventory_of m.kept) answer (inventory_of k)) i.store.stands.marks (t.inventory e)) in (
-      with_one_step answer (inventory_of k) s,
-      steps answer (inventory_of k) (i.store.stands.running.0 e) to,
-      storing s m (with_one_step answer (inventory_of k) s).store k i (record { stands = went_on answer m k t s.store.opening s.store.history i.store.stands; series = t.series ∙ i.store.series }),
-    )
+    let d = step_taken answer (whole_of s) m.kept k e t (whole_in s m i) in
+    (with_whole d.0 s, steps answer d.0 (i.store.stands.running.0 e) d.1, held s m d.0 k i d.2)
 stepped_by false answer s m k e i t =
     let none : IsRunOpen s.store.history → ⊥ = λ runs. true≢false (sym (i.store.stands.running.1 runs) ∙ e) in
     let idle = t.idle e in (

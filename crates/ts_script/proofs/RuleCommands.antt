@@ -2,25 +2,23 @@
 use Rattle.std.proofs.Common.{◌≡◌, ◌⊎◌, ◌↔◌, ℤ, Bool, true, false, true≢false, refl, sym, ◌∙◌, subst, Result, Ok, Err, IsErr, is_err, inl, inr}
 use Rattle.ts_core.specs.facts.Facts.{Text}
 use Rattle.ts_core.specs.text.FaultTexts.{memory_text}
-use Rattle.ts_core.specs.settings.Settings.{Rule, Settings, is_unnamed}
+use Rattle.ts_core.specs.settings.Settings.{Settings}
 use Rattle.ts_core.specs.settings.SettingsFaults.{is_named, settings_fault_text, unknown_rule_text}
 use Rattle.ts_core.specs.declared.settings.settings_fault.SettingsFault.{SettingsFault}
-use Rattle.ts_core.specs.moves.RuleMoves.{kept_beside}
 use Rattle.ts_core.specs.store.StoreData.{StoreData}
-use Rattle.ts_store.specs.store.Inventories.{Inventory, inventory_of}
-use Rattle.ts_store.specs.read.PointsRead.{all_raw}
-use Rattle.ts_store.specs.rules.RulesChanged.{GainsRule, RuleGoes, DropsRule}
-use Rattle.ts_store.specs.rules.RuleTexts.{rule_for, settings_in, low_in, with_rule_added, TextComes}
+use Rattle.ts_store.specs.store.WholeStates.{without_rule}
+use Rattle.ts_store.specs.rules.RulesChanged.{RuleGoes, DropsRule}
+use Rattle.ts_store.specs.rules.RuleTexts.{rule_for, settings_in, low_in, TextComes}
 use Rattle.ts_store.specs.declared.rules.rule_text.AddedRule.{AddedRule}
-use Rattle.ts_store.proofs.rules.RuleStates.{rule_came, rule_went, rule_gained}
+use Rattle.ts_store.proofs.store.WholeStatesKept.{rule_added, rule_dropped}
 use Rattle.ts_script.specs.Commands.{AddRule, DropRule}
-use Rattle.ts_script.specs.Machine.{State, with_store, GainsRuleCells, state_without_rule, Transition, adds, refuses_rule, adds_no_memory, drops, refuses_drop}
+use Rattle.ts_script.specs.Machine.{State, whole_of, with_whole, Transition, adds, refuses_rule, adds_no_memory, drops, refuses_drop}
 use Rattle.ts_script.specs.MarksTexts.{rule_text}
 use Rattle.ts_script.specs.ScriptReplies.{line, text_of, dropped_text}
 use Rattle.ts_script.specs.MachineState.{MachineState, keeping, IsMachineIn, TransitionTo}
 use Rattle.ts_script.specs.declared.reply.Reply.{Reply}
 use Rattle.ts_script.specs.declared.reply.Reply.TheVariants.{OutOfMemory}
-use Rattle.ts_script.proofs.MachineLemmas.{storing, when_ok, when_err}
+use Rattle.ts_script.proofs.MachineLemmas.{held, whole_in, when_ok, when_err}
 
 -- a store that is as it was
 stays_in : (s : State) (m : MachineState) (k : StoreData) → IsMachineIn s m → k ≡ m.kept → IsMachineIn s (keeping k m)
@@ -29,14 +27,11 @@ stays_in s m k i same = subst (λ (z : StoreData). IsMachineIn s (keeping z m)) 
 module _ (text : Text) (s : State) (m : MachineState) (k : StoreData) (i : IsMachineIn s m) where
   pub rule_told : (added : AddedRule) (answer : Text) → TextComes m.kept k text added → answer ≡ line (rule_text added.name.bytes added.low) → TransitionTo (AddRule text) s answer (keeping k m)
   rule_told added answer t told =
-      let came = rule_came s.store m.kept k t.rule added.low i.store t.comes in
+      let came = rule_added (whole_of s) m.kept k t.rule added.low (whole_in s m i) t.comes in
+      let new = came.1 in
       let read : rule_for (settings_in s.store) text ≡ Ok t.rule = subst (λ (z : Settings). rule_for z text ≡ Ok t.rule) i.store.stands.settings t.read in
-      let gains : GainsRuleCells s t.rule (inventory_of k) =
-      subst (λ (z : Inventory). GainsRule (all_raw z.waiting s.store.opening s.store.history) t.rule (low_in s.store t.rule) z (inventory_of k)) i.inventory
-      (subst (λ (low : ℤ). GainsRule (all_raw m.kept.waiting s.store.opening s.store.history) t.rule low (inventory_of m.kept) (inventory_of k)) came.0 (rule_gained s.store m.kept k t.rule added.low i.store t.comes)) in
       let printed : answer ≡ line (rule_text t.rule.name (low_in s.store t.rule)) = told ∙ (λ j. line (rule_text (t.name j) (came.0 j))) in
-      let new : State = with_store (with_rule_added t.rule s.store) (inventory_of k) s in
-      (new, subst (λ (a : Text). Transition s (AddRule text) a new) (sym printed) (adds text t.rule (inventory_of k) read gains), storing s m (with_rule_added t.rule s.store) k i came.1)
+      (with_whole new.0 s, subst (λ (a : Text). Transition s (AddRule text) a (with_whole new.0 s)) (sym printed) (adds text t.rule new.0 read new.1), held s m new.0 k i new.2)
 
   pub rule_no_memory : k ≡ m.kept → TransitionTo (AddRule text) s (line memory_text) (keeping k m)
   rule_no_memory same = (s, adds_no_memory text, stays_in s m k i same)
@@ -58,14 +53,10 @@ found_name false r unknown none = absurd (true≢false (sym (unknown.1 refl) ∙
 pub rule_forgotten : {E : Type 0} (r : Result (Unit {0}) E) (name : Text) (s : State) (m : MachineState) (k : StoreData) → IsMachineIn s m → DropsRule m.kept k name r → is_err r ≡ false → TransitionTo (DropRule name) s dropped_text (keeping k m)
 rule_forgotten r name s m k i drops_rule none =
     let named : is_named m.kept.settings.rules name ≡ true = found_name (is_named m.kept.settings.rules name) r drops_rule.unknown none in
-    let goes : RuleGoes m.kept k name = when_ok r (RuleGoes m.kept k name) drops_rule.ok none in
-    let left : inventory_of k ≡ record { columns = (inventory_of m.kept).columns; waiting = (inventory_of m.kept).waiting; cells = kept_beside (is_unnamed name) m.kept.settings.rules (inventory_of m.kept).cells } =
-    λ j. record { columns = goes.columns j; waiting = goes.waiting j; cells = goes.cells j } in
-    let inventory : inventory_of k ≡ (state_without_rule name s).inventory =
-    left ∙ (λ j. record { columns = (i.inventory j).columns; waiting = (i.inventory j).waiting; cells = kept_beside (is_unnamed name) (i.store.stands.settings j).rules (i.inventory j).cells }) in (
-      state_without_rule name s,
+    let goes : RuleGoes m.kept k name = when_ok r (RuleGoes m.kept k name) drops_rule.ok none in (
+      with_whole (without_rule name (whole_of s)) s,
       drops name (subst (λ (z : Settings). is_named z.rules name ≡ true) i.store.stands.settings named),
-      record { moment = i.moment; precision = i.precision; epoch = i.epoch; fresh = i.fresh; certificate = i.certificate; store = rule_went s.store m.kept k name i.store goes; inventory = inventory },
+      held s m (without_rule name (whole_of s)) k i (rule_dropped (whole_of s) m.kept k name (whole_in s m i) goes),
     )
 
 pub drop_refused : {E : Type 0} (r : Result (Unit {0}) E) (name : Text) (s : State) (m : MachineState) (k : StoreData) → IsMachineIn s m → DropsRule m.kept k name r → is_err r ≡ true → TransitionTo (DropRule name) s (line unknown_rule_text) (keeping k m)

@@ -2,16 +2,15 @@
 use Rattle.std.specs.Prelude.{◌≡◌, ℕ, ℤ, pos, ◌-ℤ◌, ◌≤ℤ◌, ◌<ℤ◌, ◌+◌, ◌<◌, ◌≤◌, Bool, true, false, List, [], ◌∷◌, length, codes, Option, Some, None, Result, Ok, Err}
 use Rattle.std.specs.Fmt.{decimal}
 use Rattle.std.specs.Str.{IsUtf8}
-use Rattle.ts_core.specs.facts.Facts.{Text, Series, Fact}
-use Rattle.ts_core.specs.settings.Settings.{Rule, Settings, open_settings, is_unnamed}
+use Rattle.ts_core.specs.facts.Facts.{Text, Series}
+use Rattle.ts_core.specs.settings.Settings.{Rule, Settings, open_settings}
 use Rattle.ts_core.specs.settings.SettingsFaults.{is_named, settings_fault_text, unknown_rule_text}
 use Rattle.ts_core.specs.settings.SettingsTexts.{settings_read}
 use Rattle.ts_core.specs.declared.settings.settings_fault.SettingsFault.{SettingsFault}
-use Rattle.ts_core.specs.store.History.{History, Begin, Step as StepEvent, settings_of, IsRunOpen}
+use Rattle.ts_core.specs.store.History.{History, settings_of, IsRunOpen}
 use Rattle.ts_core.specs.facts.Latest.{count_of}
 use Rattle.ts_core.specs.store.Marks.{marks_of}
 use Rattle.ts_core.specs.plans.Pieces.{Piece}
-use Rattle.ts_core.specs.moves.RuleMoves.{kept_beside}
 use Rattle.ts_core.specs.declared.facts.time_unit.TimeUnit.{TimeUnit}
 use Rattle.ts_core.specs.declared.facts.time_unit.TimeUnit.TheVariants.{Nanoseconds}
 use Rattle.ts_core.specs.text.FaultTexts.{memory_text}
@@ -25,15 +24,15 @@ use Rattle.ts_reply.specs.Answering.{IsReply}
 use Rattle.ts_reply.specs.Explaining.{IsExplanation}
 use Rattle.ts_reply.specs.declared.epoch.Epoch.{Epoch}
 use Rattle.ts_reply.specs.declared.epoch.Epoch.TheVariants as epochs
-use Rattle.ts_store.specs.write.LineTexts.{LineState as StoreState, opened as opened_store, parts_in, with_series, WritesText, RunsOutOfMemory}
-use Rattle.ts_store.specs.store.Inventories.{Inventory, new_inventory, all_waiting, facts_of_text, GrowsBy, GrowsInPart, steps_in, StepsTo, LeavesRecent}
+use Rattle.ts_store.specs.write.LineTexts.{LineState as StoreState, opened as opened_store, with_series}
+use Rattle.ts_store.specs.store.Inventories.{Inventory, new_inventory, LeavesRecent}
+use Rattle.ts_store.specs.store.WholeStates.{WholeState, rules_in, lows_in, left_in, TakesText, StopsInText, with_begin, StepsOnce, AddsRuleTo, without_rule}
 use Rattle.ts_store.specs.read.PointsRead.{all_raw}
-use Rattle.ts_store.specs.rules.RulesChanged.{GainsRule}
-use Rattle.ts_store.specs.rules.RuleTexts.{rule_for, settings_in, low_in, with_rule_added, with_rule_dropped}
+use Rattle.ts_store.specs.rules.RuleTexts.{rule_for, settings_in, low_in}
 use Rattle.ts_store.specs.write.StoreFaultTexts.{run_in_progress_text}
 use Rattle.ts_store.specs.retain.WholeRuns.{whole_run}
 use Rattle.ts_store.specs.declared.store.retention.StepAnswer.{StepAnswer}
-use Rattle.ts_store.specs.declared.store.retention.StepAnswer.TheVariants.{Moved, Done}
+use Rattle.ts_store.specs.declared.store.retention.StepAnswer.TheVariants.{Done}
 use Rattle.ts_store.specs.declared.write.write_text.LineOutcome.{LineOutcome}
 use Rattle.ts_script.specs.Reloads.{Reloaded}
 use Rattle.ts_script.specs.ScriptLines.{script_line_limit}
@@ -91,55 +90,30 @@ with_store k inventory s = record s { store = k; inventory = inventory }
 abbrev pub opened_with : Settings → State → State
 opened_with settings = with_store (opened_store settings) (new_inventory settings)
 
--- this history and inventory
-abbrev pub with_history : History → Inventory → State → State
-with_history h inventory s = with_store (record s.store { history = h }) inventory s
+-- the store of the state with its inventory, and the state with another such store
+abbrev pub whole_of : State → WholeState
+whole_of s = record { store = s.store; inventory = s.inventory }
 
--- a run of retention begins: each column waits
-abbrev pub with_begin : State → State
-with_begin s = with_history (Begin s.moment ∷ s.store.history) (all_waiting s.inventory) s
+abbrev pub with_whole : WholeState → State → State
+with_whole w s = with_store w.store w.inventory s
 
--- true for the last step of a run
-abbrev pub is_last : StepAnswer → Bool
-is_last Moved = false
-is_last Done = true
-
--- a step of the open run
-abbrev pub with_one_step : StepAnswer → Inventory → State → State
-with_one_step answer inventory s = with_history (StepEvent (is_last answer) ∷ s.store.history) inventory s
+-- a run of retention begins at the script's time
+abbrev pub with_open_run : State → State
+with_open_run s = with_whole (with_begin s.moment (whole_of s)) s
 
 -- a whole retention run, of `steps` steps and a last one
 abbrev pub with_run : ℕ → Inventory → State → State
-with_run steps inventory s = with_history (whole_run s.moment steps s.store.history) inventory s
-
--- the rules of the state, and their low indices
-abbrev pub rules_in : State → List Rule
-rules_in s = (settings_of s.store.opening s.store.history).rules
-
-abbrev pub lows_in : State → List ℤ
-lows_in s = (marks_of s.store.opening s.store.history).lows
-
--- the facts of a line's text
-abbrev pub facts_of_line : State → Text → List Fact
-facts_of_line s text = facts_of_text (parts_in s.precision s.moment text)
+with_run steps inventory s = with_store (record s.store { history = whole_run s.moment steps s.store.history }) inventory s
 
 -- A whole run takes this number of steps before the last one, and leaves this inventory. Of each rule it has the cells
 -- from its new low index on.
 pub record RunsWhole (old : State) (steps : ℕ) (new : Inventory) : Type 0 where
-  pub count : steps + 1 ≡ steps_in (lows_in (with_begin old)) (all_waiting old.inventory)
-  pub left : LeavesRecent (rules_in old) (lows_in (with_begin old)) old.inventory new
+  pub count : steps + 1 ≡ left_in (with_begin old.moment (whole_of old))
+  pub left : LeavesRecent (rules_in (whole_of old)) (lows_in (with_begin old.moment (whole_of old))) old.inventory new
 
 -- the store of the state was saved and loaded back
 abbrev pub IsReload : State → List Series → Inventory → Type 0
-IsReload old series new = Reloaded old.store.history (rules_in old) (lows_in old) old.store.series old.inventory series new
-
--- a rule is added, and has the cells of raw facts from its low index on
-abbrev pub GainsRuleCells : State → Rule → Inventory → Type 0
-GainsRuleCells old r new = GainsRule (all_raw old.inventory.waiting old.store.opening old.store.history) r (low_in old.store r) old.inventory new
-
--- a rule is dropped with its cells
-abbrev pub state_without_rule : Text → State → State
-state_without_rule name s = with_store (with_rule_dropped name s.store) (record s.inventory { cells = kept_beside (is_unnamed name) (rules_in s) s.inventory.cells }) s
+IsReload old series new = Reloaded old.store.history (rules_in (whole_of old)) (lows_in (whole_of old)) old.store.series old.inventory series new
 
 -- the marks of the state, as text
 abbrev pub current_marks_text : State → Text
@@ -169,32 +143,30 @@ pub data Transition (old : State) : Command → Text → State → Type 0 where
   moves : (t : ℤ) → Transition old (At t) [] (at_moment t old)
   sets : (p : TimeUnit) → Transition old (SetPrecision p) [] (in_precision p old)
   -- a line is written with the script's precision; without a timestamp, it has the script's time
-  writes : (text : Text) (outcome : LineOutcome) (new : StoreState) (inventory : Inventory) → WritesText old.precision old.moment old.store text outcome new → GrowsBy (rules_in old) (lows_in old) (facts_of_line old text) outcome old.inventory inventory
-      → Transition old (Write text) (outcome_text outcome) (with_store new inventory old)
-  writes_no_memory : (text : Text) (new : StoreState) (inventory : Inventory) → RunsOutOfMemory old.precision old.moment old.store text new → GrowsInPart (rules_in old) (lows_in old) (facts_of_line old text) old.inventory inventory
-      → Transition old (Write text) (line memory_text) (with_store new inventory old)
+  writes : (text : Text) (outcome : LineOutcome) (new : WholeState) → TakesText old.precision old.moment (whole_of old) text outcome new → Transition old (Write text) (outcome_text outcome) (with_whole new old)
+  writes_no_memory : (text : Text) (new : WholeState) → StopsInText old.precision old.moment (whole_of old) text new → Transition old (Write text) (line memory_text) (with_whole new old)
   shows : (e : Epoch) → Transition old (SetEpoch e) [] (in_epoch e old)
   -- unless a run is open, retention runs at the script's time, and the new marks are printed
   retains : (steps : ℕ) (inventory : Inventory) → (IsRunOpen old.store.history → ⊥) → RunsWhole old steps inventory → Transition old Retain (line (current_marks_text (with_run steps inventory old))) (with_run steps inventory old)
   refuses_retain : IsRunOpen old.store.history → Transition old Retain (line run_in_progress_text) old
   retains_no_memory : Transition old Retain (line memory_text) old
   -- unless a run is open, one begins at the script's time, and the new marks are printed
-  begins : (IsRunOpen old.store.history → ⊥) → Transition old BeginRun (line (current_marks_text (with_begin old))) (with_begin old)
+  begins : (IsRunOpen old.store.history → ⊥) → Transition old BeginRun (line (current_marks_text (with_open_run old))) (with_open_run old)
   refuses_begin : IsRunOpen old.store.history → Transition old BeginRun (line run_in_progress_text) old
   begins_no_memory : Transition old BeginRun (line memory_text) old
   -- a step of the open run; without one, nothing changes
-  steps : (answer : StepAnswer) (inventory : Inventory) → IsRunOpen old.store.history → StepsTo (lows_in old) old.inventory answer inventory → Transition old StepRun (step_text answer) (with_one_step answer inventory old)
+  steps : (answer : StepAnswer) (new : WholeState) → IsRunOpen old.store.history → StepsOnce (whole_of old) answer new → Transition old StepRun (step_text answer) (with_whole new old)
   steps_idle : (IsRunOpen old.store.history → ⊥) → Transition old StepRun (step_text Done) old
   -- the store is saved to memory and loaded back: its history stays, and so does an open run
   reloads : (series : List Series) (inventory : Inventory) → IsReload old series inventory → Transition old Reload reloaded_text (with_store (with_series series old.store) inventory old)
   reloads_no_memory : Transition old Reload (line memory_text) old
   -- a rule is added, and its name and low index are printed; with a fault, or out of memory, nothing changes
-  adds : (text : Text) (r : Rule) (inventory : Inventory) → rule_for (settings_in old.store) text ≡ Ok r → GainsRuleCells old r inventory → Transition old (AddRule text) (line (rule_text r.name (low_in old.store r))) (with_store (with_rule_added r old.store) inventory old)
+  adds : (text : Text) (r : Rule) (new : WholeState) → rule_for (settings_in old.store) text ≡ Ok r → AddsRuleTo (whole_of old) r new → Transition old (AddRule text) (line (rule_text r.name (low_in old.store r))) (with_whole new old)
   refuses_rule : (text : Text) (fault : SettingsFault) → rule_for (settings_in old.store) text ≡ Err fault → Transition old (AddRule text) (line (settings_fault_text fault)) old
   adds_no_memory : (text : Text) → Transition old (AddRule text) (line memory_text) old
   -- the rule with the name is dropped, if there is one
-  drops : (name : Text) → is_named (rules_in old) name ≡ true → Transition old (DropRule name) dropped_text (state_without_rule name old)
-  refuses_drop : (name : Text) → is_named (rules_in old) name ≡ false → Transition old (DropRule name) (line unknown_rule_text) old
+  drops : (name : Text) → is_named (rules_in (whole_of old)) name ≡ true → Transition old (DropRule name) dropped_text (with_whole (without_rule name (whole_of old)) old)
+  refuses_drop : (name : Text) → is_named (rules_in (whole_of old)) name ≡ false → Transition old (DropRule name) (line unknown_rule_text) old
   -- the certificate is set for the next query, replacing an earlier one
   sets_certificate : (text : Text) → Transition old (SetCertificate text) [] (with_certificate (Some (with_line_feeds text)) old)
   sets_certificate_no_memory : (text : Text) → Transition old (SetCertificate text) (line memory_text) old

@@ -12,3 +12,5 @@ pub mod CountsMoved
 -- RollupSteps: the steps of a run
 pub mod Refolds
 pub mod MarkReached
+-- Freezing: times within bounds
+pub mod TimeBounds

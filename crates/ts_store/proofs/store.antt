@@ -10,3 +10,5 @@ pub mod IndicesKept
 pub mod ColumnsLemmas
 -- CellCounts
 pub mod CountsKept
+-- WholeStates
+pub mod WholeStatesKept

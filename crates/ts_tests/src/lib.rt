@@ -33,6 +33,8 @@ mod refused;
 #[cfg(test)]
 mod refusing;
 #[cfg(test)]
+mod request_devices;
+#[cfg(test)]
 mod script_devices;
 #[cfg(test)]
 mod stale_plans;

@@ -5,5 +5,6 @@ mod images;
 mod queries;
 mod requests;
 mod rules;
+mod splits;
 mod trial;
 mod writes;

@@ -1,5 +1,5 @@
 -- The effect of removing cells below low indices.
-use Rattle.std.proofs.Common.{◌≡◌, ℕ, ℤ, ◌<◌, List, [], ◌∷◌, refl, sym, ◌∙◌, ap, ap₂, subst, inl, inr, arith}
+use Rattle.std.proofs.Common.{◌≡◌, ℕ, ℤ, ◌<◌, List, [], ◌∷◌, length, refl, sym, ◌∙◌, ap, ap₂, subst, inl, inr, arith}
 use Rattle.ts_core.specs.store.StoreData.{CellMap}
 use Rattle.ts_cells.specs.Expiry.{Removes, IsAbove, LosesBelow}
 use Rattle.ts_store.specs.rollup.Rollups.{RollupState, with_frozen, cells_of}
@@ -9,6 +9,12 @@ use Rattle.ts_store.specs.retain.WholeRuns.{AreAbove, FirstLoses}
 pub same_series_list : (ss : List RollupState) → ss ≡ with_frozen_all (cells_of ss) ss
 same_series_list [] = refl
 same_series_list (s ∷ ss) = ap (λ ts. s ∷ ts) (same_series_list ss)
+
+-- without rules no cell is below a low index
+pub none_above : (lows : List ℤ) (ss : List RollupState) → length ss ≡ 0 → AreAbove lows (cells_of ss)
+none_above [] ss none = tt
+none_above (low ∷ lows) [] none = tt
+none_above (low ∷ lows) (s ∷ ss) none = absurd (omega (arith, none))
 
 -- the result of the call for the first rule
 pub record IsExpired (low : ℤ) (n : ℕ) (s t : RollupState) : Type 0 where

@@ -1,6 +1,6 @@
 -- A store with its inventory, as scripts and requests change it: lines are written, and runs of retention begin and take
 -- steps. (Own rules.)
-use Rattle.std.specs.Prelude.{◌≡◌, ℕ, ℤ, zero, suc, Bool, true, false, List, ◌∷◌}
+use Rattle.std.specs.Prelude.{◌≡◌, ℕ, ℤ, zero, suc, Bool, true, false, List, ◌∷◌, Result, Ok, Err}
 use Rattle.ts_core.specs.facts.Facts.{Text}
 use Rattle.ts_core.specs.settings.Settings.{Rule, is_unnamed}
 use Rattle.ts_core.specs.store.History.{Begin, Step, settings_of}
@@ -47,6 +47,11 @@ module _ (precision : TimeUnit) (now : ℤ) where
   pub record StopsInText (old : WholeState) (text : Text) (new : WholeState) : Type 0 where
     pub wanted : RunsOutOfMemory precision now old.store text new.store
     pub grows : GrowsInPart (rules_in old) (lows_in old) (facts_of_text (parts_in precision now text)) old.inventory new.inventory
+
+-- the effect of the text of a line on a store that was in this state
+abbrev pub LineWrites : TimeUnit → ℤ → WholeState → Text → {E : Type 0} → Result LineOutcome E → StoreData → Type 0
+LineWrites precision now s text (Ok outcome) new = (s' : WholeState) × TakesText precision now s text outcome s' × IsWholeStateOf s' new
+LineWrites precision now s text (Err e) new = (s' : WholeState) × StopsInText precision now s text s' × IsWholeStateOf s' new
 
 -- ---- runs of retention
 

@@ -1,4 +1,4 @@
-use Rattle.ts_http.proofs.WholeLemmas.{line_written}
+use Rattle.ts_store.proofs.store.WholeStatesKept.{line_written}
 use Rattle.ts_http.proofs.batch.write_in.Goals as goal
 
 pub returns : goal.returns

@@ -2,7 +2,7 @@ use Rattle.std.proofs.Common.{rules, arith, ◌≡◌, ◌+◌, ◌∙◌, refl,
 use Rattle.ts_store.specs.retain.WholeRuns.{TakesStep}
 use Rattle.ts_store.specs.declared.store.retention.StepAnswer.TheVariants.{Moved, Done}
 use Rattle.ts_http.proofs.MaintainLemmas.{goes_on, ends}
-use Rattle.ts_http.proofs.WholeLemmas.{Steps, no_steps, one_step}
+use Rattle.ts_store.proofs.store.WholeStatesKept.{Steps, no_steps, one_step}
 use Rattle.ts_http.proofs.maintaining.run_steps.Goals as goal
 
 pub loop-taken-init : goal.loop-taken-init

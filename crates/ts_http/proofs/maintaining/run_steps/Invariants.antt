@@ -1,6 +1,6 @@
 use Rattle.std.proofs.Common.{◌≡◌, ◌≤◌, true}
 use Rattle.ts_store.specs.store.WholeStates.{WholeState, IsWholeStateOf}
-use Rattle.ts_http.proofs.WholeLemmas.{Steps}
+use Rattle.ts_store.proofs.store.WholeStatesKept.{Steps}
 use Rattle.ts_http.proofs.maintaining.run_steps.Given as goal
 
 abbrev pub invariant-loop-taken : goal.invariant-loop-taken

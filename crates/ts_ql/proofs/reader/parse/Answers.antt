@@ -1,4 +1,5 @@
 use Rattle.std.proofs.Common.{◌≤◌, length, arith}
+use Rattle.ts_ql.proofs.DurationEnds.{durations_end_last}
 use Rattle.ts_ql.proofs.MagnitudeLaws.{literals_count}
 use Rattle.ts_ql.proofs.TextLaws.{reads_text, refuses_text, decided}
 use Rattle.ts_ql.proofs.reader.parse.Goals as goal
@@ -12,6 +13,9 @@ returns-then-text-gt65536-clause-decided g c = decided c.args.now c.args.text.no
 pub returns-then-text-gt65536-clause-literals : goal.returns-then-text-gt65536-clause-literals
 returns-then-text-gt65536-clause-literals g c = literals_count
 
+pub returns-then-text-gt65536-clause-ends : goal.returns-then-text-gt65536-clause-ends
+returns-then-text-gt65536-clause-ends g c = durations_end_last
+
 pub returns-clause-reading : goal.returns-clause-reading
 returns-clause-reading g c =
     let short : length c.args.text.now ≤ 65536 = omega arith in
@@ -22,3 +26,6 @@ returns-clause-decided g c = decided c.args.now c.args.text.now
 
 pub returns-clause-literals : goal.returns-clause-literals
 returns-clause-literals g c = literals_count
+
+pub returns-clause-ends : goal.returns-clause-ends
+returns-clause-ends g c = durations_end_last

@@ -1,11 +1,17 @@
-use Rattle.std.proofs.Common.{rules, ◌≡◌, List, ◌∷◌, arith}
+use Rattle.std.proofs.Common.{rules, ◌≡◌, List, ◌∷◌, refl, arith}
 use Rattle.ts_cells.proofs.ExpiryLemmas.{on_true, on_false}
 use Rattle.ts_store.specs.rollup.Rollups.{RollupState}
-use Rattle.ts_store.proofs.retain.RollupExpiry.{IsExpired, same_series_list, series_list_first, first_loses, later_loses, none_lost}
+use Rattle.ts_store.proofs.retain.RollupExpiry.{IsExpired, none_above, same_series_list, series_list_first, first_loses, later_loses, none_lost}
 use Rattle.ts_store.proofs.retain.column_moves.+expire_first.Goals as goal
 
 pub returns-in_default-clause-series_list : goal.returns-in_default-clause-series_list
 returns-in_default-clause-series_list g t c = same_series_list c.args.rollups.now
+
+pub returns-in_default-split_first_mut-clause-series_list : goal.returns-in_default-split_first_mut-clause-series_list
+returns-in_default-split_first_mut-clause-series_list g t c = same_series_list c.args.rollups.now
+
+pub returns-in_default-split_first_mut-clause-none : goal.returns-in_default-split_first_mut-clause-none
+returns-in_default-split_first_mut-clause-none g t c = (refl, none_above c.args.lows.now c.args.rollups.now c.in_default-split_first_mut.ensures.cases)
 
 pub returns-then-expire-gt0-clause-series_list : goal.returns-then-expire-gt0-clause-series_list
 returns-then-expire-gt0-clause-series_list g t c =

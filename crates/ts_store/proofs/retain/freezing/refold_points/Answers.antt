@@ -14,7 +14,11 @@ use Rattle.ts_store.specs.rollup.Rollups.{RollupState, rollup_series_at, rollup_
 use Rattle.ts_store.specs.retain.RollupSteps.{facts_left}
 use Rattle.ts_store.proofs.retain.PointsFrozen.{series_list_stay}
 use Rattle.ts_store.proofs.retain.Refolds.{refolded-none, refolded-same, refolded-next, left_total}
+use Rattle.ts_store.proofs.retain.TimeBounds.{time_bound}
 use Rattle.ts_store.proofs.retain.freezing.refold_points.Goals as goal
+
+pub index_of-index-requires-clause-bound : goal.index_of-index-requires-clause-bound
+index_of-index-requires-clause-bound g c = time_bound c.nanos.result c.from.result c.nanos.ensures.valid c.from.ensures
 
 pub loop-time-init : goal.loop-time-init
 loop-time-init g c =

@@ -1,10 +1,11 @@
-use Rattle.std.proofs.Common.{rules, ◌≡◌, ◌∙◌, Some, None, ap, ap₂, sym, subst, to_z, of_z, SFits, to_z-of_z}
+use Rattle.std.proofs.Common.{rules, ◌≡◌, ◌∙◌, Some, None, ap, ap₂, sym, subst, to_z, of_z, w64, SFits, to_z-of_z}
 use Rattle.std.specs.Int.{w128}
 use Rattle.ts_core.specs.settings.Settings.{Rule}
 use Rattle.ts_core.specs.store.Marks.{index_of}
 use Rattle.ts_core.specs.aggregates.Aggregates.{Aggregate, aggregate_of_one, merged, IsSound}
 use Rattle.ts_core.specs.aggregates.Remainders.{IsOnlyRest}
 use Rattle.ts_store.specs.rollup.Rollups.{RollupState, rollup_series_at}
+use Rattle.ts_store.proofs.retain.TimeBounds.{time_kept}
 use Rattle.ts_store.proofs.write.CellsPut.{put_passed, put_added, put_missing, put_corrected, put_folded}
 use Rattle.ts_store.proofs.write.committing.update_cell.Goals.{in-Some-without, in-None}
 use Rattle.ts_store.proofs.write.committing.update_cell.Goals as goal
@@ -19,10 +20,11 @@ returns-in_default-old-clause-cells g c = λ cs before f time value over put liv
     let s : RollupState = c.args.rollup.now in
     let at : rollup_series_at s c.args.column ≡ Some c.in-Some.series = search rules in
     let fits : SFits w128 c.index_of-index.result = search rules in
-    let is : c.index_of-index.result ≡ index_of c.args.rule.now c.args.time = search rules in
+    let is : c.index_of-index.result ≡ index_of c.args.rule.now c.args.time = c.index_of-index.ensures.index ∙ ap (index_of c.args.rule.now) (time_kept c.nanos.result c.from.result c.nanos.ensures.valid c.from.ensures ∙ c.nanos.ensures.value) in
     let index : to_z w128 (of_z w128 c.index_of-index.result) ≡ index_of c.args.rule.now f.time = to_z-of_z fits ∙ is ∙ ap (index_of c.args.rule.now) (sym time) in
     let none : c.args.old ≡ None = search rules in
-    let single : c.single.result ≡ aggregate_of_one c.args.time c.args.value = search rules in
+    let in_64 : SFits w64 c.args.value = search rules in
+    let single : c.single.result ≡ aggregate_of_one c.args.time c.args.value = c.single.ensures ∙ ap (aggregate_of_one c.args.time) (to_z-of_z in_64) in
     let part : c.single.result ≡ aggregate_of_one f.time f.value = single ∙ ap₂ aggregate_of_one (sym time) (sym value) in
     ap (λ (t : RollupState). t.grid.cells) c.add.ensures
     ∙ put_added c.args.rule.now cs c.args.columns.now before s c.args.column f c.args.old over put live c.in-Some.series at (to_z w128 (of_z w128 c.index_of-index.result)) index c.single.result none part
@@ -32,7 +34,7 @@ returns-in_default-live-clause-cells g c = λ cs before f time value over put li
     let s : RollupState = c.args.rollup.now in
     let at : rollup_series_at s c.args.column ≡ Some c.in-Some.series = search rules in
     let fits : SFits w128 c.index_of-index.result = search rules in
-    let is : c.index_of-index.result ≡ index_of c.args.rule.now c.args.time = search rules in
+    let is : c.index_of-index.result ≡ index_of c.args.rule.now c.args.time = c.index_of-index.ensures.index ∙ ap (index_of c.args.rule.now) (time_kept c.nanos.result c.from.result c.nanos.ensures.valid c.from.ensures ∙ c.nanos.ensures.value) in
     let index : to_z w128 (of_z w128 c.index_of-index.result) ≡ index_of c.args.rule.now f.time = to_z-of_z fits ∙ is ∙ ap (index_of c.args.rule.now) (sym time) in
     let none : c.live.result ≡ None = search rules in
     put_missing c.args.rule.now cs c.args.columns.now before s c.args.column f c.args.old over put live c.in-Some.series at (to_z w128 (of_z w128 c.index_of-index.result)) index (sym c.live.ensures ∙ none)
@@ -43,16 +45,18 @@ returns-clause-cells g c = λ cs before f time value over put live.
     let s : RollupState = c.args.rollup.now in
     let at : rollup_series_at s c.args.column ≡ Some c.in-Some.series = search rules in
     let fits : SFits w128 c.index_of-index.result = search rules in
-    let is : c.index_of-index.result ≡ index_of r c.args.time = search rules in
+    let is : c.index_of-index.result ≡ index_of r c.args.time = c.index_of-index.ensures.index ∙ ap (index_of c.args.rule.now) (time_kept c.nanos.result c.from.result c.nanos.ensures.valid c.from.ensures ∙ c.nanos.ensures.value) in
     let index : to_z w128 (of_z w128 c.index_of-index.result) ≡ index_of r f.time = to_z-of_z fits ∙ is ∙ ap (index_of r) (sym time) in
     let some : c.live.result ≡ Some c.in-Some-live.live = search rules in
     let was : c.args.old ≡ Some c.in-Some-old.old = search rules in
     ap (λ (t : RollupState). t.grid.cells) c.correct.ensures
     ∙ elim c.match-without.branch [
       | in-Some-without w ↦
-          let single : w.single-in-Some-without.result ≡ aggregate_of_one c.args.time c.args.value = search rules in
+          let in_64 : SFits w64 c.args.value = search rules in
+          let single : w.single-in-Some-without.result ≡ aggregate_of_one c.args.time c.args.value = w.single-in-Some-without.ensures ∙ ap (aggregate_of_one c.args.time) (to_z-of_z in_64) in
           let one : w.single-in-Some-without.result ≡ aggregate_of_one f.time f.value = single ∙ ap₂ aggregate_of_one (sym time) (sym value) in
-          let old : c.single-2.result ≡ aggregate_of_one c.args.time c.in-Some-old.old = search rules in
+          let old_in_64 : SFits w64 c.in-Some-old.old = search rules in
+          let old : c.single-2.result ≡ aggregate_of_one c.args.time c.in-Some-old.old = c.single-2.ensures ∙ ap (aggregate_of_one c.args.time) (to_z-of_z old_in_64) in
           let rest : IsOnlyRest IsSound merged c.in-Some-live.live c.single-2.result w.in-Some-without.rest = search rules in
           let rest' : IsOnlyRest IsSound merged c.in-Some-live.live (aggregate_of_one f.time c.in-Some-old.old) w.in-Some-without.rest =
           subst (λ (p : Aggregate). IsOnlyRest IsSound merged c.in-Some-live.live p w.in-Some-without.rest) (old ∙ ap (λ t. aggregate_of_one t c.in-Some-old.old) (sym time)) rest in

@@ -8,7 +8,7 @@ use Rattle.ts_core.specs.store.StoreData.{StoreData, GoesOn}
 use Rattle.ts_core.specs.moves.RuleMoves.{kept_beside}
 use Rattle.ts_core.specs.declared.facts.time_unit.TimeUnit.{TimeUnit}
 use Rattle.ts_store.specs.store.Inventories.{Inventory, inventory_of, facts_of_text, GrowsAfter, steps_in, StepsTo}
-use Rattle.ts_store.specs.store.WholeStates.{WholeState, IsWholeStateOf, rules_in, lows_in, left_in, is_last, with_step, StepsOnce, TakesSteps, AddsRuleTo, without_rule}
+use Rattle.ts_store.specs.store.WholeStates.{WholeState, IsWholeStateOf, rules_in, lows_in, left_in, is_last, with_step, StepsOnce, TakesSteps, AddsRuleTo, without_rule, LineWrites}
 use Rattle.ts_store.specs.write.LineTexts.{LineState, IsStateOf, parts_in, WritesFrom}
 use Rattle.ts_store.specs.retain.WholeRuns.{TakesStep}
 use Rattle.ts_store.specs.read.PointsRead.{all_raw}
@@ -19,7 +19,6 @@ use Rattle.ts_store.specs.declared.store.retention.StepAnswer.TheVariants.{Moved
 use Rattle.ts_store.specs.declared.write.write_text.LineOutcome.{LineOutcome}
 use Rattle.ts_store.proofs.rules.RuleStates.{rule_came, rule_went, rule_gained}
 use Rattle.ts_store.proofs.store.InventoriesKept.{none_taken, one_taken}
-use Rattle.ts_http.specs.Tallies.{LineWrites}
 
 -- ---- the text of a line
 

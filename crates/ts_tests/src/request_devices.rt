@@ -1,0 +1,150 @@
+//! Requests over devices that transfer bytes in pieces or fail: a batch of three lines, of which the second is below the
+//! raw mark.
+
+use crate::devices::{Failure, NEVER, PieceReader, PieceWriter};
+use crate::stores::{OLD_LINES, ONE_RULE, at_second, store_of, write_all};
+use std::alloc::Global;
+use std::test::Fail;
+use ts_core::{Sink, Source, Time};
+use ts_http::{IoFault, Route, Served, Status, serve_one};
+use ts_store::Store;
+
+/// The batch.
+const BATCH: &str =
+    "POST /write?precision=s HTTP/1.1\r\nContent-Length: 56\r\n\r\ncpu,host=a v=1i 90\ncpu,host=a v=1i 79\ncpu,host=a v=1i 95";
+
+/// Its reply.
+const REPLY: &str =
+    "HTTP/1.1 400 Bad Request\r\nContent-Type: application/json\r\nContent-Length: 71\r\nConnection: close\r\n\r\n{\"error\":\"partial write: line 2: fault 51 mark 80000000000; dropped=1\"}";
+
+/// A query that counts the points of the second minute.
+const COUNT: &str =
+    "GET /query?epoch=s&q=SELECT+COUNT(v)+FROM+cpu+WHERE+time+%3E%3D+60s+AND+time+%3C+120s+GROUP+BY+time(1m) HTTP/1.1\r\n\r\n";
+
+/// The end of its reply before the batch, and after it.
+const COUNTED_BEFORE: &str = r#""values":[[60,2]]}],"statement_id":0}]}"#;
+
+const COUNTED_AFTER: &str = r#""values":[[60,4]]}],"statement_id":0}]}"#;
+
+/// A served request: its result, and its devices after it.
+#[derive(Drop)]
+struct Exchange<'a> {
+    result: Result<Served, IoFault>,
+    reader: PieceReader<'a>,
+    writer: PieceWriter,
+}
+
+/// Serves a request.
+fn serve<'a>(
+    alloc: Global,
+    store: &mut Store<Global>,
+    now: Time,
+    reader: PieceReader<'a>,
+    writer: PieceWriter,
+) -> Exchange<'a> {
+    let mut source = Source::new(reader);
+    let mut sink = Sink::new(writer);
+    let result = serve_one(alloc, alloc, store, now, &mut source, &mut sink);
+    Exchange {
+        result,
+        reader: source.into_inner(),
+        writer: sink.into_inner(),
+    }
+}
+
+/// Returns a writer that accepts all bytes.
+fn ample(alloc: Global) -> PieceWriter {
+    PieceWriter::new(Vec::new(alloc), NEVER, NEVER, Failure::Error)
+}
+
+/// Returns a store whose raw mark is at 80 seconds, and the moment of its requests.
+fn retained(alloc: Global) -> Result<(Store<Global>, Time), Fail> {
+    let now = at_second(200)?;
+    let mut store = store_of(alloc, alloc, ONE_RULE)?;
+    if !write_all(alloc, &mut store, &OLD_LINES)? || store.retain(now).is_err() {
+        Err("a store without its lines")?;
+    }
+    Ok((store, now))
+}
+
+/// Returns true if the store's count of the second minute ends its reply this way.
+fn counts(alloc: Global, store: &mut Store<Global>, now: Time, end: &str) -> bool {
+    let reader = PieceReader::new(COUNT.as_bytes(), NEVER, NEVER);
+    let asked = serve(alloc, store, now, reader, ample(alloc));
+    asked.writer.written.as_slice().ends_with(end.as_bytes())
+}
+
+/// Returns true if a failed read of the batch does nothing: nothing is written, and the store counts as before.
+fn does_nothing(alloc: Global, piece: usize, call: usize) -> Result<bool, Fail> {
+    let (mut store, now) = retained(alloc)?;
+    let reader = PieceReader::new(BATCH.as_bytes(), piece, call);
+    let failed = serve(alloc, &mut store, now, reader, ample(alloc));
+    let is_reported = failed.result == Err(IoFault::Reader)
+        && failed.reader.calls == call.saturating_add(1)
+        && failed.writer.calls == 0;
+    Ok(is_reported && counts(alloc, &mut store, now, COUNTED_BEFORE))
+}
+
+#[test]
+fn a_failed_read_of_a_request_does_nothing(rt: HostRuntime) -> Result<(), Fail> {
+    for piece in [1, 7, 100] {
+        for call in 0..BATCH.len().div_ceil(piece.max(1)) {
+            assert!(rt; does_nothing(rt.alloc(), piece, call)?, "{piece} {call}");
+        }
+    }
+    Ok(())
+}
+
+/// Returns true if a failed write of the reply leaves exactly the bytes before it, and the batch is written.
+fn is_executed(alloc: Global, call: usize, failure: Failure) -> Result<bool, Fail> {
+    let (mut store, now) = retained(alloc)?;
+    let reader = PieceReader::new(BATCH.as_bytes(), NEVER, NEVER);
+    let writer = PieceWriter::new(Vec::new(alloc), 1, call, failure);
+    let failed = serve(alloc, &mut store, now, reader, writer);
+    let is_reported = failed.result == Err(IoFault::Writer)
+        && failed.writer.calls == call.saturating_add(1)
+        && Some(failed.writer.written.as_slice()) == REPLY.as_bytes().get(..call);
+    Ok(is_reported && counts(alloc, &mut store, now, COUNTED_AFTER))
+}
+
+#[test]
+fn a_failed_write_of_a_reply_comes_after_the_event(rt: HostRuntime) -> Result<(), Fail> {
+    for failure in [Failure::Error, Failure::Nothing] {
+        for call in 0..REPLY.len() {
+            assert!(rt; is_executed(rt.alloc(), call, failure)?, "{call}");
+        }
+    }
+    Ok(())
+}
+
+#[test]
+fn a_request_without_failures_is_answered(rt: HostRuntime) -> Result<(), Fail> {
+    let (mut store, now) = retained(rt.alloc())?;
+    let reader = PieceReader::new(BATCH.as_bytes(), 7, NEVER);
+    let served = serve(rt.alloc(), &mut store, now, reader, ample(rt.alloc()));
+    let reply = Served::Reply {
+        status: Status::BadRequest,
+        route: Route::Write,
+    };
+    assert!(rt; served.result == Ok(reply));
+    assert!(rt; served.writer.written.as_slice() == REPLY.as_bytes());
+    // Nothing is read after the whole request.
+    assert!(rt; served.reader.calls == BATCH.len().div_ceil(7));
+    assert!(rt; counts(rt.alloc(), &mut store, now, COUNTED_AFTER));
+    Ok(())
+}
+
+#[test]
+fn a_connection_without_a_byte_has_no_reply(rt: HostRuntime) -> Result<(), Fail> {
+    let (mut store, now) = retained(rt.alloc())?;
+    let served = serve(
+        rt.alloc(),
+        &mut store,
+        now,
+        PieceReader::new(&[], NEVER, NEVER),
+        ample(rt.alloc()),
+    );
+    assert!(rt; served.result == Ok(Served::Nothing) && served.writer.calls == 0);
+    assert!(rt; counts(rt.alloc(), &mut store, now, COUNTED_BEFORE));
+    Ok(())
+}
