@@ -47,15 +47,15 @@ pub storing : (s : State) (m : MachineState) (new : StoreState) (k : StoreData) 
 storing s m new k i is = record { moment = i.moment; precision = i.precision; epoch = i.epoch; fresh = i.fresh; certificate = i.certificate; store = is; inventory = refl }
 
 -- the same, with the inventory
-pub held : (s : State) (m : MachineState) (new : WholeState) (k : StoreData) → IsMachineIn s m → IsWholeStateOf new k → IsMachineIn (with_whole new s) (keeping k m)
-held s m new k i is = record { moment = i.moment; precision = i.precision; epoch = i.epoch; fresh = i.fresh; certificate = i.certificate; store = is.store; inventory = is.inventory }
+pub storing_whole : (s : State) (m : MachineState) (new : WholeState) (k : StoreData) → IsMachineIn s m → IsWholeStateOf new k → IsMachineIn (with_whole new s) (keeping k m)
+storing_whole s m new k i is = record { moment = i.moment; precision = i.precision; epoch = i.epoch; fresh = i.fresh; certificate = i.certificate; store = is.store; inventory = is.inventory }
 
 pub whole_in : (s : State) (m : MachineState) → IsMachineIn s m → IsWholeStateOf (whole_of s) m.kept
 whole_in s m i = record { store = i.store; inventory = i.inventory }
 
 wrote_as : {E : Type 0} (text : Text) (r : Result LineOutcome E) (s : State) (m : MachineState) (k : StoreData) → IsMachineIn s m → LineWrites s.precision s.moment (whole_of s) text r k → TransitionTo (Write text) s (written_text r) (keeping k m)
-wrote_as text (Ok outcome) s m k i w = (with_whole w.0 s, writes text outcome w.0 w.1, held s m w.0 k i w.2)
-wrote_as text (Err e) s m k i w = (with_whole w.0 s, writes_no_memory text w.0 w.1, held s m w.0 k i w.2)
+wrote_as text (Ok outcome) s m k i w = (with_whole w.0 s, writes text outcome w.0 w.1, storing_whole s m w.0 k i w.2)
+wrote_as text (Err e) s m k i w = (with_whole w.0 s, writes_no_memory text w.0 w.1, storing_whole s m w.0 k i w.2)
 
 -- the effect of a text is one in the state's precision, at its moment
 pub wrote : {E : Type 0} (text : Text) (r : Result LineOutcome E) (s : State) (m : MachineState) (k : StoreData) → IsMachineIn s m → ((t : StoreState) → IsStoreIn t m.kept → WritesFrom m.precision m.moment t text r k)
@@ -191,7 +191,7 @@ begin_refused r s m k i refused same some = (s, refuses_begin (i.store.stands.ru
 stepped_by : (running : Bool) (answer : StepAnswer) (s : State) (m : MachineState) (k : StoreData) → m.kept.running ≡ running → IsMachineIn s m → TakesStep m.kept k answer → TransitionTo StepRun s (step_text answer) (keeping k m)
 stepped_by true answer s m k e i t =
     let d = step_taken answer (whole_of s) m.kept k e t (whole_in s m i) in
-    (with_whole d.0 s, steps answer d.0 (i.store.stands.running.0 e) d.1, held s m d.0 k i d.2)
+    (with_whole d.0 s, steps answer d.0 (i.store.stands.running.0 e) d.1, storing_whole s m d.0 k i d.2)
 stepped_by false answer s m k e i t =
     let none : IsRunOpen s.store.history → ⊥ = λ runs. true≢false (sym (i.store.stands.running.1 runs) ∙ e) in
     let idle = t.idle e in (

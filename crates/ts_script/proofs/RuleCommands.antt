@@ -18,7 +18,7 @@ use Rattle.ts_script.specs.ScriptReplies.{line, text_of, dropped_text}
 use Rattle.ts_script.specs.MachineState.{MachineState, keeping, IsMachineIn, TransitionTo}
 use Rattle.ts_script.specs.declared.reply.Reply.{Reply}
 use Rattle.ts_script.specs.declared.reply.Reply.TheVariants.{OutOfMemory}
-use Rattle.ts_script.proofs.MachineLemmas.{held, whole_in, when_ok, when_err}
+use Rattle.ts_script.proofs.MachineLemmas.{storing_whole, whole_in, when_ok, when_err}
 
 -- a store that is as it was
 stays_in : (s : State) (m : MachineState) (k : StoreData) → IsMachineIn s m → k ≡ m.kept → IsMachineIn s (keeping k m)
@@ -31,7 +31,7 @@ module _ (text : Text) (s : State) (m : MachineState) (k : StoreData) (i : IsMac
       let new = came.1 in
       let read : rule_for (settings_in s.store) text ≡ Ok t.rule = subst (λ (z : Settings). rule_for z text ≡ Ok t.rule) i.store.stands.settings t.read in
       let printed : answer ≡ line (rule_text t.rule.name (low_in s.store t.rule)) = told ∙ (λ j. line (rule_text (t.name j) (came.0 j))) in
-      (with_whole new.0 s, subst (λ (a : Text). Transition s (AddRule text) a (with_whole new.0 s)) (sym printed) (adds text t.rule new.0 read new.1), held s m new.0 k i new.2)
+      (with_whole new.0 s, subst (λ (a : Text). Transition s (AddRule text) a (with_whole new.0 s)) (sym printed) (adds text t.rule new.0 read new.1), storing_whole s m new.0 k i new.2)
 
   pub rule_no_memory : k ≡ m.kept → TransitionTo (AddRule text) s (line memory_text) (keeping k m)
   rule_no_memory same = (s, adds_no_memory text, stays_in s m k i same)
@@ -56,7 +56,7 @@ rule_forgotten r name s m k i drops_rule none =
     let goes : RuleGoes m.kept k name = when_ok r (RuleGoes m.kept k name) drops_rule.ok none in (
       with_whole (without_rule name (whole_of s)) s,
       drops name (subst (λ (z : Settings). is_named z.rules name ≡ true) i.store.stands.settings named),
-      held s m (without_rule name (whole_of s)) k i (rule_dropped (whole_of s) m.kept k name (whole_in s m i) goes),
+      storing_whole s m (without_rule name (whole_of s)) k i (rule_dropped (whole_of s) m.kept k name (whole_in s m i) goes),
     )
 
 pub drop_refused : {E : Type 0} (r : Result (Unit {0}) E) (name : Text) (s : State) (m : MachineState) (k : StoreData) → IsMachineIn s m → DropsRule m.kept k name r → is_err r ≡ true → TransitionTo (DropRule name) s (line unknown_rule_text) (keeping k m)
