@@ -190,6 +190,13 @@ fn line_of(alloc: Global, service: &Service<'_>, failure: &Failure) -> Result<St
     Ok(line)
 }
 
+/// Returns the exit status of a fault.
+fn exit_code(fault: ServiceFault) -> ExitCode
+    ensures { IsServiceStatus (exit_status result) }
+{
+    ExitCode::from(fault.status())
+}
+
 /// Serves the requests, and returns the exit status: 0 once the image is saved at the end, otherwise that of the fault.
 /// A fault is printed on standard error.
 pub fn serve<R>(rt: &R, service: &Service<'_>) -> ExitCode
@@ -204,7 +211,7 @@ where
     let _streams = open_standard_streams(rt);
     let Ok(mut reports) = Reports::new(rt) else {
         let _ = eprintln!(rt; "tsdb: out of memory");
-        return ExitCode::from(ServiceFault::OutOfMemory.status());
+        return exit_code(ServiceFault::OutOfMemory);
     };
     match run_service(rt, service, &mut reports) {
         Ok(()) => ExitCode::from(0),
@@ -212,7 +219,7 @@ where
             if let Ok(line) = line_of(rt.alloc(), service, &failure) {
                 reports.line(rt, line);
             }
-            ExitCode::from(failure.fault.status())
+            exit_code(failure.fault)
         }
     }
 }
