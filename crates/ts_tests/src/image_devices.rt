@@ -1,12 +1,12 @@
 //! Images over devices that transfer bytes in pieces, or fail.
 
-use crate::devices::{Failure, NEVER, PieceReader, PieceWriter};
 use crate::images::{IMAGE_LEN, saved, worked_image, worked_store};
 use std::alloc::Global;
 use std::test::Fail;
 use ts_core::{Sink, Source};
 use ts_image::{LoadFault, SaveFault, load, load_within, save};
 use ts_store::Store;
+use ts_testkit::{Failure, NEVER, PieceReader, PieceWriter};
 
 /// Lengths of pieces, and the number of them in which the image is read or written.
 const PIECES: [(usize, usize); 4] = [(1, IMAGE_LEN), (2, 269), (100, 6), (1_000, 1)];

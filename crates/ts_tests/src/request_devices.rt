@@ -1,13 +1,13 @@
 //! Requests over devices that transfer bytes in pieces or fail: a batch of three lines, of which the second is below the
 //! raw mark.
 
-use crate::devices::{Failure, NEVER, PieceReader, PieceWriter};
 use crate::stores::{OLD_LINES, ONE_RULE, at_second, store_of, write_all};
 use std::alloc::Global;
 use std::test::Fail;
 use ts_core::{Sink, Source, Time};
 use ts_http::{IoFault, Route, Served, Status, serve_one};
 use ts_store::Store;
+use ts_testkit::{Failure, NEVER, PieceReader, PieceWriter};
 
 /// The batch.
 const BATCH: &str =

@@ -1,11 +1,11 @@
 //! Scripts over devices that transfer bytes in pieces or fail: a script with a run of retention, and the output of each
 //! line.
 
-use crate::devices::{Failure, NEVER, PieceReader, PieceWriter};
 use std::alloc::{AllocError, Global};
 use std::test::Fail;
 use ts_core::{Sink, Source};
 use ts_script::{RunFault, run, run_within};
+use ts_testkit::{Failure, NEVER, PieceReader, PieceWriter};
 
 /// The lines of the script, and the output of each.
 const SCRIPT: [(&str, &str); 11] = [

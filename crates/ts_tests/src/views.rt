@@ -10,10 +10,11 @@ use std::alloc::{Allocator, Global};
 use std::slice;
 use std::test::Fail;
 use ts_check::Checked;
-use ts_core::{Agg, MAX_COUNT, Marks, Partial, Settings, Time};
+use ts_core::{Agg, MAX_COUNT, Marks, Partial, Settings};
 use ts_exec::{Table, count_points, execute};
 use ts_raw::{ColumnId, Points};
 use ts_store::{CellWalk, Columns, Store, View, ViewCell};
+use ts_testkit::{all_but_one, merged};
 
 /// Raw points for the first minute, and the rule's cells for the second.
 const TWO_PIECES: &str = "plan 1\nraw 0 60000000000\nrollup m1 60000000000 120000000000\nend\n";
@@ -65,24 +66,6 @@ impl<'a, A: Allocator + Copy> View<A> for OneCell<'a, A> {
     }
 }
 
-/// Returns the merged aggregate of both, if they have at most 2^62 points together.
-fn merged(a: Agg, b: Agg) -> Result<Agg, Fail> {
-    if a.count() + b.count() > MAX_COUNT {
-        return Err("a count")?;
-    }
-    Ok(a.merge(b))
-}
-
-/// Returns the aggregate of 2^62 - 1 points of value 1 at this time.
-pub(crate) fn all_but_one(time: Time) -> Result<Agg, Fail> {
-    let one = Agg::single(time, 1);
-    let mut total = Agg::empty();
-    for _ in 0..62 {
-        total = merged(merged(total, total)?, one)?;
-    }
-    Ok(total)
-}
-
 /// Returns count and sum of a table's first row.
 fn first_row<A: Allocator>(table: &Table<'_, A>) -> Option<(u64, i128)> {
     let row = table.groups().first()?.rows().first()?;
@@ -132,7 +115,7 @@ fn both<A: Allocator + Copy>(
 fn a_cell_and_a_point_are_added(rt: HostRuntime) -> Result<(), Fail> {
     let alloc = rt.alloc();
     let time = at_second(60)?;
-    let total = merged(Agg::single(time, 7), Agg::single(time, -4))?;
+    let total = merged(Agg::single(time, 7), Agg::single(time, -4)).ok_or("a count")?;
     assert_eq!(rt; both(alloc, alloc, total)?, Some((3, 8)));
     Ok(())
 }
@@ -141,10 +124,10 @@ fn a_cell_and_a_point_are_added(rt: HostRuntime) -> Result<(), Fail> {
 fn a_cell_past_the_limit_is_left_out(rt: HostRuntime) -> Result<(), Fail> {
     let alloc = rt.alloc();
     let time = at_second(60)?;
-    let most = all_but_one(time)?;
+    let most = all_but_one(time).ok_or("a count")?;
     let sum = i128::from(MAX_COUNT) + 4;
     assert_eq!(rt; both(alloc, alloc, most)?, Some((MAX_COUNT, sum)));
-    let all = merged(most, Agg::single(time, 1))?;
+    let all = merged(most, Agg::single(time, 1)).ok_or("a count")?;
     assert_eq!(rt; both(alloc, alloc, all)?, Some((1, 5)));
     Ok(())
 }

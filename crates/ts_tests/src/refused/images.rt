@@ -1,12 +1,12 @@
 //! Images that are saved into a vector, and loaded.
 
 use super::trial::{Answer, Call, QUERIES, REPLY, Shown, Trial};
-use crate::refusing::Refusing;
 use std::alloc::{Allocator, Global};
 use std::test::Fail;
 use ts_core::{Sink, Source};
 use ts_image::{LoadFault, SaveFault, load, save};
 use ts_store::Store;
+use ts_testkit::Refusing;
 
 /// The queries of each trial, whose replies these calls don't change.
 const UNCHANGED: Shown<'static> = Shown {

@@ -1,7 +1,6 @@
 //! Queries: parsed, planned, checked, executed and answered.
 
 use super::trial::{Answer, Call, QUERIES, REPLY, Shown, Trial, replies};
-use crate::refusing::Refusing;
 use std::alloc::{Allocator, Global};
 use std::test::Fail;
 use ts_check::{
@@ -13,6 +12,7 @@ use ts_exec::{ExecFault, Table, execute};
 use ts_plan::{PlanError, plan};
 use ts_ql::{ParseError, Query, parse};
 use ts_store::{Store, View};
+use ts_testkit::Refusing;
 
 /// A query by host, of cells and raw points.
 const QUERY: &str =

@@ -1,12 +1,12 @@
 //! Requests to a connection in memory, and a batch with a refused allocation at a line.
 
 use super::trial::{Answer, Call, QUERIES, REPLY, Shown, Trial, replies};
-use crate::refusing::Refusing;
 use std::alloc::{AllocError, Allocator, Global};
 use std::test::Fail;
 use ts_core::{Sink, Source, Time};
 use ts_http::serve_one;
 use ts_store::Store;
+use ts_testkit::Refusing;
 
 /// The reply to a request when out of memory.
 const OUT_OF_MEMORY: &[u8] =

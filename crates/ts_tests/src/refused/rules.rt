@@ -1,11 +1,11 @@
 //! Rules that are added, settings that are parsed, and stores that are created.
 
 use super::trial::{Answer, Call, QUERIES, REPLY, Shown, Trial};
-use crate::refusing::Refusing;
 use std::alloc::{Allocator, Global};
 use std::test::Fail;
 use ts_core::{Settings, SettingsError};
 use ts_store::{Store, View};
+use ts_testkit::Refusing;
 
 /// A rule of ten minutes. Its first bucket from the raw mark on starts at 600 seconds.
 const RULE: &str =

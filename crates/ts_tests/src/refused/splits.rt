@@ -1,10 +1,10 @@
 //! A write of a late point into a full block, which is halved.
 
-use crate::refusing::Refusing;
 use crate::stores::{store_of, write};
 use std::alloc::{AllocError, Allocator, Global};
 use std::test::Fail;
 use ts_store::{Store, View};
+use ts_testkit::Refusing;
 
 /// More requests for memory than a write makes.
 const MANY: u64 = 100;

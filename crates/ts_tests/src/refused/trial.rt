@@ -1,12 +1,12 @@
 //! Refuses each request of a call in turn, until a call meets no refusal.
 
-use crate::refusing::Refusing;
 use crate::stores::{at_second, fill, open_run, store_of, write_all};
 use std::alloc::{AllocError, Allocator, Global};
 use std::test::Fail;
 use ts_core::{Time, TimeUnit};
 use ts_reply::{Epoch, answer};
 use ts_store::{Store, View};
+use ts_testkit::Refusing;
 
 /// More requests than any of the calls makes.
 const MOST_REQUESTS: u64 = 1_000;

@@ -1,11 +1,11 @@
 //! Writes: a new series, a new column, new points, and new cells.
 
 use super::trial::{Answer, Call, Shown, Trial};
-use crate::refusing::Refusing;
 use crate::stores::write;
 use std::alloc::Allocator;
 use std::test::Fail;
 use ts_store::Store;
+use ts_testkit::Refusing;
 
 /// A write of a line that is accepted.
 #[derive(Clone, Copy)]
