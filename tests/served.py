@@ -2,12 +2,16 @@
 import itertools
 import os
 import random
+import re
 import socket
 import subprocess
 import tempfile
 import time
 
 OPEN_SETTINGS = '{"raw":"INF","rules":[]}'
+
+# The lines of a server where nothing fails: that it listens, and the first refused body of each minute.
+NOTES = re.compile(rb'tsdb: (listening on|refused a body of /write:) .*\n')
 
 
 PORTS = itertools.cycle(random.sample(range(10000, 32000), 22000))
@@ -82,11 +86,18 @@ class Server:
                 pass  # the reply came before the whole request was read
             return everything(peer)
 
+    def lines(self):
+        """Returns the bytes on standard error so far."""
+        with open(self.path('errors'), 'rb') as file:
+            return file.read()
+
+    def reports(self):
+        """Returns those that report a failure."""
+        return NOTES.sub(b'', self.lines())
+
     def wait(self, patience=30):
-        """Returns the exit status and the bytes on standard error, once the server ends by itself."""
-        status = self.process.wait(patience)
-        self.errors.seek(0)
-        return status, self.errors.read()
+        """Returns the exit status and what is reported on standard error, once the server ends by itself."""
+        return self.process.wait(patience), self.reports()
 
     def __enter__(self):
         return self

@@ -5,5 +5,6 @@ pub mod RunOutcomes
 pub mod Calls
 pub mod ServedRequests
 pub mod Services
+pub mod Openings
 -- used only by proofs of the code
 pub mod FaultNumbers

@@ -10,6 +10,7 @@ ghost use Rattle.tsdb.specs.declared.outcome.Outcome.TheVariants.{NoScript, NoTe
 
 use crate::command_line::{Action, CliOutcome, Service, cli_outcome_of, parse};
 use crate::fault_table::fault_table;
+use crate::hints::hint_of;
 use crate::outcome::Outcome;
 use clap::Error;
 use std::alloc::Global;
@@ -60,7 +61,7 @@ pub fn answer_arguments<'a, S: AsStr, R: Read, W: Write>(
         Ok(Action::Replay) => Answer::Outcome(replay(rt.alloc(), source, sink)),
         Ok(Action::Faults(number)) => Answer::Outcome(print_faults(rt.alloc(), number, sink)),
         Ok(Action::Serve(service)) => Answer::Service(service),
-        Err(error) => Answer::Outcome(Outcome::NoScript(print_error(rt, &error))),
+        Err(error) => Answer::Outcome(Outcome::NoScript(print_error(rt, words, &error))),
     }
 }
 
@@ -91,14 +92,24 @@ fn replay<R: Read, W: Write>(alloc: Global, source: &mut Source<R>, sink: &mut S
     }
 }
 
+/// Prints a line that helps after an error, if there is one.
+fn print_hint<S: AsStr>(rt: &impl Eprint, words: &[S], error: &Error) {
+    if let Some(hint) = hint_of(words, error.kind()) {
+        let _ = eprintln!(rt; "{hint}");
+    }
+}
+
 /// Prints the text of clap's error.
-fn print_error(rt: &(impl Print + Eprint), error: &Error) -> CliOutcome
+fn print_error<S: AsStr>(rt: &(impl Print + Eprint), words: &[S], error: &Error) -> CliOutcome
     ensures { IsPrintedAs (outcome_of_kind (kind_of error.now)) result }
 {
     match cli_outcome_of(error) {
         CliOutcome::OutOfMemory => CliOutcome::OutOfMemory,
         cli_outcome => match error.print(rt) {
-            Ok(()) => cli_outcome,
+            Ok(()) => {
+                print_hint(rt, words, error);
+                cli_outcome
+            }
             Err(_) => CliOutcome::Device,
         },
     }

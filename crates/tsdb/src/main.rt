@@ -13,12 +13,20 @@
 mod call;
 mod command_line;
 mod fault_table;
+mod hints;
 mod image_file;
+mod opening;
 mod outcome;
 mod program;
+mod refusals;
+mod reports;
 mod requests;
 mod service;
+mod service_fault;
+mod settings_cause;
+mod start;
 mod timed;
+mod unread;
 
 use call::{Answer, answer_arguments, read_arguments};
 use outcome::end;

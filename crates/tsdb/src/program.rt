@@ -66,7 +66,15 @@ the machine's clock. A client that takes longer than 10 seconds is disconnected.
 
 If the file IMAGE exists, the store is loaded from it, with the settings that it was saved with, and SETTINGS isn't
 read. The store is saved after each /maintain and /rules that is answered with 200, and at the end: to IMAGE.new,
-which then replaces IMAGE. Lines written since the last save are lost if the program is killed.";
+which then replaces IMAGE. Lines written since the last save are lost if the program is killed. A second server of
+the same IMAGE is refused, by a lock on IMAGE.lock.
+
+Standard error says where it listens and whether IMAGE was loaded. It has a line for each save that fails, and for the
+first refused body of each minute.
+
+Example:
+
+  tsdb serve settings.json image 8086 0";
 
 /// Creates the program's command, with its subcommands.
 pub fn program<'a>(alloc: Global) -> Result<Command<'a>, AllocError>

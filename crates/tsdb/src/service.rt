@@ -1,109 +1,67 @@
 //! `tsdb serve`: a store that is loaded from its image or has the settings of a file, and the requests of a port.
-ghost use Rattle.std.specs.Prelude.{◌≡◌, ◌++◌, ◌⊎◌, IfOk, IfErr, OnOk, Err, string_bytes};
+ghost use Rattle.std.specs.Prelude.{◌≡◌, ◌⊎◌, IfOk, IfErr, IfSome, Err};
 ghost use Rattle.std.specs.Process.{exit_status};
 ghost use Rattle.ts_core.specs.facts.Facts.{Text};
 ghost use Rattle.ts_core.specs.settings.SettingsTexts.{settings_read};
 ghost use Rattle.ts_core.specs.declared.settings.settings_fault.SettingsError.TheVariants as errors;
 ghost use Rattle.ts_core.specs.declared.settings.settings_fault.SettingsFault.{SettingsFault};
-ghost use Rattle.tsdb.specs.Services.{IsFromImage, IsNew, IsServiceStatus, service_status, service_line};
+ghost use Rattle.tsdb.specs.Services.{IsFromImage, IsNew, IsServiceStatus};
 
 use crate::command_line::Service;
-use crate::image_file::load_image;
+use crate::image_file::ImageFile;
+use crate::opening::{listening_text, unlocked_text};
+use crate::reports::{Reports, open_standard_streams};
 use crate::requests::serve_on;
+use crate::service_fault::ServiceFault;
+use crate::settings_cause::cause_of;
 use std::alloc::{AllocError, Global};
+use std::fs::File;
 use std::net::{Net, TcpListener, TcpStream};
 use std::process::ExitCode;
 use std::rt::{Clock, Files};
 use std::{fs, io};
 use ts_core::{Settings, SettingsError, SettingsFault, push_all};
-use ts_image::{LoadFault, SaveFault};
 use ts_store::Store;
 
-/// Error of a service: before its first request, or of the save at its end.
-#[derive(Clone, Copy, Drop)]
-enum ServiceFault {
-    /// The settings file could not be read.
-    NoSettings,
-    /// The settings have an error.
-    Settings(SettingsFault),
-    /// The image could not be loaded.
-    Image(LoadFault),
-    /// The port could not be listened on.
-    NoPort,
-    /// The image could not be saved at the end.
-    NotSaved(SaveFault),
-    /// Out of memory.
-    OutOfMemory,
+/// Error of a service with its cause, which is empty if none is known.
+#[derive(Drop)]
+struct Failure {
+    fault: ServiceFault,
+    cause: String,
 }
 
-impl ServiceFault {
-    fn of_file(error: &io::Error) -> ServiceFault {
-        if error.kind() == io::ErrorKind::OutOfMemory {
-            ServiceFault::OutOfMemory
-        } else {
-            ServiceFault::NoSettings
+impl Failure {
+    /// Creates one without a cause.
+    fn new(alloc: Global, fault: ServiceFault) -> Failure {
+        Failure {
+            fault,
+            cause: String::new(alloc),
         }
     }
 
-    fn of_settings(error: &SettingsError) -> ServiceFault {
-        match error {
-            SettingsError::OutOfMemory => ServiceFault::OutOfMemory,
-            SettingsError::Fault(fault) => ServiceFault::Settings(*fault),
+    /// Creates one whose cause is an error of the system.
+    fn of_system(alloc: Global, fault: ServiceFault, error: &io::Error) -> Failure {
+        Failure {
+            fault,
+            cause: format!(in alloc; "{error}").unwrap_or(String::new(alloc)),
         }
     }
 
-    fn of_image(fault: LoadFault) -> ServiceFault {
-        match fault {
-            LoadFault::OutOfMemory => ServiceFault::OutOfMemory,
-            fault => ServiceFault::Image(fault),
+    /// Creates one whose cause is that of a load or a save, if there is any.
+    fn of_image(alloc: Global, fault: ServiceFault, cause: Option<io::Error>) -> Failure {
+        match cause {
+            Some(error) => Failure::of_system(alloc, fault, &error),
+            None => Failure::new(alloc, fault),
         }
     }
 
-    fn of_save(fault: SaveFault) -> ServiceFault {
-        match fault {
-            SaveFault::OutOfMemory => ServiceFault::OutOfMemory,
-            fault => ServiceFault::NotSaved(fault),
+    /// Creates one of the text of settings.
+    fn of_settings(alloc: Global, error: &SettingsError, text: &str) -> Failure {
+        let mut failure = Failure::new(alloc, ServiceFault::of_settings(error));
+        if matches!(error, SettingsError::Fault(SettingsFault::Form)) {
+            failure.cause = cause_of(alloc, text).unwrap_or(String::new(alloc));
         }
-    }
-
-    /// Returns the exit status: 3 when out of memory, else 1.
-    fn status(self) -> u8
-        ensures { result ≡ service_status self }
-    {
-        match self {
-            ServiceFault::OutOfMemory => 3,
-            _ => 1,
-        }
-    }
-
-    /// Appends the line for standard error to `text`. It names the file that is at fault.
-    fn text_to(self, service: &Service<'_>, text: &mut String) -> Result<(), AllocError>
-        ensures { OnOk result (string_bytes text.new ≡ string_bytes text.old ++ service_line service.now self) }
-    {
-        match self {
-            ServiceFault::NoSettings => push_all(
-                text,
-                &[
-                    "tsdb: ",
-                    service.settings,
-                    ": the settings could not be read",
-                ],
-            ),
-            ServiceFault::Settings(fault) => {
-                push_all(text, &["tsdb: ", service.settings, ": "])?;
-                fault.text_to(text)
-            }
-            ServiceFault::Image(fault) => {
-                push_all(text, &["tsdb: ", service.image, ": "])?;
-                fault.text_to(text)
-            }
-            ServiceFault::NoPort => text.push_str("tsdb: the port could not be listened on"),
-            ServiceFault::NotSaved(fault) => {
-                push_all(text, &["tsdb: ", service.image, ": "])?;
-                fault.text_to(text)
-            }
-            ServiceFault::OutOfMemory => text.push_str("tsdb: out of memory"),
-        }
+        failure
     }
 }
 
@@ -119,63 +77,142 @@ fn store_with(alloc: Global, text: &str) -> Result<Store<Global>, SettingsError>
     }
 }
 
+/// Loads the store of the image, or returns `None` if there is no image.
+fn load_image<R: Files + AllocGlobal>(
+    rt: &R,
+    image: &ImageFile<'_>,
+) -> Result<Option<Store<Global>>, Failure>
+    ensures { IfOk result (λ found. IfSome found IsFromImage) }
+{
+    match image.load(rt) {
+        Ok(found) => Ok(found),
+        Err(failed) => {
+            let fault = ServiceFault::of_load(failed.fault);
+            Err(Failure::of_image(rt.alloc(), fault, failed.cause))
+        }
+    }
+}
+
 /// Returns the store of the image, or, if there is no image, an empty one with the settings of the file.
 fn open_store<R: Files + AllocGlobal>(
     rt: &R,
     service: &Service<'_>,
-) -> Result<Store<Global>, ServiceFault>
+    loaded: Option<Store<Global>>,
+) -> Result<Store<Global>, Failure>
+    requires { IfSome loaded IsFromImage }
     ensures { IfOk result (λ store. IsFromImage store ⊎ ((text : Text) × IsNew text store)) }
 {
-    match load_image(rt, service.image) {
-        Ok(Some(store)) => return Ok(store),
-        Ok(None) => {}
-        Err(fault) => return Err(ServiceFault::of_image(fault)),
+    if let Some(store) = loaded {
+        return Ok(store);
     }
     let text = match fs::read_to_string(rt, service.settings) {
         Ok(text) => text,
-        Err(error) => return Err(ServiceFault::of_file(&error)),
+        Err(error) => {
+            return Err(Failure::of_system(rt.alloc(), ServiceFault::of_file(&error), &error));
+        }
     };
     match store_with(rt.alloc(), text.as_str()) {
         Ok(store) => Ok(store),
-        Err(error) => Err(ServiceFault::of_settings(&error)),
+        Err(error) => Err(Failure::of_settings(rt.alloc(), &error, text.as_str())),
     }
 }
 
-/// Serves the requested number of connections, and saves the image.
-fn run_service<R>(rt: &R, service: &Service<'_>) -> Result<(), ServiceFault>
+/// Finds and locks the image. A lock that the system can't give is reported.
+fn locked_image<'a, R>(
+    rt: &R,
+    service: &Service<'a>,
+    reports: &mut Reports,
+) -> Result<ImageFile<'a>, Failure>
 where
-    R: Files + Clock + AllocGlobal + Eprint + Net<Listener = TcpListener, Stream = TcpStream>,
+    R: Files<File = File> + AllocGlobal + Eprint,
 {
-    let mut store = open_store(rt, service)?;
-    let Ok(listener) = TcpListener::bind(rt, ("127.0.0.1", service.port)) else {
-        return Err(ServiceFault::NoPort);
+    let mut image = match ImageFile::find(rt, service.image) {
+        Ok(image) => image,
+        Err(_) => return Err(Failure::new(rt.alloc(), ServiceFault::OutOfMemory)),
     };
+    match image.lock(rt) {
+        Ok(()) => {}
+        Err(error) if error.kind() == io::ErrorKind::WouldBlock => {
+            return Err(Failure::new(rt.alloc(), ServiceFault::InUse));
+        }
+        Err(error) => {
+            if let Ok(text) = unlocked_text(rt.alloc(), service, &error) {
+                reports.line(rt, text);
+            }
+        }
+    }
+    Ok(image)
+}
+
+/// Serves the requested number of connections, and saves the image.
+fn run_service<R>(rt: &R, service: &Service<'_>, reports: &mut Reports) -> Result<(), Failure>
+where
+    R: Files<File = File>
+        + Clock
+        + AllocGlobal
+        + Eprint
+        + Net<Listener = TcpListener, Stream = TcpStream>,
+{
+    let mut image = locked_image(rt, service, reports)?;
+    let loaded = load_image(rt, &image)?;
+    let is_loaded = loaded.is_some();
+    let mut store = open_store(rt, service, loaded)?;
+    let listener = match TcpListener::bind(rt, ("127.0.0.1", service.port)) {
+        Ok(listener) => listener,
+        Err(error) => {
+            return Err(Failure::of_system(rt.alloc(), ServiceFault::NoPort, &error));
+        }
+    };
+    if let Ok(text) = listening_text(rt.alloc(), service, image.path(), &store, is_loaded) {
+        reports.line(rt, text);
+    }
     let count = if service.requests == 0 {
         u64::MAX
     } else {
         service.requests
     };
-    match serve_on(rt, &mut store, &listener, service.image, count) {
+    match serve_on(rt, &mut store, &listener, &mut image, reports, count) {
         Ok(()) => Ok(()),
-        Err(fault) => Err(ServiceFault::of_save(fault)),
+        Err(failed) => {
+            let fault = ServiceFault::of_save(failed.fault);
+            Err(Failure::of_image(rt.alloc(), fault, failed.cause))
+        }
     }
+}
+
+/// Returns the line of a fault and its cause.
+fn line_of(alloc: Global, service: &Service<'_>, failure: &Failure) -> Result<String, AllocError> {
+    let mut line = String::new(alloc);
+    failure.fault.text_to(service, &mut line)?;
+    if !failure.cause.is_empty() {
+        push_all(&mut line, &[": ", failure.cause.as_str()])?;
+    }
+    Ok(line)
 }
 
 /// Serves the requests, and returns the exit status: 0 once the image is saved at the end, otherwise that of the fault.
 /// A fault is printed on standard error.
 pub fn serve<R>(rt: &R, service: &Service<'_>) -> ExitCode
 where
-    R: Files + Clock + AllocGlobal + Eprint + Net<Listener = TcpListener, Stream = TcpStream>,
+    R: Files<File = File>
+        + Clock
+        + AllocGlobal
+        + Eprint
+        + Net<Listener = TcpListener, Stream = TcpStream>,
     ensures { IsServiceStatus (exit_status result) }
 {
-    match run_service(rt, service) {
+    let _streams = open_standard_streams(rt);
+    let Ok(mut reports) = Reports::new(rt) else {
+        let _ = eprintln!(rt; "tsdb: out of memory");
+        return ExitCode::from(ServiceFault::OutOfMemory.status());
+    };
+    match run_service(rt, service, &mut reports) {
         Ok(()) => ExitCode::from(0),
-        Err(fault) => {
-            let mut line = String::new(rt.alloc());
-            if fault.text_to(service, &mut line).is_ok() {
-                let _ = eprintln!(rt; "{line}");
+        Err(failure) => {
+            if let Ok(line) = line_of(rt.alloc(), service, &failure) {
+                reports.line(rt, line);
             }
-            ExitCode::from(fault.status())
+            ExitCode::from(failure.fault.status())
         }
     }
 }
