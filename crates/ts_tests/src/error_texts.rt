@@ -4,7 +4,6 @@
 use crate::stores::{ONE_RULE, store_of};
 use std::alloc::{AllocError, Global};
 use std::error::Error;
-use std::test::Fail;
 use ts_block::BlockFault;
 use ts_check::{CertificateFault, CheckError, CheckFault, ReadCertificateError};
 use ts_core::{Fault, FaultCode, RuleFault, SettingsError, SettingsFault, Time, UnknownRule};
@@ -16,7 +15,7 @@ use ts_plan::{PlanError, PlanFault};
 use ts_ql::{ParseError, QlFault, QlFaultKind};
 use ts_raw::IndexFault;
 use ts_script::RunFault;
-use ts_store::{RunInProgress, View, WriteFault};
+use ts_store::{RunInProgress, Store, View, WriteFault};
 
 /// An error with its `Display` and its `Debug` text.
 type Row<E> = (E, &'static str, &'static str);
@@ -150,6 +149,12 @@ const WRITES: [Row<WriteFault>; 3] = [
     (WriteFault::TooManyFacts, "too many facts", "TooManyFacts"),
     (WriteFault::OutOfMemory, "out of memory", "OutOfMemory"),
 ];
+
+/// The texts of the fault of a write below the least time.
+const BELOW: (&str, &str) = (
+    "below the raw mark, -9223372036854775806",
+    "BelowRawMark(Time { nanos: -9223372036854775806 })",
+);
 
 /// The error of beginning a run.
 const RUNS: [Row<RunInProgress>; 1] = [(RunInProgress, "a run is in progress", "RunInProgress")];
@@ -324,6 +329,12 @@ const PLAN_ERRORS: [Row<PlanError>; 2] = [
     (PlanError::OutOfMemory, "out of memory", "OutOfMemory"),
 ];
 
+/// The `Display` texts of each error of an execution.
+const EXECUTIONS: (&str, &str) = (
+    "a stale plan: the settings or marks are others than it was checked for",
+    "out of memory",
+);
+
 /// Each fault of loading an image.
 const LOADS: [Row<LoadFault>; 7] = [
     (
@@ -400,100 +411,116 @@ const CONNECTIONS: [Row<IoFault>; 2] = [
     (IoFault::Writer, "the reply could not be written", "Writer"),
 ];
 
-/// Returns the texts of the first error that has others than its row.
-fn first_wrong<E: Error>(
-    alloc: Global,
-    rows: &[Row<E>],
-) -> Result<Option<(String, String)>, AllocError> {
-    for (error, display, debug) in rows {
-        let displayed = format!(in alloc; "{error}")?;
-        let debugged = format!(in alloc; "{error:?}")?;
-        if displayed.as_str() != *display || debugged.as_str() != *debug {
-            return Ok(Some((displayed, debugged)));
+/// Returns true if a format string gives this text.
+fn is_text(found: Result<String, AllocError>, text: &str) -> bool {
+    match found {
+        Ok(found) => found.as_str() == text,
+        Err(_) => false,
+    }
+}
+
+/// Returns true if an error has the texts of its row.
+fn has_texts<E: Error>(alloc: Global, row: &Row<E>) -> bool {
+    is_text(format!(in alloc; "{}", row.0), row.1)
+        && is_text(format!(in alloc; "{:?}", row.0), row.2)
+}
+
+/// Returns the index of the first error that has other texts than its row.
+fn first_wrong<E: Error>(alloc: Global, rows: &[Row<E>]) -> Option<usize> {
+    for (at, row) in rows.iter().enumerate() {
+        if !has_texts(alloc, row) {
+            return Some(at);
         }
     }
-    Ok(None)
+    None
 }
 
 /// Shows the texts of codes, and of the errors of settings and of rules.
 #[test]
-fn errors_of_settings_have_texts(rt: HostRuntime) -> Result<(), Fail> {
-    assert_eq!(rt; first_wrong(rt.alloc(), &CODES)?, None);
-    assert_eq!(rt; first_wrong(rt.alloc(), &RULES)?, None);
-    assert_eq!(rt; first_wrong(rt.alloc(), &SETTINGS)?, None);
-    assert_eq!(rt; first_wrong(rt.alloc(), &SETTINGS_ERRORS)?, None);
-    assert_eq!(rt; first_wrong(rt.alloc(), &UNKNOWN_RULES)?, None);
-    Ok(())
+fn errors_of_settings_have_texts(rt: HostRuntime) {
+    assert_eq!(rt; first_wrong(rt.alloc(), &CODES), None);
+    assert_eq!(rt; first_wrong(rt.alloc(), &RULES), None);
+    assert_eq!(rt; first_wrong(rt.alloc(), &SETTINGS), None);
+    assert_eq!(rt; first_wrong(rt.alloc(), &SETTINGS_ERRORS), None);
+    assert_eq!(rt; first_wrong(rt.alloc(), &UNKNOWN_RULES), None);
 }
 
 /// Shows the texts of the errors of a line.
 #[test]
-fn errors_of_lines_have_texts(rt: HostRuntime) -> Result<(), Fail> {
-    assert_eq!(rt; first_wrong(rt.alloc(), &LINES)?, None);
-    assert_eq!(rt; first_wrong(rt.alloc(), &LINE_ERRORS)?, None);
-    Ok(())
+fn errors_of_lines_have_texts(rt: HostRuntime) {
+    assert_eq!(rt; first_wrong(rt.alloc(), &LINES), None);
+    assert_eq!(rt; first_wrong(rt.alloc(), &LINE_ERRORS), None);
+}
+
+/// Returns true if a write below this mark has its texts.
+fn is_below(alloc: Global, mark: Time) -> bool {
+    has_texts(alloc, &(WriteFault::BelowRawMark(mark), BELOW.0, BELOW.1))
 }
 
 /// Shows the texts of the errors of blocks, of an index, of writes and of the begin of a run.
 #[test]
-fn errors_of_points_have_texts(rt: HostRuntime) -> Result<(), Fail> {
-    let mark = Time::least();
-    let below: Row<WriteFault> = (
-        WriteFault::BelowRawMark(mark),
-        "below the raw mark, -9223372036854775806",
-        "BelowRawMark(Time { nanos: -9223372036854775806 })",
-    );
-    assert_eq!(rt; first_wrong(rt.alloc(), &BLOCKS)?, None);
-    assert_eq!(rt; first_wrong(rt.alloc(), &INDEXES)?, None);
-    assert_eq!(rt; first_wrong(rt.alloc(), &[below])?, None);
-    assert_eq!(rt; first_wrong(rt.alloc(), &WRITES)?, None);
-    assert_eq!(rt; first_wrong(rt.alloc(), &RUNS)?, None);
-    Ok(())
+fn errors_of_points_have_texts(rt: HostRuntime) {
+    assert!(rt; is_below(rt.alloc(), Time::least()));
+    assert_eq!(rt; first_wrong(rt.alloc(), &BLOCKS), None);
+    assert_eq!(rt; first_wrong(rt.alloc(), &INDEXES), None);
+    assert_eq!(rt; first_wrong(rt.alloc(), &WRITES), None);
+    assert_eq!(rt; first_wrong(rt.alloc(), &RUNS), None);
 }
 
 /// Shows the texts of the errors of a query.
 #[test]
-fn errors_of_queries_have_texts(rt: HostRuntime) -> Result<(), Fail> {
-    assert_eq!(rt; first_wrong(rt.alloc(), &QUERY_KINDS)?, None);
-    assert_eq!(rt; first_wrong(rt.alloc(), &QUERIES)?, None);
-    assert_eq!(rt; first_wrong(rt.alloc(), &QUERY_ERRORS)?, None);
-    Ok(())
+fn errors_of_queries_have_texts(rt: HostRuntime) {
+    assert_eq!(rt; first_wrong(rt.alloc(), &QUERY_KINDS), None);
+    assert_eq!(rt; first_wrong(rt.alloc(), &QUERIES), None);
+    assert_eq!(rt; first_wrong(rt.alloc(), &QUERY_ERRORS), None);
 }
 
 /// Shows the texts of the errors of pieces, checks, certificates and plans.
 #[test]
-fn errors_of_plans_have_texts(rt: HostRuntime) -> Result<(), Fail> {
-    assert_eq!(rt; first_wrong(rt.alloc(), &PIECES)?, None);
-    assert_eq!(rt; first_wrong(rt.alloc(), &CHECKS)?, None);
-    assert_eq!(rt; first_wrong(rt.alloc(), &CHECK_ERRORS)?, None);
-    assert_eq!(rt; first_wrong(rt.alloc(), &CERTIFICATES)?, None);
-    assert_eq!(rt; first_wrong(rt.alloc(), &CERTIFICATE_ERRORS)?, None);
-    assert_eq!(rt; first_wrong(rt.alloc(), &PLANS)?, None);
-    assert_eq!(rt; first_wrong(rt.alloc(), &PLAN_ERRORS)?, None);
-    Ok(())
+fn errors_of_plans_have_texts(rt: HostRuntime) {
+    assert_eq!(rt; first_wrong(rt.alloc(), &PIECES), None);
+    assert_eq!(rt; first_wrong(rt.alloc(), &CHECKS), None);
+    assert_eq!(rt; first_wrong(rt.alloc(), &CHECK_ERRORS), None);
+    assert_eq!(rt; first_wrong(rt.alloc(), &CERTIFICATES), None);
+    assert_eq!(rt; first_wrong(rt.alloc(), &CERTIFICATE_ERRORS), None);
+    assert_eq!(rt; first_wrong(rt.alloc(), &PLANS), None);
+    assert_eq!(rt; first_wrong(rt.alloc(), &PLAN_ERRORS), None);
+}
+
+/// Returns true if the error of an execution is displayed so.
+fn is_displayed(alloc: Global, error: &ExecFault<'_, Global>, text: &str) -> bool {
+    is_text(format!(in alloc; "{error}"), text)
+}
+
+/// Returns true if the error of a stale plan over a store is displayed so.
+fn stale_is_displayed(alloc: Global, store: &Store<Global>, text: &str) -> bool {
+    let stale = ExecFault::Stale(store.settings(), store.marks());
+    is_displayed(alloc, &stale, text)
+}
+
+/// Returns true if the errors of an execution have these `Display` texts: that of a stale plan, and that of the other.
+fn executions_are_displayed(alloc: Global, stale: &str, full: &str) -> bool {
+    match store_of(alloc, alloc, ONE_RULE) {
+        Some(store) => {
+            stale_is_displayed(alloc, &store, stale)
+                && is_displayed(alloc, &ExecFault::OutOfMemory, full)
+        }
+        None => false,
+    }
 }
 
 /// Shows the `Display` texts of the errors of an execution.
 #[test]
-fn errors_of_executions_are_displayed(rt: HostRuntime) -> Result<(), Fail> {
-    let alloc = rt.alloc();
-    let store = store_of(alloc, alloc, ONE_RULE)?;
-    let stale = ExecFault::Stale(store.settings(), store.marks());
-    let stale = format!(in alloc; "{stale}")?;
-    let full: ExecFault<'_, Global> = ExecFault::OutOfMemory;
-    let full = format!(in alloc; "{full}")?;
-    let text = "a stale plan: the settings or marks are others than it was checked for";
-    assert_eq!(rt; stale.as_str(), text);
-    assert_eq!(rt; full.as_str(), "out of memory");
-    Ok(())
+fn errors_of_executions_are_displayed(rt: HostRuntime) {
+    let (stale, full) = EXECUTIONS;
+    assert!(rt; executions_are_displayed(rt.alloc(), stale, full));
 }
 
 /// Shows the texts of the errors of images, scripts and connections.
 #[test]
-fn errors_of_devices_have_texts(rt: HostRuntime) -> Result<(), Fail> {
-    assert_eq!(rt; first_wrong(rt.alloc(), &LOADS)?, None);
-    assert_eq!(rt; first_wrong(rt.alloc(), &SAVES)?, None);
-    assert_eq!(rt; first_wrong(rt.alloc(), &SCRIPTS)?, None);
-    assert_eq!(rt; first_wrong(rt.alloc(), &CONNECTIONS)?, None);
-    Ok(())
+fn errors_of_devices_have_texts(rt: HostRuntime) {
+    assert_eq!(rt; first_wrong(rt.alloc(), &LOADS), None);
+    assert_eq!(rt; first_wrong(rt.alloc(), &SAVES), None);
+    assert_eq!(rt; first_wrong(rt.alloc(), &SCRIPTS), None);
+    assert_eq!(rt; first_wrong(rt.alloc(), &CONNECTIONS), None);
 }

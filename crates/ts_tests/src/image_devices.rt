@@ -1,12 +1,12 @@
 //! Images over devices that transfer bytes in pieces, or fail.
 
-use crate::devices::{Failure, NEVER, PieceReader, PieceWriter};
 use crate::images::{IMAGE_LEN, saved, worked_image, worked_store};
 use std::alloc::Global;
 use std::test::Fail;
 use ts_core::{Sink, Source};
 use ts_image::{LoadFault, SaveFault, load, load_within, save};
 use ts_store::Store;
+use ts_testkit::{Failure, NEVER, PieceReader, PieceWriter};
 
 /// Lengths of pieces, and the number of them in which the image is read or written.
 const PIECES: [(usize, usize); 4] = [(1, IMAGE_LEN), (2, 269), (100, 6), (1_000, 1)];
@@ -18,45 +18,56 @@ fn load_from(alloc: Global, reader: PieceReader<'_>) -> (Result<Store<Global>, L
     (result, source.into_inner().calls)
 }
 
-/// Returns true if loading in pieces fails at each call that fails, and stops there.
+/// Returns true if loading in pieces fails at a call that fails, and stops there.
+fn fails_at_read(alloc: Global, image: &[u8], piece: usize, call: usize) -> bool {
+    let (result, calls) = load_from(alloc, PieceReader::new(image, piece, call));
+    matches!(result, Err(LoadFault::Device)) && calls == call.saturating_add(1)
+}
+
+/// Returns true if loading in pieces does so at each call.
 fn fails_at_each_read(alloc: Global, image: &[u8], piece: usize, pieces: usize) -> bool {
     // the call after the last piece sees the end
     for call in 0..=pieces {
-        let reader = PieceReader::new(image, piece, call);
-        let (result, calls) = load_from(alloc, reader);
-        if !matches!(result, Err(LoadFault::Device)) || calls != call.saturating_add(1) {
+        if !fails_at_read(alloc, image, piece, call) {
             return false;
         }
     }
     true
 }
 
-/// Returns true if an image in pieces is loaded as it was saved.
-fn loads_in_pieces(alloc: Global, image: &[u8], piece: usize, pieces: usize) -> Result<bool, Fail> {
-    let reader = PieceReader::new(image, piece, NEVER);
-    let (result, calls) = load_from(alloc, reader);
-    match result {
-        Ok(store) => {
-            let same = saved(alloc, &store)?.as_slice() == image;
-            Ok(same && calls == pieces.saturating_add(1))
-        }
-        Err(_) => Ok(false),
+/// Returns true if a store has this image.
+fn is_image_of(alloc: Global, store: &Store<Global>, image: &[u8]) -> bool {
+    match saved(alloc, alloc, store) {
+        Some(found) => found.as_slice() == image,
+        None => false,
     }
+}
+
+/// Returns true if an image in pieces is loaded as it was saved.
+fn loads_in_pieces(alloc: Global, image: &[u8], piece: usize, pieces: usize) -> bool {
+    let (result, calls) = load_from(alloc, PieceReader::new(image, piece, NEVER));
+    match result {
+        Ok(store) => calls == pieces.saturating_add(1) && is_image_of(alloc, &store, image),
+        Err(_) => false,
+    }
+}
+
+/// Returns the first length of pieces in which an image isn't loaded, or for which a failed read doesn't stop a load.
+fn first_wrong_load(alloc: Global, image: &[u8]) -> Option<usize> {
+    for (piece, pieces) in &PIECES {
+        if !fails_at_each_read(alloc, image, *piece, *pieces)
+            || !loads_in_pieces(alloc, image, *piece, *pieces)
+        {
+            return Some(*piece);
+        }
+    }
+    None
 }
 
 #[test]
 fn a_failed_read_stops_a_load(rt: HostRuntime) -> Result<(), Fail> {
-    let image = worked_image(rt.alloc())?;
-    for (piece, pieces) in PIECES {
-        assert!(rt;
-            fails_at_each_read(rt.alloc(), &image, piece, pieces),
-            "{piece}"
-        );
-        assert!(rt;
-            loads_in_pieces(rt.alloc(), &image, piece, pieces)?,
-            "{piece}"
-        );
-    }
+    let image = worked_image(rt.alloc()).ok_or("no image")?;
+    assert_eq!(rt; first_wrong_load(rt.alloc(), &image), None);
     Ok(())
 }
 
@@ -66,16 +77,30 @@ fn fault_within(alloc: Global, bytes: &[u8], reads: u32) -> Option<LoadFault> {
     load_within(alloc, &mut source, u64::from(reads)).err()
 }
 
+/// Returns true if bytes need more reads than these.
+fn lacks_reads(alloc: Global, bytes: &[u8], reads: u32) -> bool {
+    matches!(
+        fault_within(alloc, bytes, reads),
+        Some(LoadFault::TooManyReads)
+    )
+}
+
+/// Returns the least number of reads that bytes need, if 1,000 are enough.
+fn least_reads(alloc: Global, bytes: &[u8]) -> Option<u32> {
+    for reads in 0..=1_000 {
+        if !lacks_reads(alloc, bytes, reads) {
+            return Some(reads);
+        }
+    }
+    None
+}
+
 #[test]
 fn a_load_ends_within_its_reads(rt: HostRuntime) -> Result<(), Fail> {
-    let image = worked_image(rt.alloc())?;
-    for reads in 0..538 {
-        let fault = fault_within(rt.alloc(), &image, reads);
-        assert!(rt; matches!(fault, Some(LoadFault::TooManyReads)), "{reads}");
-    }
+    let image = worked_image(rt.alloc()).ok_or("no image")?;
+    assert_eq!(rt; least_reads(rt.alloc(), &image), Some(538));
     assert!(rt; fault_within(rt.alloc(), &image, 538).is_none());
-    let none = fault_within(rt.alloc(), b"TSIN", 3);
-    assert!(rt; matches!(none, Some(LoadFault::TooManyReads)));
+    assert_eq!(rt; least_reads(rt.alloc(), b"TSIN"), Some(4));
     let none = fault_within(rt.alloc(), b"TSIN", 4);
     assert!(rt; matches!(none, Some(LoadFault::NotAnImage)));
     Ok(())
@@ -92,6 +117,22 @@ fn save_to(
     (result, sink.into_inner())
 }
 
+/// Returns true if saving fails at a call that fails, and these bytes are written.
+fn fails_at_write(
+    alloc: Global,
+    store: &Store<Global>,
+    bytes: Option<&[u8]>,
+    piece: usize,
+    call: usize,
+    failure: Failure,
+) -> bool {
+    let writer = PieceWriter::new(Vec::new(alloc), piece, call, failure);
+    let (result, writer) = save_to(alloc, store, writer);
+    matches!(result, Err(SaveFault::Device))
+        && writer.calls == call.saturating_add(1)
+        && Some(writer.written.as_slice()) == bytes
+}
+
 /// Returns true if saving fails at each call that fails, when exactly the pieces before it are written.
 fn fails_at_each_write(
     alloc: Global,
@@ -101,11 +142,7 @@ fn fails_at_each_write(
     failure: Failure,
 ) -> bool {
     for (call, sent) in (0..image.len()).step_by(piece.max(1)).enumerate() {
-        let writer = PieceWriter::new(Vec::new(alloc), piece, call, failure);
-        let (result, writer) = save_to(alloc, store, writer);
-        let stopped = writer.calls == call.saturating_add(1);
-        let begun = Some(writer.written.as_slice()) == image.get(..sent);
-        if !matches!(result, Err(SaveFault::Device)) || !stopped || !begun {
+        if !fails_at_write(alloc, store, image.get(..sent), piece, call, failure) {
             return false;
         }
     }
@@ -125,22 +162,30 @@ fn saves_in_pieces(
     result.is_ok() && writer.calls == pieces && writer.written.as_slice() == image
 }
 
+/// Returns the first length of pieces in which an image isn't saved, or for which a failed write doesn't stop a save.
+fn first_wrong_save(alloc: Global, store: &Store<Global>, image: &[u8]) -> Option<usize> {
+    for (piece, pieces) in &PIECES {
+        if !fails_at_each_write(alloc, store, image, *piece, Failure::Error)
+            || !fails_at_each_write(alloc, store, image, *piece, Failure::Nothing)
+            || !saves_in_pieces(alloc, store, image, *piece, *pieces)
+        {
+            return Some(*piece);
+        }
+    }
+    None
+}
+
+/// Returns the same of the worked store; the length 0 if it has no image.
+fn first_wrong_of(alloc: Global, store: &Store<Global>) -> Option<usize> {
+    match saved(alloc, alloc, store) {
+        Some(image) => first_wrong_save(alloc, store, &image),
+        None => Some(0),
+    }
+}
+
 #[test]
 fn a_failed_write_stops_a_save(rt: HostRuntime) -> Result<(), Fail> {
-    let alloc = rt.alloc();
-    let store = worked_store(alloc)?;
-    let image = saved(alloc, &store)?;
-    for (piece, pieces) in PIECES {
-        for failure in [Failure::Error, Failure::Nothing] {
-            assert!(rt;
-                fails_at_each_write(alloc, &store, &image, piece, failure),
-                "{piece}"
-            );
-        }
-        assert!(rt;
-            saves_in_pieces(alloc, &store, &image, piece, pieces),
-            "{piece}"
-        );
-    }
+    let store = worked_store(rt.alloc()).ok_or("no store")?;
+    assert_eq!(rt; first_wrong_of(rt.alloc(), &store), None);
     Ok(())
 }

@@ -1,9 +1,8 @@
 //! The image of a small store: its fields, and helpers to save and load it.
 
-use crate::stores::{NEW_LINES, OLD_LINES, ONE_RULE, at_second, store_of, write_all};
-use std::alloc::Global;
-use std::test::Fail;
-use ts_core::{Sink, Source};
+use crate::stores::{NEW_LINES, ONE_RULE, at_second, fill_and_retain, store_of, write_all};
+use std::alloc::{Allocator, Global};
+use ts_core::{Sink, Source, Time};
 use ts_image::{LoadFault, load, save};
 use ts_store::Store;
 
@@ -27,32 +26,38 @@ pub(crate) const FIELDS: [usize; 68] = [
 /// Length of that image.
 pub(crate) const IMAGE_LEN: usize = 537;
 
+/// Writes the lines of the image's store; returns true if all calls succeeded.
+fn work(alloc: Global, store: &mut Store<Global>, now: Time) -> bool {
+    fill_and_retain(alloc, store, now) && write_all(alloc, store, &NEW_LINES[..4])
+}
+
 /// Returns a store with two series and three cells; one of these has a raw point too.
-pub(crate) fn worked_store(alloc: Global) -> Result<Store<Global>, Fail> {
+pub(crate) fn worked_store(alloc: Global) -> Option<Store<Global>> {
     let now = at_second(200)?;
     let mut store = store_of(alloc, alloc, ONE_RULE)?;
-    if !write_all(alloc, &mut store, &OLD_LINES)? || store.retain(now).is_err() {
-        Err("a refused line")?;
+    if work(alloc, &mut store, now) {
+        Some(store)
+    } else {
+        None
     }
-    if !write_all(alloc, &mut store, &NEW_LINES[..4])? {
-        Err("a refused line")?;
-    }
-    Ok(store)
 }
 
 /// Returns the image of a store.
-pub(crate) fn saved(alloc: Global, store: &Store<Global>) -> Result<Vec<u8>, Fail> {
-    let mut sink = Sink::new(Vec::new(alloc));
-    if save(alloc, store, &mut sink).is_err() {
-        Err("no image")?;
-    }
-    Ok(sink.into_inner())
+pub(crate) fn saved<A: Allocator + Copy>(
+    alloc: A,
+    json: Global,
+    store: &Store<A>,
+) -> Option<Vec<u8>> {
+    let mut sink = Sink::new(Vec::new(json));
+    let is_saved = save(alloc, store, &mut sink).is_ok();
+    let image = sink.into_inner();
+    if is_saved { Some(image) } else { None }
 }
 
 /// Returns the image of `worked_store`.
-pub(crate) fn worked_image(alloc: Global) -> Result<Vec<u8>, Fail> {
+pub(crate) fn worked_image(alloc: Global) -> Option<Vec<u8>> {
     let store = worked_store(alloc)?;
-    saved(alloc, &store)
+    saved(alloc, alloc, &store)
 }
 
 /// Loads the image in some bytes.

@@ -5,15 +5,13 @@ ghost use Rattle.ts_core.specs.aggregates.Aggregates.{empty_aggregate};
 ghost use Rattle.ts_core.specs.store.TwoParts.{both_parts};
 ghost use Rattle.ts_store.specs.store.ColumnStates.{with_points};
 
-use crate::stores::{store_of, write};
+use crate::stores::{at_second, planned, store_of, write_all};
 use arrayvec::ArrayVec;
-use std::alloc::{Allocator, Global};
-use std::test::Fail;
-use ts_check::{Checked, check};
-use ts_core::{KeyRef, Marks, Settings, Time, TimeUnit};
-use ts_exec::{count_points, execute_selected, fill};
+use std::alloc::{AllocError, Allocator, Global};
+use ts_check::Checked;
+use ts_core::{Fill, KeyRef, Marks, Settings, Time, TimeUnit};
+use ts_exec::{Table, count_points, execute_selected, fill};
 use ts_line::{Line, read_line};
-use ts_plan::plan;
 use ts_ql::{Query, parse};
 use ts_raw::{Column, ColumnId, Index, PlainColumn, Points};
 use ts_reply::{Epoch, Outcome, reply_json};
@@ -93,198 +91,249 @@ impl<'a, A: Allocator + Copy> View<A> for Visited<'a, A> {
 }
 
 /// Returns the line of the series with this number. Half of them have a tag `rack`, and one alone has a tag `odd`.
-fn line_of(alloc: Global, number: usize) -> Result<String, Fail> {
+fn line_of(alloc: Global, number: usize) -> Result<String, AllocError> {
     let group = number % 100;
     if number == 77_707 {
-        return Ok(format!(in alloc; "cpu,host=h{number},g=g{group},odd=x v=1i 10")?);
+        return format!(in alloc; "cpu,host=h{number},g=g{group},odd=x v=1i 10");
     }
     if number % 2 == 0 {
-        return Ok(format!(in alloc; "cpu,host=h{number},g=g{group},rack=r{group} v=1i 10")?);
+        return format!(in alloc; "cpu,host=h{number},g=g{group},rack=r{group} v=1i 10");
     }
-    Ok(format!(in alloc; "cpu,host=h{number},g=g{group} v=1i 10")?)
+    format!(in alloc; "cpu,host=h{number},g=g{group} v=1i 10")
 }
 
-/// Registers the series of a line, with a column of its field `v`.
-fn register_line(index: &mut Index<Global>, line: &Line<'_, Global>) -> Result<(), Fail> {
+/// Registers the series of a line, with a column of its field `v`; returns true if it was accepted.
+fn register_line(index: &mut Index<Global>, line: &Line<'_, Global>) -> bool {
     if line.tags().len() > 8 {
-        return Err("many tags")?;
+        return false;
     }
     let mut tags = ArrayVec::<_, 8>::new();
     line.tags_by_key(&mut tags);
     match index.register(&KeyRef::new(line.measurement().text(), &tags)) {
-        Ok(series) => {
-            index.add_column(series, "v")?;
-            Ok(())
-        }
-        Err(_) => Err("a refused series")?,
+        Ok(series) => index.add_column(series, "v").is_ok(),
+        Err(_) => false,
     }
 }
 
-/// Registers the series of a line's text.
-fn register(alloc: Global, index: &mut Index<Global>, text: &str) -> Result<(), Fail> {
+/// Registers the series of a line's text; returns true if it was accepted.
+fn register(alloc: Global, index: &mut Index<Global>, text: &str) -> bool {
     match read_line(alloc, text, TimeUnit::Seconds, Time::least()) {
         Ok(Some(line)) => register_line(index, &line),
-        _ => Err("no line")?,
+        _ => false,
     }
 }
 
-/// Writes a line to a store, and registers its series in an index.
-fn add(
+/// Writes a line to a store, and registers its series in an index; returns true if both accepted it.
+fn add(alloc: Global, store: &mut Store<Global>, index: &mut Index<Global>, text: &str) -> bool {
+    write_all(alloc, store, &[text]) && register(alloc, index, text)
+}
+
+/// Adds the series with a number.
+fn add_number(
     alloc: Global,
     store: &mut Store<Global>,
     index: &mut Index<Global>,
-    text: &str,
-) -> Result<(), Fail> {
-    if !write(alloc, store, text)? {
-        Err("a refused line")?;
+    number: usize,
+) -> bool {
+    match line_of(alloc, number) {
+        Ok(text) => add(alloc, store, index, text.as_str()),
+        Err(_) => false,
     }
-    register(alloc, index, text)
 }
 
 /// Adds all series.
-fn add_all(
-    alloc: Global,
-    store: &mut Store<Global>,
-    index: &mut Index<Global>,
-) -> Result<(), Fail> {
+fn add_all(alloc: Global, store: &mut Store<Global>, index: &mut Index<Global>) -> bool {
     for number in 0..SERIES {
-        let text = line_of(alloc, number)?;
-        add(alloc, store, index, text.as_str())?;
+        if !add_number(alloc, store, index, number) {
+            return false;
+        }
     }
-    Ok(())
+    true
 }
 
 /// Returns a column with the point of each line.
-fn one_point(alloc: Global) -> Result<PlainColumn<Global>, Fail> {
-    let time = Time::new(10_000_000_000).ok_or("a time")?;
+fn one_point(alloc: Global) -> Option<PlainColumn<Global>> {
+    let time = at_second(10)?;
     let mut column = PlainColumn::new(alloc);
-    column.prepare(time, 1)?;
+    if column.prepare(time, 1).is_err() {
+        return None;
+    }
     column.commit();
-    Ok(column)
+    Some(column)
+}
+
+/// Returns the text of the query with these conditions and group tags.
+fn query_text(alloc: Global, conditions: &str, tags: &str) -> Result<String, AllocError> {
+    format!(in alloc;
+        "SELECT COUNT(v),SUM(v) FROM cpu WHERE time >= 0 AND time < 1m {conditions} GROUP BY time(1m){tags}"
+    )
+}
+
+/// Returns the query of a text.
+fn parsed(alloc: Global, text: &str) -> Option<Query<Global>> {
+    match parse(alloc, text, Time::least()) {
+        Ok(queries) => queries.into_iter().next(),
+        Err(_) => None,
+    }
 }
 
 /// Returns the query with these conditions and group tags.
-fn query_of(alloc: Global, conditions: &str, tags: &str) -> Result<Query<Global>, Fail> {
-    let text = format!(in alloc;
-        "SELECT COUNT(v),SUM(v) FROM cpu WHERE time >= 0 AND time < 1m {conditions} GROUP BY time(1m){tags}"
-    )?;
-    match parse(alloc, text.as_str(), Time::least()) {
-        Ok(queries) => Ok(queries.into_iter().next().ok_or("no query")?),
-        Err(_) => Err("a refused query")?,
+fn query_of(alloc: Global, conditions: &str, tags: &str) -> Option<Query<Global>> {
+    match query_text(alloc, conditions, tags) {
+        Ok(text) => parsed(alloc, text.as_str()),
+        Err(_) => None,
     }
 }
 
-/// Plans a query over a store, and checks the plan.
-fn planned(
-    alloc: Global,
-    store: &Store<Global>,
-    query: &Query<Global>,
-) -> Result<Checked<Global>, Fail> {
-    let certificate = match plan(alloc, store.settings(), store.marks(), query) {
-        Ok(certificate) => certificate,
-        Err(_) => Err("no plan")?,
-    };
-    match check(alloc, store.settings(), store.marks(), query, &certificate) {
-        Ok(checked) => Ok(checked),
-        Err(_) => Err("no valid plan")?,
+/// Returns the plan of such a query.
+fn plan_of(alloc: Global, store: &Store<Global>, asked: &Asked) -> Option<Checked<Global>> {
+    match query_of(alloc, asked.0, asked.1) {
+        Some(query) => planned(alloc, store, &query),
+        None => None,
     }
+}
+
+/// Returns a table as JSON.
+fn body_of(alloc: Global, table: Table<'_, Global>, filling: Fill) -> Option<String> {
+    let outcomes = [Outcome::Rows(fill(table, filling))];
+    reply_json(alloc, &outcomes, Epoch::Units(TimeUnit::Seconds)).ok()
 }
 
 /// Returns the answer to a plan as JSON.
-fn body_of<V: View<Global>>(
-    alloc: Global,
-    view: &V,
-    plan: &Checked<Global>,
-) -> Result<String, Fail> {
+fn answer_of<V: View<Global>>(alloc: Global, view: &V, plan: &Checked<Global>) -> Option<String> {
     match execute_selected(alloc, view, plan) {
-        Ok(table) => {
-            let rows = fill(table, plan.query().fill());
-            let outcomes = [Outcome::Rows(rows)];
-            Ok(reply_json(alloc, &outcomes, Epoch::Units(TimeUnit::Seconds))?)
-        }
-        Err(_) => Err("no answer")?,
+        Ok(table) => body_of(alloc, table, plan.query().fill()),
+        Err(_) => None,
     }
 }
 
-/// Returns true if a store and another view answer a query alike, and by its number of points.
+/// Returns true if a view answers a plan by this text.
+fn has_answer<V: View<Global>>(
+    alloc: Global,
+    view: &V,
+    plan: &Checked<Global>,
+    body: &str,
+) -> bool {
+    match answer_of(alloc, view, plan) {
+        Some(found) => found.as_str() == body,
+        None => false,
+    }
+}
+
+/// Returns true if a store and another view answer a plan alike.
 fn are_alike<V: View<Global>>(
     alloc: Global,
     store: &Store<Global>,
     view: &V,
-    asked: Asked,
-) -> Result<bool, Fail> {
-    let query = query_of(alloc, asked.0, asked.1)?;
-    let plan = planned(alloc, store, &query)?;
-    let body = body_of(alloc, store, &plan)?;
-    let same = body == body_of(alloc, view, &plan)?;
-    Ok(same && count_points(store, &plan).is_ok_and(|count| count == asked.2))
+    plan: &Checked<Global>,
+) -> bool {
+    match answer_of(alloc, store, plan) {
+        Some(body) => has_answer(alloc, view, plan, body.as_str()),
+        None => false,
+    }
 }
 
-/// Returns the index of the first query that a store and another view don't answer alike, or not by its number of
-/// points.
-fn first_unlike<V: View<Global>>(
+/// Returns true if a store has this number of points for a plan.
+fn has_count(store: &Store<Global>, plan: &Checked<Global>, points: u64) -> bool {
+    match count_points(store, plan) {
+        Ok(count) => count == points,
+        Err(_) => false,
+    }
+}
+
+/// Returns true if a store and another view answer a query alike, and by its number of points.
+fn is_right<V: View<Global>>(
+    alloc: Global,
+    store: &Store<Global>,
+    view: &V,
+    asked: &Asked,
+) -> bool {
+    match plan_of(alloc, store, asked) {
+        Some(plan) => are_alike(alloc, store, view, &plan) && has_count(store, &plan, asked.2),
+        None => false,
+    }
+}
+
+/// Returns the number of the first queries, up to the first one that a store and another view don't answer alike, or
+/// not by its number of points.
+fn count_right<V: View<Global>>(
     alloc: Global,
     store: &Store<Global>,
     view: &V,
     queries: &[Asked],
-) -> Result<Option<usize>, Fail> {
+) -> usize {
     for (at, asked) in queries.iter().enumerate() {
-        if !are_alike(alloc, store, view, *asked)? {
-            return Ok(Some(at));
+        if !is_right(alloc, store, view, asked) {
+            return at;
         }
     }
-    Ok(None)
+    queries.len()
 }
 
-/// Returns the index of the first query that a store and a view that visits each column of an index don't answer alike.
-fn first_wrong(
+/// Returns the same of a store and a view that visits each column of an index.
+fn right_of(
     alloc: Global,
     store: &Store<Global>,
     index: &Index<Global>,
     queries: &[Asked],
-) -> Result<Option<usize>, Fail> {
+) -> Option<usize> {
+    let points = one_point(alloc)?;
     let visited = Visited {
         settings: store.settings(),
         marks: store.marks(),
         index,
-        points: one_point(alloc)?,
+        points,
     };
-    first_unlike(alloc, store, &visited, queries)
+    Some(count_right(alloc, store, &visited, queries))
 }
 
-/// Adds all series, and returns the index of the first of their queries that isn't answered as expected.
-fn first_wrong_of_all(
+/// Adds all series; returns the number of the first queries that are right.
+fn right_of_all(
     alloc: Global,
     store: &mut Store<Global>,
     index: &mut Index<Global>,
-) -> Result<Option<usize>, Fail> {
-    add_all(alloc, store, index)?;
-    first_wrong(alloc, store, index, &QUERIES)
+) -> Option<usize> {
+    if add_all(alloc, store, index) {
+        right_of(alloc, store, index, &QUERIES)
+    } else {
+        None
+    }
 }
 
-/// Adds the later series, and returns the index of the first of the later queries that isn't answered as expected.
-fn first_wrong_later(
+/// Adds the later series; returns the number of the first of the later queries that are right.
+fn right_later(
     alloc: Global,
     store: &mut Store<Global>,
     index: &mut Index<Global>,
-) -> Result<Option<usize>, Fail> {
-    add(alloc, store, index, LATER_LINE)?;
-    first_wrong(alloc, store, index, &LATER)
+) -> Option<usize> {
+    if add(alloc, store, index, LATER_LINE) {
+        right_of(alloc, store, index, &LATER)
+    } else {
+        None
+    }
 }
 
-/// Returns the same of the queries of all series, and of the later queries.
-fn first_wrong_of_both(alloc: Global) -> Result<(Option<usize>, Option<usize>), Fail> {
+/// Returns both numbers for a store and an index.
+fn right_in(
+    alloc: Global,
+    store: &mut Store<Global>,
+    index: &mut Index<Global>,
+) -> (Option<usize>, Option<usize>) {
+    let first = right_of_all(alloc, store, index);
+    (first, right_later(alloc, store, index))
+}
+
+/// Returns both numbers for an empty store and an empty index.
+fn right_of_both(alloc: Global) -> Option<(Option<usize>, Option<usize>)> {
     let mut store = store_of(alloc, alloc, SETTINGS)?;
     let mut index = Index::new(alloc);
-    let first = first_wrong_of_all(alloc, &mut store, &mut index)?;
-    let later = first_wrong_later(alloc, &mut store, &mut index)?;
-    Ok((first, later))
+    Some(right_in(alloc, &mut store, &mut index))
 }
 
 #[test]
-fn an_index_changes_no_answer(rt: HostRuntime) -> Result<(), Fail> {
-    let (first, later) = first_wrong_of_both(rt.alloc())?;
-    assert_eq!(rt; first, None);
-    assert_eq!(rt; later, None);
-    Ok(())
+fn an_index_changes_no_answer(rt: HostRuntime) {
+    assert_eq!(rt;
+        right_of_both(rt.alloc()),
+        Some((Some(QUERIES.len()), Some(LATER.len())))
+    );
 }

@@ -1,6 +1,5 @@
 //! Calls with each of their allocation requests refused in turn.
 
-mod columns;
 mod images;
 mod queries;
 mod requests;

@@ -1,11 +1,11 @@
 //! Scripts over devices that transfer bytes in pieces or fail: a script with a run of retention, and the output of each
 //! line.
 
-use crate::devices::{Failure, NEVER, PieceReader, PieceWriter};
 use std::alloc::{AllocError, Global};
 use std::test::Fail;
 use ts_core::{Sink, Source};
 use ts_script::{RunFault, run, run_within};
+use ts_testkit::{Failure, NEVER, PieceReader, PieceWriter};
 
 /// The lines of the script, and the output of each.
 const SCRIPT: [(&str, &str); 11] = [
@@ -31,26 +31,48 @@ const SCRIPT: [(&str, &str); 11] = [
     ),
 ];
 
-/// Returns the script's bytes.
-fn script(alloc: Global) -> Result<Vec<u8>, AllocError> {
-    let mut bytes = Vec::new(alloc);
-    for (line, _) in SCRIPT {
-        bytes.extend_from_slice(line.as_bytes())?;
-    }
-    Ok(bytes)
+/// The script's bytes, and its output.
+#[derive(Drop)]
+struct Texts {
+    script: Vec<u8>,
+    output: Vec<u8>,
 }
 
-/// Returns the output of the lines within the first `read` bytes.
-fn answers_to(alloc: Global, read: usize) -> Result<Vec<u8>, AllocError> {
-    let mut answers = Vec::new(alloc);
-    let mut end: usize = 0;
-    for (line, answer) in SCRIPT {
-        end = end.saturating_add(line.len());
-        if end <= read {
-            answers.extend_from_slice(answer.as_bytes())?;
+impl Texts {
+    /// Appends the lines, and the output of each.
+    fn append(&mut self) -> Result<(), AllocError> {
+        for (line, output) in &SCRIPT {
+            self.script.extend_from_slice(line.as_bytes())?;
+            self.output.extend_from_slice(output.as_bytes())?;
+        }
+        Ok(())
+    }
+
+    /// Returns both; none when out of memory.
+    fn new(alloc: Global) -> Option<Texts> {
+        let mut texts = Texts {
+            script: Vec::new(alloc),
+            output: Vec::new(alloc),
+        };
+        if texts.append().is_ok() {
+            Some(texts)
+        } else {
+            None
         }
     }
-    Ok(answers)
+
+    /// Returns the output of the lines within the first `read` bytes.
+    fn output_to(&self, read: usize) -> Option<&[u8]> {
+        let mut end: usize = 0;
+        let mut written: usize = 0;
+        for (line, output) in &SCRIPT {
+            end = end.saturating_add(line.len());
+            if end <= read {
+                written = written.saturating_add(output.len());
+            }
+        }
+        self.output.get(..written)
+    }
 }
 
 /// A run of a script: its result, and its devices after it.
@@ -61,7 +83,27 @@ struct Played<'a> {
     writer: PieceWriter,
 }
 
+impl<'a> Played<'a> {
+    /// Returns true if exactly these bytes are written.
+    fn has_written(&self, bytes: Option<&[u8]>) -> bool {
+        Some(self.writer.written.as_slice()) == bytes
+    }
+}
+
 /// Runs a script with at most `reads` reads, or with the usual limit.
+fn run_up_to(
+    alloc: Global,
+    source: &mut Source<PieceReader<'_>>,
+    sink: &mut Sink<PieceWriter>,
+    reads: Option<u64>,
+) -> Result<(), RunFault> {
+    match reads {
+        Some(reads) => run_within(alloc, source, sink, reads),
+        None => run(alloc, source, sink),
+    }
+}
+
+/// Runs a script; returns its devices, too.
 fn play<'a>(
     alloc: Global,
     reader: PieceReader<'a>,
@@ -70,10 +112,7 @@ fn play<'a>(
 ) -> Played<'a> {
     let mut source = Source::new(reader);
     let mut sink = Sink::new(writer);
-    let result = match reads {
-        Some(reads) => run_within(alloc, &mut source, &mut sink, reads),
-        None => run(alloc, &mut source, &mut sink),
-    };
+    let result = run_up_to(alloc, &mut source, &mut sink, reads);
     Played {
         result,
         reader: source.into_inner(),
@@ -81,114 +120,139 @@ fn play<'a>(
     }
 }
 
-/// Returns a writer that accepts all bytes.
-fn ample(alloc: Global) -> PieceWriter {
-    PieceWriter::new(Vec::new(alloc), NEVER, NEVER, Failure::Error)
+/// Runs a script of which `piece` bytes are read at a time, to a writer that accepts all bytes.
+fn play_all(
+    alloc: Global,
+    script: &[u8],
+    piece: usize,
+    fails_at: usize,
+    reads: Option<u64>,
+) -> Played<'_> {
+    let reader = PieceReader::new(script, piece, fails_at);
+    let writer = PieceWriter::new(Vec::new(alloc), NEVER, NEVER, Failure::Error);
+    play(alloc, reader, writer, reads)
 }
 
 /// Returns true if a failed read ends the run: nothing is read after it, and the output of the lines before it is
 /// written.
-fn stops_at_read(
-    alloc: Global,
-    script: &[u8],
-    piece: usize,
-    call: usize,
-) -> Result<bool, AllocError> {
-    let played = play(
-        alloc,
-        PieceReader::new(script, piece, call),
-        ample(alloc),
-        None,
-    );
-    let answers = answers_to(alloc, call.saturating_mul(piece))?;
-    Ok(
-        matches!(played.result, Err(RunFault::Reader))
-            && played.reader.calls == call.saturating_add(1)
-            && played.writer.written == answers,
-    )
+fn stops_at_read(alloc: Global, texts: &Texts, piece: usize, call: usize) -> bool {
+    let played = play_all(alloc, &texts.script, piece, call, None);
+    matches!(played.result, Err(RunFault::Reader))
+        && played.reader.calls == call.saturating_add(1)
+        && played.has_written(texts.output_to(call.saturating_mul(piece)))
+}
+
+/// Returns the first of the reads of `piece` bytes that doesn't end the run if it fails.
+fn first_wrong_read(alloc: Global, texts: &Texts, piece: usize) -> Option<usize> {
+    // one call more than there are pieces: it sees the end
+    for call in 0..=texts.script.len().div_ceil(piece.max(1)) {
+        if !stops_at_read(alloc, texts, piece, call) {
+            return Some(call);
+        }
+    }
+    None
 }
 
 #[test]
 fn a_failed_read_stops_a_script(rt: HostRuntime) -> Result<(), Fail> {
-    let script = script(rt.alloc())?;
+    let texts = Texts::new(rt.alloc()).ok_or("no texts")?;
     for piece in [1, 7, 100, 1_000] {
-        // one call more than there are pieces: it sees the end
-        for call in 0..=script.len().div_ceil(piece.max(1)) {
-            assert!(rt;
-                stops_at_read(rt.alloc(), &script, piece, call)?,
-                "{piece} {call}"
-            );
-        }
+        assert_eq!(rt;
+            first_wrong_read(rt.alloc(), &texts, piece),
+            None,
+            "{piece}"
+        );
     }
     Ok(())
 }
 
 /// Returns true if a failed write ends the run, when exactly the bytes before it are written.
-fn stops_at_write(alloc: Global, script: &[u8], answers: &[u8], piece: usize, call: usize) -> bool {
-    let mut failure = Failure::Error;
-    for _ in 0..2 {
-        let writer = PieceWriter::new(Vec::new(alloc), 1, call, failure);
-        let played = play(alloc, PieceReader::new(script, piece, NEVER), writer, None);
-        if !matches!(played.result, Err(RunFault::Writer))
-            || played.writer.calls != call.saturating_add(1)
-            || Some(played.writer.written.as_slice()) != answers.get(..call)
+fn stops_at_write(
+    alloc: Global,
+    texts: &Texts,
+    piece: usize,
+    call: usize,
+    failure: Failure,
+) -> bool {
+    let reader = PieceReader::new(&texts.script, piece, NEVER);
+    let writer = PieceWriter::new(Vec::new(alloc), 1, call, failure);
+    let played = play(alloc, reader, writer, None);
+    matches!(played.result, Err(RunFault::Writer))
+        && played.writer.calls == call.saturating_add(1)
+        && played.has_written(texts.output.get(..call))
+}
+
+/// Returns the first of the writes that doesn't end the run if it fails.
+fn first_wrong_write(alloc: Global, texts: &Texts, piece: usize) -> Option<usize> {
+    for call in 0..texts.output.len() {
+        if !stops_at_write(alloc, texts, piece, call, Failure::Error)
+            || !stops_at_write(alloc, texts, piece, call, Failure::Nothing)
         {
-            return false;
+            return Some(call);
         }
-        failure = Failure::Nothing;
     }
-    true
+    None
 }
 
 #[test]
 fn a_failed_write_stops_a_script(rt: HostRuntime) -> Result<(), Fail> {
-    let script = script(rt.alloc())?;
-    let answers = answers_to(rt.alloc(), script.len())?;
+    let texts = Texts::new(rt.alloc()).ok_or("no texts")?;
     for piece in [1, 1_000] {
-        for call in 0..answers.len() {
-            assert!(rt;
-                stops_at_write(rt.alloc(), &script, &answers, piece, call),
-                "{piece} {call}"
-            );
-        }
+        assert_eq!(rt;
+            first_wrong_write(rt.alloc(), &texts, piece),
+            None,
+            "{piece}"
+        );
     }
     Ok(())
 }
 
 /// Returns true if a script that is read byte by byte hasn't ended within `reads` reads, and its lines up to there are
 /// answered.
-fn runs_out_of_reads(alloc: Global, script: &[u8], reads: usize) -> Result<bool, AllocError> {
-    let reader = PieceReader::new(script, 1, NEVER);
-    let played = play(alloc, reader, ample(alloc), Some(reads as u64));
-    Ok(
-        matches!(played.result, Err(RunFault::TooManyReads))
-            && played.reader.calls == reads
-            && played.writer.written == answers_to(alloc, reads)?,
-    )
+fn runs_out_of_reads(alloc: Global, texts: &Texts, reads: usize) -> bool {
+    let played = play_all(alloc, &texts.script, 1, NEVER, Some(reads as u64));
+    matches!(played.result, Err(RunFault::TooManyReads))
+        && played.reader.calls == reads
+        && played.has_written(texts.output_to(reads))
+}
+
+/// Returns the least number of reads, of up to the script's length, that doesn't run out.
+fn first_enough(alloc: Global, texts: &Texts) -> Option<usize> {
+    for reads in 0..=texts.script.len() {
+        if !runs_out_of_reads(alloc, texts, reads) {
+            return Some(reads);
+        }
+    }
+    None
+}
+
+/// Returns true if a script that is read byte by byte ends within one read more than it has bytes.
+fn ends_within_reads(alloc: Global, texts: &Texts) -> bool {
+    let reads = (texts.script.len() as u64).saturating_add(1);
+    let played = play_all(alloc, &texts.script, 1, NEVER, Some(reads));
+    played.result.is_ok() && played.writer.written == texts.output
 }
 
 #[test]
 fn a_script_ends_within_its_reads(rt: HostRuntime) -> Result<(), Fail> {
-    let alloc = rt.alloc();
-    let script = script(alloc)?;
-    for reads in 0..=script.len() {
-        assert!(rt; runs_out_of_reads(alloc, &script, reads)?, "{reads}");
-    }
-    let reader = PieceReader::new(&script, 1, NEVER);
-    let reads = (script.len() as u64).saturating_add(1);
-    let played = play(alloc, reader, ample(alloc), Some(reads));
-    assert!(rt; played.result.is_ok());
-    assert!(rt; played.writer.written == answers_to(alloc, script.len())?);
+    let texts = Texts::new(rt.alloc()).ok_or("no texts")?;
+    assert_eq!(rt; first_enough(rt.alloc(), &texts), None);
+    assert!(rt; ends_within_reads(rt.alloc(), &texts));
     Ok(())
+}
+
+/// Returns true if 100 reads of blank lines, byte by byte, are not enough; nothing more is read, and nothing written.
+fn stops_after_reads(alloc: Global, lines: &[u8]) -> bool {
+    let played = play_all(alloc, lines, 1, NEVER, Some(100));
+    matches!(played.result, Err(RunFault::TooManyReads))
+        && played.reader.calls == 100
+        && played.reader.left.len() == 900
+        && played.writer.calls == 0
 }
 
 #[test]
 fn blank_lines_have_no_end(rt: HostRuntime) -> Result<(), Fail> {
     let lines = vec![in rt.alloc(); b'\n'; 1_000]?;
-    let reader = PieceReader::new(&lines, 1, NEVER);
-    let played = play(rt.alloc(), reader, ample(rt.alloc()), Some(100));
-    assert!(rt; matches!(played.result, Err(RunFault::TooManyReads)));
-    assert!(rt; played.reader.calls == 100 && played.reader.left.len() == 900);
-    assert!(rt; played.writer.calls == 0);
+    assert!(rt; stops_after_reads(rt.alloc(), &lines));
     Ok(())
 }

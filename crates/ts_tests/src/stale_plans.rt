@@ -1,8 +1,9 @@
 //! Plans that were checked before a run of retention or a change of the rules, and are executed after it.
 
-use crate::stores::{OLD_LINES, ONE_RULE, at_second, certified, planned, store_of, write_all};
+use crate::stores::{
+    OLD_LINES, ONE_RULE, at_second, count_plan, fill_and_retain, retain, store_of, write_all,
+};
 use std::alloc::{Allocator, Global};
-use std::test::Fail;
 use ts_check::Checked;
 use ts_core::Time;
 use ts_exec::{ExecFault, count_points, execute};
@@ -25,9 +26,12 @@ const MINUTES: &str =
 /// Index of the first whole minute that has valid times.
 const FIRST_MINUTE: i128 = -153_722_868;
 
-/// Changes of the rules: the name that is dropped, the rule that is added, and all low indices after both. The raw mark
-/// is at 80 seconds, so a rule that is added begins at its first bucket from there on.
-const CHANGES: [(Option<&str>, Option<&str>, &[i128]); 3] = [
+/// A change of the rules: the name that is dropped, the rule that is added, and all low indices after both.
+type Change = (Option<&'static str>, Option<&'static str>, &'static [i128]);
+
+/// Changes of the rules. The raw mark is at 80 seconds, so a rule that is added begins at its first bucket from there
+/// on.
+const CHANGES: [Change; 3] = [
     (Some("m1"), None, &[]),
     (None, Some(HOURS), &[FIRST_MINUTE, 1]),
     (Some("m1"), Some(MINUTES), &[2]),
@@ -54,69 +58,59 @@ fn marks_around<A: Allocator + Copy>(
     now: Time,
 ) -> Option<(Option<i64>, Option<i64>)> {
     let before = stale_mark(alloc, store, plan);
-    if is_stale(store, plan) || store.retain(now).is_err() || !is_stale(store, plan) {
+    if is_stale(store, plan) || !retain(store, now) || !is_stale(store, plan) {
         return None;
     }
     Some((before, stale_mark(alloc, store, plan)))
 }
 
-/// Checks the plan of a certificate, or else the planner's.
-fn checked(
+/// Returns the marks in the results of the count of two minutes before a run at 200 seconds, and after it. The plan is
+/// that of a certificate, or else the planner's.
+fn marks_in(
     alloc: Global,
-    store: &Store<Global>,
+    store: &mut Store<Global>,
     certificate: Option<&str>,
-) -> Option<Checked<Global>> {
-    match certificate {
-        Some(text) => certified(alloc, store, 120, text),
-        None => planned(alloc, store, 120),
-    }
+) -> Option<(Option<i64>, Option<i64>)> {
+    let now = at_second(200)?;
+    let plan = count_plan(alloc, store, 120, certificate)?;
+    marks_around(alloc, store, &plan, now)
 }
 
-/// Returns the marks in the results of a plan before a run at 200 seconds, and after it.
-fn marks_of(
-    alloc: Global,
-    certificate: Option<&str>,
-) -> Result<Option<(Option<i64>, Option<i64>)>, Fail> {
-    let now = at_second(200)?;
+/// Returns these marks of a store with lines.
+fn marks_of(alloc: Global, certificate: Option<&str>) -> Option<(Option<i64>, Option<i64>)> {
     let mut store = store_of(alloc, alloc, ONE_RULE)?;
-    if !write_all(alloc, &mut store, &OLD_LINES)? {
-        Err("a refused line")?;
+    if write_all(alloc, &mut store, &OLD_LINES) {
+        marks_in(alloc, &mut store, certificate)
+    } else {
+        None
     }
-    let plan = checked(alloc, &store, certificate).ok_or("no plan")?;
-    Ok(marks_around(alloc, &mut store, &plan, now))
 }
 
 #[test]
-fn a_run_makes_plans_stale(rt: HostRuntime) -> Result<(), Fail> {
+fn a_run_makes_plans_stale(rt: HostRuntime) {
     for certificate in [Some(RAW), None] {
-        let marks = marks_of(rt.alloc(), certificate)?;
         assert_eq!(rt;
-            marks,
+            marks_of(rt.alloc(), certificate),
             Some((None, Some(80_000_000_000))),
             "{certificate:?}"
         );
     }
-    Ok(())
 }
 
-/// Drops the rule of a name, and adds a rule.
-fn change_rules(
-    alloc: Global,
-    store: &mut Store<Global>,
-    dropped: Option<&str>,
-    added: Option<&str>,
-) -> Result<(), Fail> {
-    if let Some(name) = dropped {
-        if store.drop_rule(name).is_err() {
-            Err("an unknown rule")?;
-        }
+/// Drops the rule of a name, if there is one; returns true if the store had it.
+fn drop_rule(store: &mut Store<Global>, name: Option<&str>) -> bool {
+    match name {
+        Some(name) => store.drop_rule(name).is_ok(),
+        None => true,
     }
-    if let Some(rule) = added {
-        if store.add_rule_text(alloc, alloc, rule).is_err() {
-            Err("a refused rule")?;
-        }
+}
+
+/// Adds a rule, if there is one; returns true if it was added.
+fn add_rule(alloc: Global, store: &mut Store<Global>, rule: Option<&str>) -> bool {
+    match rule {
+        Some(rule) => store.add_rule_text(alloc, alloc, rule).is_ok(),
+        None => true,
     }
-    Ok(())
 }
 
 /// Returns true if a plan is stale: its error has a raw mark at 80 seconds, these low indices and as many rules.
@@ -136,14 +130,9 @@ fn is_stale_with(
     }
 }
 
-/// Returns a store whose points are dropped: a run of retention at 200 seconds follows the lines.
-fn dropped_points(alloc: Global) -> Result<Store<Global>, Fail> {
-    let now = at_second(200)?;
-    let mut store = store_of(alloc, alloc, ONE_RULE)?;
-    if !write_all(alloc, &mut store, &OLD_LINES)? || store.retain(now).is_err() {
-        Err("a refused line")?;
-    }
-    Ok(store)
+/// Returns true if a plan is executed, and its points are counted.
+fn is_executed(alloc: Global, store: &Store<Global>, plan: &Checked<Global>) -> bool {
+    !is_stale(store, plan) && execute(alloc, store, plan).is_ok()
 }
 
 /// Returns true if a plan is executed before a change of the rules, and is stale after it.
@@ -151,24 +140,45 @@ fn is_stale_after(
     alloc: Global,
     store: &mut Store<Global>,
     plan: &Checked<Global>,
-    change: (Option<&str>, Option<&str>, &[i128]),
-) -> Result<bool, Fail> {
-    if is_stale(store, plan) || execute(alloc, store, plan).is_err() {
-        return Ok(false);
+    change: &Change,
+) -> bool {
+    is_executed(alloc, store, plan)
+        && drop_rule(store, change.0)
+        && add_rule(alloc, store, change.1)
+        && is_stale(store, plan)
+        && is_stale_with(alloc, store, plan, change.2)
+}
+
+/// Returns true if this holds of the plan of the count of two minutes.
+fn becomes_stale(
+    alloc: Global,
+    store: &mut Store<Global>,
+    certificate: Option<&str>,
+    change: &Change,
+) -> bool {
+    match count_plan(alloc, store, 120, certificate) {
+        Some(plan) => is_stale_after(alloc, store, &plan, change),
+        None => false,
     }
-    change_rules(alloc, store, change.0, change.1)?;
-    Ok(is_stale(store, plan) && is_stale_with(alloc, store, plan, change.2))
+}
+
+/// Returns true if this holds over a store whose points are dropped: a run of retention at 200 seconds follows the
+/// lines.
+fn makes_stale(alloc: Global, certificate: Option<&str>, change: &Change) -> Option<bool> {
+    let now = at_second(200)?;
+    let mut store = store_of(alloc, alloc, ONE_RULE)?;
+    Some(
+        fill_and_retain(alloc, &mut store, now)
+            && becomes_stale(alloc, &mut store, certificate, change),
+    )
 }
 
 #[test]
-fn a_change_of_the_rules_makes_plans_stale(rt: HostRuntime) -> Result<(), Fail> {
+fn a_change_of_the_rules_makes_plans_stale(rt: HostRuntime) {
     for certificate in [Some(CELLS), None] {
-        for change in CHANGES {
-            let mut store = dropped_points(rt.alloc())?;
-            let plan = checked(rt.alloc(), &store, certificate).ok_or("no plan")?;
-            let stale = is_stale_after(rt.alloc(), &mut store, &plan, change)?;
-            assert!(rt; stale, "{certificate:?} {change:?}");
+        for change in &CHANGES {
+            let stale = makes_stale(rt.alloc(), certificate, change);
+            assert_eq!(rt; stale, Some(true), "{certificate:?} {change:?}");
         }
     }
-    Ok(())
 }

@@ -1,8 +1,7 @@
 //! Stores with settings and lines, and plans of counts.
 
 use std::alloc::{AllocError, Allocator, Global};
-use std::test::Fail;
-use ts_check::{Checked, check, read_certificate};
+use ts_check::{Certificate, Checked, check, read_certificate};
 use ts_core::{Settings, Time, TimeUnit};
 use ts_plan::plan;
 use ts_ql::{Query, count_query};
@@ -33,20 +32,19 @@ pub(crate) const NEW_LINES: [&str; 5] = [
 ];
 
 /// Returns the time of this many seconds after the Unix epoch.
-pub(crate) fn at_second(seconds: i64) -> Result<Time, Fail> {
-    let nanos = seconds.checked_mul(1_000_000_000).ok_or("a number")?;
-    Ok(Time::new(nanos).ok_or("a time")?)
+pub(crate) fn at_second(seconds: i64) -> Option<Time> {
+    Time::new(seconds.checked_mul(1_000_000_000)?)
 }
 
-/// Returns an empty store with the settings of a text.
+/// Returns an empty store with the settings of a text; none if they have a fault, or when out of memory.
 pub(crate) fn store_of<A: Allocator + Copy>(
     alloc: A,
     json: Global,
     settings: &str,
-) -> Result<Store<A>, Fail> {
+) -> Option<Store<A>> {
     match Settings::read(alloc, json, settings) {
-        Ok(settings) => Ok(Store::new(alloc, settings)?),
-        Err(_) => Err("settings at fault")?,
+        Ok(settings) => Store::new(alloc, settings).ok(),
+        Err(_) => None,
     }
 }
 
@@ -65,61 +63,108 @@ pub(crate) fn write_all<A: Allocator + Copy>(
     alloc: A,
     store: &mut Store<A>,
     lines: &[&str],
-) -> Result<bool, AllocError> {
+) -> bool {
     for line in lines {
-        if !write(alloc, store, line)? {
-            return Ok(false);
+        if !matches!(write(alloc, store, line), Ok(true)) {
+            return false;
         }
     }
-    Ok(true)
+    true
+}
+
+/// Runs retention; returns true if no run was in progress.
+pub(crate) fn retain<A: Allocator + Copy>(store: &mut Store<A>, now: Time) -> bool {
+    store.retain(now).is_ok()
+}
+
+/// Writes the old lines, and runs retention; returns true if all calls succeeded.
+pub(crate) fn fill_and_retain<A: Allocator + Copy>(
+    alloc: A,
+    store: &mut Store<A>,
+    now: Time,
+) -> bool {
+    write_all(alloc, store, &OLD_LINES) && retain(store, now)
 }
 
 /// Writes the lines, with a run of retention between the old and the new ones; returns true if all calls succeeded.
-pub(crate) fn fill<A: Allocator + Copy>(
-    alloc: A,
-    store: &mut Store<A>,
-    run_at: Time,
-) -> Result<bool, AllocError> {
-    if !write_all(alloc, store, &OLD_LINES)? || store.retain(run_at).is_err() {
-        return Ok(false);
-    }
-    write_all(alloc, store, &NEW_LINES)
+pub(crate) fn fill<A: Allocator + Copy>(alloc: A, store: &mut Store<A>, run_at: Time) -> bool {
+    fill_and_retain(alloc, store, run_at) && write_all(alloc, store, &NEW_LINES)
+}
+
+/// Begins a run of retention; returns true if none was in progress.
+fn begin<A: Allocator + Copy>(store: &mut Store<A>, now: Time) -> bool {
+    store.begin(now).is_ok()
 }
 
 /// Begins a run of retention and moves one of its columns; returns true if both calls succeeded.
-pub(crate) fn open_run<A: Allocator + Copy>(store: &mut Store<A>, begin_at: Time) -> bool {
-    store.begin(begin_at).is_ok() && store.step() == StepAnswer::Moved
+pub(crate) fn open_run<A: Allocator + Copy>(store: &mut Store<A>, now: Time) -> bool {
+    begin(store, now) && store.step() == StepAnswer::Moved
 }
 
 /// Returns the query that counts field `v` of measurement `cpu` in the first seconds, this many.
 fn count_of<A: Allocator + Copy>(alloc: A, seconds: i64) -> Option<Query<A>> {
-    let from = Time::new(0)?;
-    let to = Time::new(seconds.checked_mul(1_000_000_000)?)?;
+    let from = at_second(0)?;
+    let to = at_second(seconds)?;
     if from >= to {
         return None;
     }
     count_query(alloc, "cpu", "v", from, to).ok()
 }
 
-/// Checks a certificate for the count of the first seconds, this many.
-pub(crate) fn certified<A: Allocator + Copy>(
+/// Checks a plan of a query for a store.
+pub(crate) fn checked<A: Allocator + Copy>(
     alloc: A,
     store: &Store<A>,
-    seconds: i64,
-    text: &str,
+    query: &Query<A>,
+    certificate: &Certificate<A>,
 ) -> Option<Checked<A>> {
-    let query = count_of(alloc, seconds)?;
-    let certificate = read_certificate(alloc, text).ok()?;
-    check(alloc, store.settings(), store.marks(), &query, &certificate).ok()
+    check(alloc, store.settings(), store.marks(), query, certificate).ok()
 }
 
-/// Plans the count of the first seconds, this many, and checks the plan.
+/// Plans a query over a store.
+fn plan_of<A: Allocator + Copy>(
+    alloc: A,
+    store: &Store<A>,
+    query: &Query<A>,
+) -> Option<Certificate<A>> {
+    plan(alloc, store.settings(), store.marks(), query).ok()
+}
+
+/// Plans a query over a store, and checks the plan.
 pub(crate) fn planned<A: Allocator + Copy>(
     alloc: A,
     store: &Store<A>,
+    query: &Query<A>,
+) -> Option<Checked<A>> {
+    match plan_of(alloc, store, query) {
+        Some(certificate) => checked(alloc, store, query, &certificate),
+        None => None,
+    }
+}
+
+/// Checks the certificate of a text for a query.
+fn certified<A: Allocator + Copy>(
+    alloc: A,
+    store: &Store<A>,
+    query: &Query<A>,
+    text: &str,
+) -> Option<Checked<A>> {
+    match read_certificate(alloc, text) {
+        Ok(certificate) => checked(alloc, store, query, &certificate),
+        Err(_) => None,
+    }
+}
+
+/// Returns the checked plan of a certificate, or else of the planner, for the count of the first seconds, this many.
+pub(crate) fn count_plan<A: Allocator + Copy>(
+    alloc: A,
+    store: &Store<A>,
     seconds: i64,
+    certificate: Option<&str>,
 ) -> Option<Checked<A>> {
     let query = count_of(alloc, seconds)?;
-    let certificate = plan(alloc, store.settings(), store.marks(), &query).ok()?;
-    check(alloc, store.settings(), store.marks(), &query, &certificate).ok()
+    match certificate {
+        Some(text) => certified(alloc, store, &query, text),
+        None => planned(alloc, store, &query),
+    }
 }

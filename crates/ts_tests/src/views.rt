@@ -5,18 +5,21 @@ ghost use Rattle.ts_core.specs.facts.Facts.{is_within};
 ghost use Rattle.ts_core.specs.store.StoreData.{state_of};
 ghost use Rattle.ts_core.specs.store.Views.{view_state_of};
 
-use crate::stores::{ONE_RULE, at_second, certified, store_of, write};
+use crate::stores::{ONE_RULE, at_second, count_plan, store_of, write_all};
 use std::alloc::{Allocator, Global};
 use std::slice;
-use std::test::Fail;
 use ts_check::Checked;
-use ts_core::{Agg, MAX_COUNT, Marks, Partial, Settings, Time};
+use ts_core::{Agg, MAX_COUNT, Marks, Partial, Settings};
 use ts_exec::{Table, count_points, execute};
 use ts_raw::{ColumnId, Points};
 use ts_store::{CellWalk, Columns, Store, View, ViewCell};
+use ts_testkit::{all_but_one, merged};
 
 /// Raw points for the first minute, and the rule's cells for the second.
 const TWO_PIECES: &str = "plan 1\nraw 0 60000000000\nrollup m1 60000000000 120000000000\nend\n";
+
+/// The line of a point of value 5 in the first minute.
+const LINE: [&str; 1] = ["cpu v=5i 7"];
 
 /// Returns true if an index is in the range from one, inclusive, to another, exclusive.
 fn is_within(from: &i128, to: &i128, index: &i128) -> bool
@@ -65,86 +68,82 @@ impl<'a, A: Allocator + Copy> View<A> for OneCell<'a, A> {
     }
 }
 
-/// Returns the merged aggregate of both, if they have at most 2^62 points together.
-fn merged(a: Agg, b: Agg) -> Result<Agg, Fail> {
-    if a.count() + b.count() > MAX_COUNT {
-        return Err("a count")?;
-    }
-    Ok(a.merge(b))
-}
-
-/// Returns the aggregate of 2^62 - 1 points of value 1 at this time.
-pub(crate) fn all_but_one(time: Time) -> Result<Agg, Fail> {
-    let one = Agg::single(time, 1);
-    let mut total = Agg::empty();
-    for _ in 0..62 {
-        total = merged(merged(total, total)?, one)?;
-    }
-    Ok(total)
-}
-
 /// Returns count and sum of a table's first row.
 fn first_row<A: Allocator>(table: &Table<'_, A>) -> Option<(u64, i128)> {
     let row = table.groups().first()?.rows().first()?;
     Some((row.count(), row.sum()))
 }
 
-/// Returns count and sum of the first row of a plan's answer. A count by the plan must succeed, too.
-fn answered<A: Allocator + Copy>(
+/// Returns count and sum of the first row of a plan's answer.
+fn executed<A: Allocator + Copy>(
     alloc: A,
     view: &OneCell<'_, A>,
     plan: &Checked<A>,
 ) -> Option<(u64, i128)> {
-    if count_points(view, plan).is_err() {
-        return None;
-    }
     match execute(alloc, view, plan) {
         Ok(table) => first_row(&table),
         Err(_) => None,
     }
 }
 
-/// Returns count and sum of a plan over a store's points in the first minute and a cell with this total in the second.
-fn with_cell<A: Allocator + Copy>(
+/// Returns the same, if a count by the plan succeeds, too.
+fn answered<A: Allocator + Copy>(
     alloc: A,
-    store: &Store<A>,
-    total: Agg,
-) -> Result<Option<(u64, i128)>, Fail> {
-    let plan = certified(alloc, store, 120, TWO_PIECES).ok_or("no plan")?;
+    view: &OneCell<'_, A>,
+    plan: &Checked<A>,
+) -> Option<(u64, i128)> {
+    if count_points(view, plan).is_ok() {
+        executed(alloc, view, plan)
+    } else {
+        None
+    }
+}
+
+/// Returns count and sum of a plan over a store's points in the first minute and a cell with this total in the second.
+fn with_cell<A: Allocator + Copy>(alloc: A, store: &Store<A>, total: Agg) -> Option<(u64, i128)> {
+    let plan = count_plan(alloc, store, 120, Some(TWO_PIECES))?;
     let cell = ViewCell::new(1, "v", &[], total, Agg::empty());
-    Ok(answered(alloc, &OneCell { store, cell }, &plan))
+    answered(alloc, &OneCell { store, cell }, &plan)
 }
 
 /// Returns the same over a store with one point, of value 5.
-fn both<A: Allocator + Copy>(
-    alloc: A,
-    json: Global,
-    total: Agg,
-) -> Result<Option<(u64, i128)>, Fail> {
-    let mut store = store_of(alloc, json, ONE_RULE)?;
-    if !write(alloc, &mut store, "cpu v=5i 7")? {
-        Err("a refused line")?;
+fn both(alloc: Global, total: Agg) -> Option<(u64, i128)> {
+    let mut store = store_of(alloc, alloc, ONE_RULE)?;
+    if write_all(alloc, &mut store, &LINE) {
+        with_cell(alloc, &store, total)
+    } else {
+        None
     }
-    with_cell(alloc, &store, total)
+}
+
+/// Returns the same, where the cell has two points of these values.
+fn both_of(alloc: Global, one: i64, other: i64) -> Option<(u64, i128)> {
+    let time = at_second(60)?;
+    both(
+        alloc,
+        merged(Agg::single(time, one), Agg::single(time, other))?,
+    )
 }
 
 #[test]
-fn a_cell_and_a_point_are_added(rt: HostRuntime) -> Result<(), Fail> {
-    let alloc = rt.alloc();
+fn a_cell_and_a_point_are_added(rt: HostRuntime) {
+    assert_eq!(rt; both_of(rt.alloc(), 7, -4), Some((3, 8)));
+}
+
+/// Returns the same, where the cell has 2^62 - 1 points of value 1.
+fn both_of_most(alloc: Global) -> Option<(u64, i128)> {
+    both(alloc, all_but_one(at_second(60)?)?)
+}
+
+/// Returns the same, where the cell has 2^62 points of value 1.
+fn both_of_all(alloc: Global) -> Option<(u64, i128)> {
     let time = at_second(60)?;
-    let total = merged(Agg::single(time, 7), Agg::single(time, -4))?;
-    assert_eq!(rt; both(alloc, alloc, total)?, Some((3, 8)));
-    Ok(())
+    both(alloc, merged(all_but_one(time)?, Agg::single(time, 1))?)
 }
 
 #[test]
-fn a_cell_past_the_limit_is_left_out(rt: HostRuntime) -> Result<(), Fail> {
-    let alloc = rt.alloc();
-    let time = at_second(60)?;
-    let most = all_but_one(time)?;
+fn a_cell_past_the_limit_is_left_out(rt: HostRuntime) {
     let sum = i128::from(MAX_COUNT) + 4;
-    assert_eq!(rt; both(alloc, alloc, most)?, Some((MAX_COUNT, sum)));
-    let all = merged(most, Agg::single(time, 1))?;
-    assert_eq!(rt; both(alloc, alloc, all)?, Some((1, 5)));
-    Ok(())
+    assert_eq!(rt; both_of_most(rt.alloc()), Some((MAX_COUNT, sum)));
+    assert_eq!(rt; both_of_all(rt.alloc()), Some((1, 5)));
 }

@@ -1,18 +1,18 @@
 //! Queries: parsed, planned, checked, executed and answered.
 
-use super::trial::{Answer, Call, QUERIES, REPLY, Shown, Trial, replies};
-use crate::refusing::Refusing;
+use super::trial::{Answer, Call, Flaw, QUERIES, REPLY, Trial, UNCHANGED, replies};
+use crate::stores::checked;
 use std::alloc::{Allocator, Global};
-use std::test::Fail;
 use ts_check::{
     Certificate, CheckError, Checked, ReadCertificateError, check, read_certificate,
     write_certificate,
 };
-use ts_core::{Partial, Time};
+use ts_core::{Agg, Partial, Time};
 use ts_exec::{ExecFault, Table, execute};
 use ts_plan::{PlanError, plan};
 use ts_ql::{ParseError, Query, parse};
 use ts_store::{Store, View};
+use ts_testkit::Refusing;
 
 /// A query by host, of cells and raw points.
 const QUERY: &str =
@@ -23,12 +23,6 @@ const PLAN: &str = "plan 1\nrollup m1 0 120000000000\nraw 120000000000 240000000
 
 /// The number of points in each bucket, of host `a` and of host `b`.
 const COUNTS: [[u64; 4]; 2] = [[1, 4, 0, 0], [0, 2, 0, 0]];
-
-/// The queries of each trial, whose replies these calls don't change.
-const UNCHANGED: Shown<'static> = Shown {
-    query: QUERIES,
-    reply: REPLY,
-};
 
 /// Returns true if a query is the one of the text.
 fn is_right_query<A: Allocator>(query: &Query<A>) -> bool {
@@ -47,19 +41,24 @@ fn is_right_plan<A: Allocator>(json: Global, certificate: &Certificate<A>) -> bo
     }
 }
 
+/// Returns true if rows have these numbers of points.
+fn are_counts(rows: &[Agg], counts: &[u64]) -> bool {
+    for (row, count) in rows.iter().zip(counts) {
+        if row.count() != *count {
+            return false;
+        }
+    }
+    rows.len() == counts.len()
+}
+
 /// Returns true if a table has these numbers of points.
 fn is_right_table<A: Allocator>(table: &Table<'_, A>) -> bool {
     if table.groups().len() != COUNTS.len() {
         return false;
     }
-    for (group, counts) in table.groups().iter().zip(COUNTS) {
-        if group.rows().len() != counts.len() {
+    for (group, counts) in table.groups().iter().zip(&COUNTS) {
+        if !are_counts(group.rows(), counts) {
             return false;
-        }
-        for (row, count) in group.rows().iter().zip(counts) {
-            if row.count() != count {
-                return false;
-            }
         }
     }
     true
@@ -172,72 +171,75 @@ impl<A: Allocator + Copy> Call<A> for Reply {
 }
 
 /// Returns the query, parsed.
-fn parsed<A: Allocator + Copy>(alloc: A) -> Result<Query<A>, Fail> {
+fn parsed<A: Allocator + Copy>(alloc: A) -> Option<Query<A>> {
     match parse(alloc, QUERY, Time::least()) {
-        Ok(queries) => Ok(queries.into_iter().next().ok_or("no query")?),
-        Err(_) => Err("no query")?,
+        Ok(queries) => queries.into_iter().next(),
+        Err(_) => None,
     }
 }
 
-/// Returns the certificate, parsed.
-fn certificate<A: Allocator + Copy>(alloc: A) -> Result<Certificate<A>, Fail> {
+/// Tries to parse the query and the certificate. The first allocation for the query's group tags is absorbed.
+fn flaw_of_parse(trial: &Trial<'_>) -> Option<Flaw> {
+    match trial.flaw_of(&Parse, &UNCHANGED, 1) {
+        Some(flaw) => Some(flaw),
+        None => trial.flaw_of(&ReadCertificate { json: trial.json }, &UNCHANGED, 0),
+    }
+}
+
+/// Tries to plan the query.
+fn flaw_of_plan(trial: &Trial<'_>) -> Option<Flaw> {
+    match parsed(trial.heap) {
+        Some(query) => trial.flaw_of(
+            &Plan {
+                json: trial.json,
+                query,
+            },
+            &UNCHANGED,
+            0,
+        ),
+        None => Some(Flaw::Nothing),
+    }
+}
+
+/// Returns the query and the certificate, to be checked.
+fn to_check<A: Allocator + Copy>(alloc: A) -> Option<Check<A>> {
+    let query = parsed(alloc)?;
     match read_certificate(alloc, PLAN) {
-        Ok(certificate) => Ok(certificate),
-        Err(_) => Err("no certificate")?,
+        Ok(certificate) => Some(Check { query, certificate }),
+        Err(_) => None,
+    }
+}
+
+/// Tries to check the plan.
+fn flaw_of_check(trial: &Trial<'_>) -> Option<Flaw> {
+    match to_check(trial.heap) {
+        Some(call) => trial.flaw_of(&call, &UNCHANGED, 0),
+        None => Some(Flaw::Nothing),
     }
 }
 
 /// Returns the plan, checked for a store.
-fn checked<A: Allocator + Copy>(alloc: A, store: &Store<A>) -> Result<Checked<A>, Fail> {
-    let query = parsed(alloc)?;
-    let certificate = certificate(alloc)?;
-    match check(alloc, store.settings(), store.marks(), &query, &certificate) {
-        Ok(checked) => Ok(checked),
-        Err(_) => Err("no valid plan")?,
-    }
+fn checked_for<A: Allocator + Copy>(alloc: A, store: &Store<A>) -> Option<Checked<A>> {
+    let call = to_check(alloc)?;
+    checked(alloc, store, &call.query, &call.certificate)
 }
 
-/// Returns true if each request of a call is refused in turn, and `absorbed` of the refusals are absorbed.
-fn are_answered<'h, C: Call<&'h Refusing<Global>>>(
-    trial: &Trial<'h>,
-    call: &C,
-    absorbed: u32,
-) -> Result<bool, Fail> {
-    let found = trial.refuse_each(call, &UNCHANGED)?;
-    Ok(found.answered > 0 && found.absorbed == absorbed)
-}
-
-/// Tries to parse the query and the certificate. The first allocation for the query's group tags is absorbed.
-fn are_parsed(trial: &Trial<'_>) -> Result<bool, Fail> {
-    let json = trial.json;
-    Ok(are_answered(trial, &Parse, 1)? && are_answered(trial, &ReadCertificate { json }, 0)?)
-}
-
-/// Tries to plan the query.
-fn is_planned(trial: &Trial<'_>) -> Result<bool, Fail> {
-    let call = Plan {
-        json: trial.json,
-        query: parsed(trial.heap)?,
-    };
-    are_answered(trial, &call, 0)
-}
-
-/// Tries to check the plan.
-fn is_checked(trial: &Trial<'_>) -> Result<bool, Fail> {
-    let query = parsed(trial.heap)?;
-    let certificate = certificate(trial.heap)?;
-    are_answered(trial, &Check { query, certificate }, 0)
+/// Returns the plan, checked for the store of a trial.
+fn to_execute<'h>(trial: &Trial<'h>) -> Option<Checked<&'h Refusing<Global>>> {
+    let store = trial.store()?;
+    checked_for(trial.heap, &store)
 }
 
 /// Tries to execute the plan.
-fn is_executed(trial: &Trial<'_>) -> Result<bool, Fail> {
-    let store = trial.store()?;
-    let plan = checked(trial.heap, &store)?;
-    are_answered(trial, &Execute { plan }, 0)
+fn flaw_of_execution(trial: &Trial<'_>) -> Option<Flaw> {
+    match to_execute(trial) {
+        Some(plan) => trial.flaw_of(&Execute { plan }, &UNCHANGED, 0),
+        None => Some(Flaw::Nothing),
+    }
 }
 
 #[test]
-fn queries_need_their_memory(rt: HostRuntime) -> Result<(), Fail> {
+fn queries_need_their_memory(rt: HostRuntime) {
     let heap = Refusing::new(rt.alloc());
     for is_open in [false, true] {
         let trial = Trial {
@@ -245,16 +247,15 @@ fn queries_need_their_memory(rt: HostRuntime) -> Result<(), Fail> {
             json: rt.alloc(),
             is_open,
         };
-        assert!(rt; are_parsed(&trial)?, "parsed");
-        assert!(rt; is_planned(&trial)?, "planned");
-        assert!(rt; is_checked(&trial)?, "checked");
-        assert!(rt; is_executed(&trial)?, "executed");
+        assert_eq!(rt; flaw_of_parse(&trial), None);
+        assert_eq!(rt; flaw_of_plan(&trial), None);
+        assert_eq!(rt; flaw_of_check(&trial), None);
+        assert_eq!(rt; flaw_of_execution(&trial), None);
     }
-    Ok(())
 }
 
 #[test]
-fn answers_need_their_memory(rt: HostRuntime) -> Result<(), Fail> {
+fn answers_need_their_memory(rt: HostRuntime) {
     let heap = Refusing::new(rt.alloc());
     let json = rt.alloc();
     for is_open in [false, true] {
@@ -264,7 +265,6 @@ fn answers_need_their_memory(rt: HostRuntime) -> Result<(), Fail> {
             is_open,
         };
         // the first allocation for the group tags of a query
-        assert!(rt; are_answered(&trial, &Reply { json }, 1)?);
+        assert_eq!(rt; trial.flaw_of(&Reply { json }, &UNCHANGED, 1), None);
     }
-    Ok(())
 }

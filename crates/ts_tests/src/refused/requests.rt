@@ -1,12 +1,11 @@
 //! Requests to a connection in memory, and a batch with a refused allocation at a line.
 
-use super::trial::{Answer, Call, QUERIES, REPLY, Shown, Trial, replies};
-use crate::refusing::Refusing;
-use std::alloc::{AllocError, Allocator, Global};
-use std::test::Fail;
+use super::trial::{Answer, Call, Flaw, Shown, Trial, UNCHANGED};
+use std::alloc::{Allocator, Global};
 use ts_core::{Sink, Source, Time};
 use ts_http::serve_one;
 use ts_store::Store;
+use ts_testkit::Refusing;
 
 /// The reply to a request when out of memory.
 const OUT_OF_MEMORY: &[u8] =
@@ -32,17 +31,24 @@ fn reply_to<A: Allocator + Copy>(
 ) -> Option<Vec<u8>> {
     let mut source = Source::new(request);
     let mut sink = Sink::new(Vec::new(json));
-    match serve_one(alloc, json, store, Time::least(), &mut source, &mut sink) {
-        Ok(_) => Some(sink.into_inner()),
-        Err(_) => None,
+    let is_served = serve_one(alloc, json, store, Time::least(), &mut source, &mut sink).is_ok();
+    let reply = sink.into_inner();
+    if is_served { Some(reply) } else { None }
+}
+
+/// Returns the answer that a reply is, where another is right.
+fn answer_of(reply: &[u8], right: &[u8]) -> Answer {
+    if reply == OUT_OF_MEMORY {
+        Answer::OutOfMemory
+    } else {
+        Answer::new(reply == right)
     }
 }
 
 impl<A: Allocator + Copy> Call<A> for Request {
     fn make(&self, alloc: A, store: &mut Store<A>) -> Answer {
         match reply_to(alloc, self.json, store, self.bytes) {
-            Some(reply) if reply.as_slice() == OUT_OF_MEMORY => Answer::OutOfMemory,
-            Some(reply) => Answer::new(reply.as_slice() == self.reply),
+            Some(reply) => answer_of(&reply, self.reply),
             None => Answer::Wrong,
         }
     }
@@ -65,26 +71,32 @@ const REQUESTS: [(&[u8], &[u8], Shown<'static>, u32); 3] = [
     (
         b"GET /query?epoch=s&q=SELECT+SUM(v)+FROM+cpu+WHERE+time+%3E%3D+60s+AND+time+%3C+120s+GROUP+BY+time(1m) HTTP/1.1\r\n\r\n",
         b"HTTP/1.1 200 OK\r\nContent-Type: application/json\r\nContent-Length: 102\r\nConnection: close\r\n\r\n{\"results\":[{\"series\":[{\"columns\":[\"time\",\"sum\"],\"name\":\"cpu\",\"values\":[[60,30]]}],\"statement_id\":0}]}",
-        Shown {
-            query: QUERIES,
-            reply: REPLY,
-        },
+        UNCHANGED,
         1,
     ),
     // a rule
     (
         b"POST /rules HTTP/1.1\r\nContent-Length: 98\r\n\r\n{\"name\":\"m10\",\"measurement\":\"cpu\",\"interval\":\"10m\",\"offset\":\"0s\",\"keep\":[\"host\"],\"duration\":\"INF\"}",
         b"HTTP/1.1 200 OK\r\nContent-Type: application/json\r\nContent-Length: 22\r\nConnection: close\r\n\r\n{\"low\":1,\"name\":\"m10\"}",
-        Shown {
-            query: QUERIES,
-            reply: REPLY,
-        },
+        UNCHANGED,
         0,
     ),
 ];
 
+/// Returns the index of the first request with a flaw, and that flaw.
+fn first_flaw(trial: &Trial<'_>) -> Option<(usize, Flaw)> {
+    for (number, row) in REQUESTS.iter().enumerate() {
+        let (bytes, reply, shown, absorbed) = *row;
+        let json = trial.json;
+        if let Some(flaw) = trial.flaw_of(&Request { json, bytes, reply }, &shown, absorbed) {
+            return Some((number, flaw));
+        }
+    }
+    None
+}
+
 #[test]
-fn requests_are_answered_by_500(rt: HostRuntime) -> Result<(), Fail> {
+fn requests_are_answered_by_500(rt: HostRuntime) {
     let heap = Refusing::new(rt.alloc());
     let json = rt.alloc();
     for is_open in [false, true] {
@@ -93,15 +105,8 @@ fn requests_are_answered_by_500(rt: HostRuntime) -> Result<(), Fail> {
             json,
             is_open,
         };
-        for (number, (bytes, reply, shown, absorbed)) in REQUESTS.into_iter().enumerate() {
-            let found = trial.refuse_each(&Request { json, bytes, reply }, &shown)?;
-            assert!(rt;
-                found.answered > 0 && found.absorbed == absorbed,
-                "{number}: {found:?}"
-            );
-        }
+        assert_eq!(rt; first_flaw(&trial), None);
     }
-    Ok(())
 }
 
 /// Three lines, which add 1, 2 and 4 to a sum.
@@ -119,60 +124,86 @@ const SUMS: [&str; 4] = [
     r#"{"results":[{"series":[{"columns":["time","sum"],"name":"m","values":[[110,7]]}],"statement_id":0}]}"#,
 ];
 
-/// Returns the number of lines of the batch that were written, or `None` if they weren't the first ones.
-fn lines_written<A: Allocator + Copy>(
-    alloc: A,
-    json: Global,
-    store: &Store<A>,
-) -> Result<Option<usize>, AllocError> {
-    for (count, sum) in SUMS.into_iter().enumerate() {
-        if replies(alloc, json, store, SUM, sum)? {
-            return Ok(Some(count));
+/// Returns the number of lines of the batch that were written; none if they weren't the first ones.
+fn lines_written<'h>(trial: &Trial<'h>, store: &Store<&'h Refusing<Global>>) -> Option<usize> {
+    for (count, reply) in SUMS.iter().enumerate() {
+        let shown = Shown {
+            query: SUM,
+            reply: *reply,
+        };
+        if trial.shows(store, &shown) {
+            return Some(count);
         }
     }
-    Ok(None)
+    None
+}
+
+/// Returns true if the batch succeeds, and all lines are written.
+fn is_completed<'h>(
+    trial: &Trial<'h>,
+    call: &Request,
+    store: &mut Store<&'h Refusing<Global>>,
+) -> bool {
+    call.make(trial.heap, store) == Answer::Right && lines_written(trial, store) == Some(3)
 }
 
 /// Serves the batch, with the allocation request after `left` others refused, and then again. Returns the number of
-/// lines that were written at first, and true if there was a refusal.
-fn batch_round(trial: &Trial<'_>, left: u64) -> Result<(usize, bool), Fail> {
-    let mut store = trial.store()?;
+/// lines that were written at first, and true if there was a refusal; none if a reply isn't right.
+fn batch_on<'h>(
+    trial: &Trial<'h>,
+    call: &Request,
+    store: &mut Store<&'h Refusing<Global>>,
+    left: u64,
+) -> Option<(usize, bool)> {
+    let (answer, is_refused) = trial.make(call, store, left);
+    let written = lines_written(trial, store)?;
+    let is_told = match answer {
+        Answer::Right => written == 3,
+        Answer::OutOfMemory => written != 3,
+        Answer::Wrong => false,
+    };
+    if is_told && is_completed(trial, call, store) {
+        Some((written, is_refused))
+    } else {
+        None
+    }
+}
+
+/// Serves the batch in this way to a new store.
+fn batch_round(trial: &Trial<'_>, left: u64) -> Option<(usize, bool)> {
     let call = Request {
         json: trial.json,
         bytes: BATCH,
         reply: NO_CONTENT,
     };
-    let (answer, is_refused) = trial.make(&call, &mut store, left);
-    let written = lines_written(trial.heap, trial.json, &store)?.ok_or("other lines")?;
-    if (answer == Answer::Right) != (written == 3) || answer == Answer::Wrong {
-        Err("a reply that doesn't tell what was written")?;
+    let mut store = trial.store()?;
+    batch_on(trial, &call, &mut store, left)
+}
+
+/// Refuses each request of the batch in turn, until none is refused. Returns true for each number of lines that a
+/// refusal left; none if a reply isn't right.
+fn lines_left(trial: &Trial<'_>) -> Option<[bool; 4]> {
+    let mut seen = [false; 4];
+    for left in 0..1_000 {
+        let (written, is_refused) = batch_round(trial, left)?;
+        if !is_refused {
+            return Some(seen);
+        }
+        if let Some(one) = seen.get_mut(written) {
+            *one = true;
+        }
     }
-    let (again, _) = trial.make(&call, &mut store, u64::MAX / 2);
-    if again != Answer::Right || lines_written(trial.heap, trial.json, &store)? != Some(3) {
-        Err("a batch that doesn't succeed afterwards")?;
-    }
-    Ok((written, is_refused))
+    None
 }
 
 #[test]
-fn a_batch_leaves_the_lines_before_a_refusal(rt: HostRuntime) -> Result<(), Fail> {
+fn a_batch_leaves_the_lines_before_a_refusal(rt: HostRuntime) {
     let heap = Refusing::new(rt.alloc());
     let trial = Trial {
         heap: &heap,
         json: rt.alloc(),
         is_open: false,
     };
-    let mut seen = [false; 4];
-    for left in 0..1_000 {
-        let (written, is_refused) = batch_round(&trial, left)?;
-        if !is_refused {
-            break;
-        }
-        if let Some(one) = seen.get_mut(written) {
-            *one = true;
-        }
-    }
     // the fourth: the first block of the arena is absorbed
-    assert_eq!(rt; seen, [true; 4]);
-    Ok(())
+    assert_eq!(rt; lines_left(&trial), Some([true; 4]));
 }

@@ -1,11 +1,10 @@
 //! Rules that are added, settings that are parsed, and stores that are created.
 
-use super::trial::{Answer, Call, QUERIES, REPLY, Shown, Trial};
-use crate::refusing::Refusing;
+use super::trial::{Answer, Call, Trial, UNCHANGED};
 use std::alloc::{Allocator, Global};
-use std::test::Fail;
 use ts_core::{Settings, SettingsError};
 use ts_store::{Store, View};
+use ts_testkit::Refusing;
 
 /// A rule of ten minutes. Its first bucket from the raw mark on starts at 600 seconds.
 const RULE: &str =
@@ -14,12 +13,6 @@ const RULE: &str =
 /// Settings with a rule.
 const SETTINGS: &str =
     r#"{"raw":"3m","rules":[{"name":"m1","measurement":"cpu","interval":"1m","offset":"0s","keep":["host","dc"],"duration":"INF"}]}"#;
-
-/// The queries of each trial, whose replies these calls don't change.
-const UNCHANGED: Shown<'static> = Shown {
-    query: QUERIES,
-    reply: REPLY,
-};
 
 /// Adds the rule by its text.
 #[derive(Clone, Copy)]
@@ -86,17 +79,8 @@ impl<A: Allocator + Copy> Call<A> for NewStore {
     }
 }
 
-/// Returns true if each request of a call is refused in turn, and none is absorbed.
-fn are_answered<'h, C: Call<&'h Refusing<Global>>>(
-    trial: &Trial<'h>,
-    call: &C,
-) -> Result<bool, Fail> {
-    let found = trial.refuse_each(call, &UNCHANGED)?;
-    Ok(found.answered > 0 && found.absorbed == 0)
-}
-
 #[test]
-fn a_rule_is_added_whole_or_not_at_all(rt: HostRuntime) -> Result<(), Fail> {
+fn a_rule_is_added_whole_or_not_at_all(rt: HostRuntime) {
     let heap = Refusing::new(rt.alloc());
     let json = rt.alloc();
     for is_open in [false, true] {
@@ -105,13 +89,12 @@ fn a_rule_is_added_whole_or_not_at_all(rt: HostRuntime) -> Result<(), Fail> {
             json,
             is_open,
         };
-        assert!(rt; are_answered(&trial, &AddRule { json })?);
+        assert_eq!(rt; trial.flaw_of(&AddRule { json }, &UNCHANGED, 0), None);
     }
-    Ok(())
 }
 
 #[test]
-fn settings_and_new_stores_need_their_memory(rt: HostRuntime) -> Result<(), Fail> {
+fn settings_and_new_stores_need_their_memory(rt: HostRuntime) {
     let heap = Refusing::new(rt.alloc());
     let json = rt.alloc();
     let trial = Trial {
@@ -119,7 +102,6 @@ fn settings_and_new_stores_need_their_memory(rt: HostRuntime) -> Result<(), Fail
         json,
         is_open: false,
     };
-    assert!(rt; are_answered(&trial, &ReadSettings { json })?);
-    assert!(rt; are_answered(&trial, &NewStore { json })?);
-    Ok(())
+    assert_eq!(rt; trial.flaw_of(&ReadSettings { json }, &UNCHANGED, 0), None);
+    assert_eq!(rt; trial.flaw_of(&NewStore { json }, &UNCHANGED, 0), None);
 }

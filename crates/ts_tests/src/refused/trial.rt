@@ -1,12 +1,11 @@
 //! Refuses each request of a call in turn, until a call meets no refusal.
 
-use crate::refusing::Refusing;
 use crate::stores::{at_second, fill, open_run, store_of, write_all};
 use std::alloc::{AllocError, Allocator, Global};
-use std::test::Fail;
 use ts_core::{Time, TimeUnit};
 use ts_reply::{Epoch, answer};
 use ts_store::{Store, View};
+use ts_testkit::Refusing;
 
 /// More requests than any of the calls makes.
 const MOST_REQUESTS: u64 = 1_000;
@@ -27,7 +26,7 @@ pub(super) const REPLY: &str =
     r#"{"results":[{"series":[{"columns":["time","count","sum","min","max","first","last","mean"],"name":"cpu","values":[[60,6,30,1,8,7,3,"5/1"]]}],"statement_id":0},{"series":[{"columns":["time","max"],"name":"cpu","tags":{"host":"a"},"values":[[0,5],[60,8],[120,8],[180,8]]},{"columns":["time","max"],"name":"cpu","tags":{"host":"b"},"values":[[0,null],[60,3],[120,3],[180,3]]}],"statement_id":1},{"error":"fault 91","statement_id":2}]}"#;
 
 /// Result of a call.
-#[derive(Clone, Copy, Debug, PartialEq, Eq)]
+#[derive(Clone, Copy, PartialEq, Eq)]
 pub(super) enum Answer {
     /// The right answer.
     Right,
@@ -48,19 +47,31 @@ impl Answer {
     }
 }
 
+/// Reason why a trial fails.
+#[derive(Clone, Copy, Debug, PartialEq, Eq)]
+pub(super) enum Flaw {
+    /// There is no store, image or query to try the call on.
+    Nothing,
+    /// A call is neither right nor out of memory, or is out of memory with all of it.
+    Wrong,
+    /// A call that was out of memory changed the store.
+    Changed,
+    /// A call doesn't succeed after one that was out of memory.
+    NotRepeated,
+    /// The reply to a query after the call is another.
+    OtherReply,
+    /// No call is out of memory.
+    NeverRefused,
+    /// Another number of refused requests is absorbed: this one.
+    Absorbed(u32),
+    /// The call needs more than the most requests.
+    Endless,
+}
+
 /// A call that is tried.
 pub(super) trait Call<A: Allocator> {
     /// Calls, and judges the result without allocating in `alloc`.
     fn make(&self, alloc: A, store: &mut Store<A>) -> Answer;
-}
-
-/// Numbers of refused requests of a call, one at a time.
-#[derive(Clone, Copy, Debug, PartialEq, Eq)]
-pub(super) struct Refusals {
-    /// Number of requests after which the call was out of memory.
-    pub answered: u32,
-    /// Number of requests without which the call had the right result.
-    pub absorbed: u32,
 }
 
 /// A query, and its reply after the call.
@@ -70,6 +81,12 @@ pub(super) struct Shown<'q> {
     pub reply: &'q str,
 }
 
+/// The queries of each trial, and their replies, for calls that don't change these.
+pub(super) const UNCHANGED: Shown<'static> = Shown {
+    query: QUERIES,
+    reply: REPLY,
+};
+
 /// The setting of a call that is tried: an allocator, and a flag that is true if a run of retention is open.
 #[derive(Clone, Copy)]
 pub(super) struct Trial<'h> {
@@ -78,18 +95,33 @@ pub(super) struct Trial<'h> {
     pub is_open: bool,
 }
 
+/// Writes the points of each trial, and begins a run of retention at the second of two moments if it is to be open.
+/// Returns true if all calls succeeded.
+fn work<A: Allocator + Copy>(
+    alloc: A,
+    store: &mut Store<A>,
+    run_at: Time,
+    begin_at: Option<Time>,
+) -> bool {
+    if !fill(alloc, store, run_at) || !write_all(alloc, store, &LAST_LINES) {
+        return false;
+    }
+    match begin_at {
+        Some(begin_at) => open_run(store, begin_at),
+        None => true,
+    }
+}
+
 /// Returns a store with points, with cells of three rules, and perhaps with an open run.
-fn worked<A: Allocator + Copy>(alloc: A, json: Global, is_open: bool) -> Result<Store<A>, Fail> {
+fn worked<A: Allocator + Copy>(alloc: A, json: Global, is_open: bool) -> Option<Store<A>> {
     let run_at = at_second(200)?;
-    let begin_at = at_second(220)?;
+    let begin_at = if is_open { at_second(220) } else { None };
     let mut store = store_of(alloc, json, THREE_RULES)?;
-    if !fill(alloc, &mut store, run_at)? || !write_all(alloc, &mut store, &LAST_LINES)? {
-        Err("a refused line")?;
+    if work(alloc, &mut store, run_at, begin_at) {
+        Some(store)
+    } else {
+        None
     }
-    if is_open && !open_run(&mut store, begin_at) {
-        Err("a run that doesn't begin")?;
-    }
-    Ok(store)
 }
 
 /// Returns true if the reply to queries is this text.
@@ -101,14 +133,20 @@ pub(super) fn replies<A: Allocator + Copy>(
     reply: &str,
 ) -> Result<bool, AllocError> {
     let epoch = Epoch::Units(TimeUnit::Seconds);
-    let found = answer(alloc, json, store, Time::least(), query, None, epoch)?;
-    Ok(found.body.as_str() == reply)
+    match answer(alloc, json, store, Time::least(), query, None, epoch) {
+        Ok(found) => Ok(found.body.as_str() == reply),
+        Err(_) => Err(AllocError),
+    }
+}
+
+/// Returns true if two stores have the same settings and marks.
+fn have_same_marks<A: Allocator + Copy>(one: &Store<A>, other: &Store<A>) -> bool {
+    one.settings().equals(other.settings()) && one.marks().equals(other.marks())
 }
 
 /// Returns true if two stores have the same settings, marks, numbers and open run.
 fn are_alike<A: Allocator + Copy>(one: &Store<A>, other: &Store<A>) -> bool {
-    one.settings().equals(other.settings())
-        && one.marks().equals(other.marks())
+    have_same_marks(one, other)
         && one.accepted() == other.accepted()
         && one.raw_points() == other.raw_points()
         && one.run_in_progress() == other.run_in_progress()
@@ -116,7 +154,7 @@ fn are_alike<A: Allocator + Copy>(one: &Store<A>, other: &Store<A>) -> bool {
 
 impl<'h> Trial<'h> {
     /// Returns the store that each call is tried on.
-    pub(super) fn store(&self) -> Result<Store<&'h Refusing<Global>>, Fail> {
+    pub(super) fn store(&self) -> Option<Store<&'h Refusing<Global>>> {
         worked(self.heap, self.json, self.is_open)
     }
 
@@ -135,55 +173,108 @@ impl<'h> Trial<'h> {
         (answer, is_refused)
     }
 
-    /// Fails unless a store is as before each call.
-    fn is_unchanged(&self, store: &Store<&'h Refusing<Global>>) -> Result<(), Fail> {
-        let before = self.store()?;
-        if !are_alike(store, &before) || !replies(self.heap, self.json, store, QUERIES, REPLY)? {
-            Err("a call without memory changed the store")?;
-        }
-        Ok(())
+    /// Returns true if the reply of a store to queries is the shown one.
+    pub(super) fn shows(&self, store: &Store<&'h Refusing<Global>>, shown: &Shown<'_>) -> bool {
+        matches!(
+            replies(self.heap, self.json, store, shown.query, shown.reply),
+            Ok(true)
+        )
     }
 
-    /// Tries a call on a new store, with the request after `left` others refused. Returns its result, and true if there
-    /// was such a request.
+    /// Returns true if a store is as before each call, apart from its points and cells.
+    fn is_as_before(&self, store: &Store<&'h Refusing<Global>>) -> bool {
+        match self.store() {
+            Some(before) => are_alike(store, &before),
+            None => false,
+        }
+    }
+
+    /// Returns true if a store is as before each call.
+    fn is_unchanged(&self, store: &Store<&'h Refusing<Global>>) -> bool {
+        self.is_as_before(store) && self.shows(store, &UNCHANGED)
+    }
+
+    /// Returns the flaw of a call with this answer, if any: without memory it changed the store or doesn't succeed
+    /// afterwards, or the reply of the store after it is another.
+    fn flaw_after<C: Call<&'h Refusing<Global>>>(
+        &self,
+        call: &C,
+        shown: &Shown<'_>,
+        store: &mut Store<&'h Refusing<Global>>,
+        answer: Answer,
+    ) -> Option<Flaw> {
+        if answer == Answer::OutOfMemory {
+            if !self.is_unchanged(store) {
+                return Some(Flaw::Changed);
+            }
+            if call.make(self.heap, store) != Answer::Right {
+                return Some(Flaw::NotRepeated);
+            }
+        }
+        if self.shows(store, shown) {
+            None
+        } else {
+            Some(Flaw::OtherReply)
+        }
+    }
+
+    /// Tries a call on a store, with the request after `left` others refused. Returns its result, and true if there was
+    /// such a request.
+    fn round_on<C: Call<&'h Refusing<Global>>>(
+        &self,
+        call: &C,
+        shown: &Shown<'_>,
+        store: &mut Store<&'h Refusing<Global>>,
+        left: u64,
+    ) -> Result<(Answer, bool), Flaw> {
+        let first = self.make(call, store, left);
+        match self.flaw_after(call, shown, store, first.0) {
+            Some(flaw) => Err(flaw),
+            None => Ok(first),
+        }
+    }
+
+    /// Tries a call on a new store in this way.
     fn round<C: Call<&'h Refusing<Global>>>(
         &self,
         call: &C,
         shown: &Shown<'_>,
         left: u64,
-    ) -> Result<(Answer, bool), Fail> {
-        let mut store = self.store()?;
-        let first = self.make(call, &mut store, left);
-        if first.0 == Answer::OutOfMemory {
-            self.is_unchanged(&store)?;
-            if call.make(self.heap, &mut store) != Answer::Right {
-                Err("a call that doesn't succeed afterwards")?;
-            }
-        }
-        if !replies(self.heap, self.json, &store, shown.query, shown.reply)? {
-            Err("another reply after the call")?;
-        }
-        Ok(first)
+    ) -> Result<(Answer, bool), Flaw> {
+        let mut store = self.store().ok_or(Flaw::Nothing)?;
+        self.round_on(call, shown, &mut store, left)
     }
 
-    /// Refuses each request of a call in turn, until a call meets no refusal.
-    pub(super) fn refuse_each<C: Call<&'h Refusing<Global>>>(
+    /// Refuses each request of a call in turn, until a call meets no refusal. Returns the first flaw of the calls; also
+    /// if none was out of memory, or another number than `absorbed` had the right result without a request.
+    pub(super) fn flaw_of<C: Call<&'h Refusing<Global>>>(
         &self,
         call: &C,
         shown: &Shown<'_>,
-    ) -> Result<Refusals, Fail> {
-        let mut found = Refusals {
-            answered: 0,
-            absorbed: 0,
-        };
+        absorbed: u32,
+    ) -> Option<Flaw> {
+        let mut is_answered = false;
+        let mut found: u32 = 0;
         for left in 0..MOST_REQUESTS {
-            match self.round(call, shown, left)? {
-                (Answer::Right, false) => return Ok(found),
-                (Answer::Right, true) => found.absorbed = found.absorbed.wrapping_add(1),
-                (Answer::OutOfMemory, true) => found.answered = found.answered.wrapping_add(1),
-                _ => Err("a wrong answer")?,
+            match self.round(call, shown, left) {
+                Ok((Answer::Right, false)) => return flaw_of_numbers(is_answered, found, absorbed),
+                Ok((Answer::Right, true)) => found = found.wrapping_add(1),
+                Ok((Answer::OutOfMemory, true)) => is_answered = true,
+                Ok(_) => return Some(Flaw::Wrong),
+                Err(flaw) => return Some(flaw),
             }
         }
-        Err("a call that never succeeds")?
+        Some(Flaw::Endless)
+    }
+}
+
+/// Returns the flaw of a trial in which this number of refused requests was absorbed, if any.
+fn flaw_of_numbers(is_answered: bool, found: u32, absorbed: u32) -> Option<Flaw> {
+    if !is_answered {
+        Some(Flaw::NeverRefused)
+    } else if found != absorbed {
+        Some(Flaw::Absorbed(found))
+    } else {
+        None
     }
 }

@@ -1,7 +1,7 @@
 use Rattle.std.proofs.Common.{◌<◌, ℕ, List, length, Result, Ok, Err, IfOk}
 use Rattle.std.proofs.lemmas.Option.{slice_get_within}
 use Rattle.ts_core.specs.lists.Numbered.{IsAt}
-use Rattle.ts_tests.proofs.cell_limits.rollup_series_of.Goals as goal
+use Rattle.ts_unit_tests.proofs.cell_limits.rollup_series_of.Goals as goal
 
 -- an index of an item is within the list
 within : {X E : Type 0} (xs : List X) (x : X) (r : Result ℕ E) → IfOk r (λ n. IsAt xs n x) → IfOk r (λ n. n < length xs)

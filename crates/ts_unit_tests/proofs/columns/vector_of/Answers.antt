@@ -5,7 +5,7 @@ use Rattle.std.proofs.lemmas.Iterator.Consumers.{YieldsList-from_first}
 use Rattle.std.proofs.lemmas.Result.{IfOk-weaker}
 use Rattle.ts_raw.specs.PlainColumns.{IsRising}
 use Rattle.ts_raw.proofs.ColumnLaws.{points-rising}
-use Rattle.ts_tests.proofs.columns.vector_of.Goals as goal
+use Rattle.ts_unit_tests.proofs.columns.vector_of.Goals as goal
 
 pub returns-clause-rising : goal.returns-clause-rising
 returns-clause-rising g =

@@ -95,15 +95,19 @@ fn is_line(line: &Line<'_, Global>, row: &Row) -> bool {
         && line.time().nanos() == row.time
 }
 
+/// Returns true if the text of a row has its parts.
+fn is_row(alloc: Global, row: &Row, now: Time) -> bool {
+    match read_line(alloc, row.text, Precision::Nanoseconds, now) {
+        Ok(Some(line)) => is_line(&line, row),
+        _ => false,
+    }
+}
+
 #[test]
 fn parts_stand_where_they_are_written(rt: HostRuntime) -> Result<(), Fail> {
     let now = Time::new(NOW).ok_or("a time")?;
-    for row in ROWS {
-        let right = match read_line(rt.alloc(), row.text, Precision::Nanoseconds, now) {
-            Ok(Some(line)) => is_line(&line, &row),
-            _ => false,
-        };
-        assert!(rt; right, "{}", row.text);
+    for row in &ROWS {
+        assert!(rt; is_row(rt.alloc(), row, now), "{}", row.text);
     }
     Ok(())
 }

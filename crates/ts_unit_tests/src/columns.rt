@@ -4,7 +4,6 @@ ghost use Rattle.ts_raw.specs.Columns.{AreTimed};
 ghost use Rattle.ts_raw.specs.PlainColumns.{IsRising};
 
 use std::alloc::{AllocError, Global};
-use std::test::Fail;
 use ts_block::check;
 use ts_core::Time;
 use ts_raw::{BlockColumn, BufferedColumn, Column, PlainColumn, Points};
@@ -198,36 +197,52 @@ const ROWS: [&[Call]; 12] = [
 /// Numbers of points to make columns of. From 512 on, a buffered column has blocks.
 const COUNTS: [usize; 6] = [0, 1, 511, 512, 513, 2_000];
 
-/// Stages a point.
-fn stage<C: Column>(column: &mut C, time: i64, value: i64) -> Result<(), Fail> {
-    let time = Time::new(time).ok_or("a time")?;
-    column.prepare(time, value)?;
-    Ok(())
+/// Stages a point; returns true if there was memory.
+fn stage<C: Column>(column: &mut C, time: i64, value: i64) -> bool {
+    match Time::new(time) {
+        Some(time) => column.prepare(time, value).is_ok(),
+        None => false,
+    }
 }
 
-/// Inserts a point.
-fn put<C: Column>(column: &mut C, time: i64, value: i64) -> Result<(), Fail> {
-    let time = Time::new(time).ok_or("a time")?;
-    column.prepare(time, value)?;
+/// Inserts a point; returns true if there was memory.
+pub(crate) fn put<C: Column>(column: &mut C, time: Time, value: i64) -> bool {
+    if column.prepare(time, value).is_err() {
+        return false;
+    }
     column.commit();
-    Ok(())
+    true
 }
 
-/// Inserts points, one after another.
-fn put_all<C: Column>(column: &mut C, times: Times) -> Result<(), Fail> {
+/// Inserts a point at a number of nanoseconds; returns true if that is a time and there was memory.
+pub(crate) fn put_at<C: Column>(column: &mut C, time: i64, value: i64) -> bool {
+    match Time::new(time) {
+        Some(time) => put(column, time, value),
+        None => false,
+    }
+}
+
+/// Inserts points, one after another; returns true if there was memory.
+fn put_all<C: Column>(column: &mut C, times: Times) -> bool {
     let mut time = times.0;
     for _ in 0..times.2 {
-        put(column, time, time.wrapping_mul(3))?;
+        if !put_at(column, time, time.wrapping_mul(3)) {
+            return false;
+        }
         time = time.wrapping_add(times.1);
     }
-    Ok(())
+    true
 }
 
-/// Removes the points before a time.
-fn drop_below<C: Column>(column: &mut C, time: i64) -> Result<(), Fail> {
-    let time = Time::new(time).ok_or("a time")?;
-    column.drop_below(time);
-    Ok(())
+/// Removes the points before a time; returns true if the time is valid.
+fn drop_below<C: Column>(column: &mut C, time: i64) -> bool {
+    match Time::new(time) {
+        Some(time) => {
+            column.drop_below(time);
+            true
+        }
+        None => false,
+    }
 }
 
 /// Returns true if these are the points from one time to another.
@@ -252,72 +267,59 @@ fn has_one<C: Column>(column: &C, from: i64, to: i64, time: i64, value: i64) -> 
 }
 
 /// Calls a column; returns false if the result isn't the expected one.
-fn answers<C: Column>(column: &mut C, call: Call) -> Result<bool, Fail> {
+fn answers<C: Column>(column: &mut C, call: Call) -> bool {
     match call {
-        Call::Put(times) => put_all(column, times)?,
-        Call::PutOne(time, value) => put(column, time, value)?,
-        Call::Stage(time, value) => stage(column, time, value)?,
-        Call::DropBelow(time) => drop_below(column, time)?,
-        Call::Range(from, to, times) => return Ok(has_all(column, from, to, times)),
-        Call::One(from, to, time, value) => return Ok(has_one(column, from, to, time, value)),
-        Call::Live(count) => return Ok(column.live() == count),
+        Call::Put(times) => put_all(column, times),
+        Call::PutOne(time, value) => put_at(column, time, value),
+        Call::Stage(time, value) => stage(column, time, value),
+        Call::DropBelow(time) => drop_below(column, time),
+        Call::Range(from, to, times) => has_all(column, from, to, times),
+        Call::One(from, to, time, value) => has_one(column, from, to, time, value),
+        Call::Live(count) => column.live() == count,
     }
-    Ok(true)
+}
+
+/// Returns true if at most this number of removed points is in memory.
+fn is_lean<C: Column>(column: &C, most: usize) -> bool {
+    match column.held().checked_sub(column.live()) {
+        Some(more) => more <= most,
+        None => false,
+    }
 }
 
 /// Returns the index of the first call with an unexpected result, or after which more than 256 removed points are in
 /// memory.
-fn first_wrong<C: Column>(column: &mut C, calls: &[Call]) -> Result<Option<usize>, Fail> {
+fn first_wrong<C: Column>(column: &mut C, calls: &[Call]) -> Option<usize> {
     for (at, call) in calls.iter().enumerate() {
-        let right = answers(column, *call)?;
-        let more = column.held().checked_sub(column.live());
-        if !right || !more.is_some_and(|more| more <= 256) {
-            return Ok(Some(at));
+        if !answers(column, *call) || !is_lean(column, 256) {
+            return Some(at);
         }
     }
-    Ok(None)
-}
-
-/// Returns the index of the first call with an unexpected result on a plain column.
-fn first_wrong_plain(alloc: Global, calls: &[Call]) -> Result<Option<usize>, Fail> {
-    let mut column = PlainColumn::new(alloc);
-    first_wrong(&mut column, calls)
+    None
 }
 
 #[test]
-fn plain_columns_answer(rt: HostRuntime) -> Result<(), Fail> {
+fn plain_columns_answer(rt: HostRuntime) {
     for (row, calls) in ROWS.iter().enumerate() {
-        assert_eq!(rt; first_wrong_plain(rt.alloc(), calls)?, None, "{row}");
+        let mut column = PlainColumn::new(rt.alloc());
+        assert_eq!(rt; first_wrong(&mut column, calls), None, "{row}");
     }
-    Ok(())
-}
-
-/// Returns the index of the first call with an unexpected result on a column of coded blocks.
-fn first_wrong_coded(alloc: Global, calls: &[Call]) -> Result<Option<usize>, Fail> {
-    let mut column = BlockColumn::new(alloc);
-    first_wrong(&mut column, calls)
 }
 
 #[test]
-fn coded_columns_answer(rt: HostRuntime) -> Result<(), Fail> {
+fn coded_columns_answer(rt: HostRuntime) {
     for (row, calls) in ROWS.iter().enumerate() {
-        assert_eq!(rt; first_wrong_coded(rt.alloc(), calls)?, None, "{row}");
+        let mut column = BlockColumn::new(rt.alloc());
+        assert_eq!(rt; first_wrong(&mut column, calls), None, "{row}");
     }
-    Ok(())
-}
-
-/// Returns the index of the first call with an unexpected result on a column of blocks behind a buffer.
-fn first_wrong_buffered(alloc: Global, calls: &[Call]) -> Result<Option<usize>, Fail> {
-    let mut column = BufferedColumn::new(alloc);
-    first_wrong(&mut column, calls)
 }
 
 #[test]
-fn buffered_columns_answer(rt: HostRuntime) -> Result<(), Fail> {
+fn buffered_columns_answer(rt: HostRuntime) {
     for (row, calls) in ROWS.iter().enumerate() {
-        assert_eq!(rt; first_wrong_buffered(rt.alloc(), calls)?, None, "{row}");
+        let mut column = BufferedColumn::new(rt.alloc());
+        assert_eq!(rt; first_wrong(&mut column, calls), None, "{row}");
     }
-    Ok(())
 }
 
 /// Returns the points of a column as a vector.
@@ -333,26 +335,57 @@ fn are_equal(one: Points<'_>, other: Points<'_>) -> bool {
     one.len() == other.len() && one.zip(other).all(|(point, same)| point == same)
 }
 
-/// Returns true if a buffered column made of points at once has those of a plain one, and at most 255 removed ones.
-fn is_made_equal(alloc: Global, count: usize) -> Result<bool, Fail> {
+/// Returns true if a column has the points of a plain one, this many, and at most 255 removed ones.
+fn is_equal_to(
+    buffered: &BufferedColumn<Global>,
+    plain: &PlainColumn<Global>,
+    count: usize,
+) -> bool {
+    buffered.live() == count && is_lean(buffered, 255) && are_equal(plain.all(), buffered.all())
+}
+
+/// Returns a plain column made of the points of another at once.
+fn plain_of(alloc: Global, column: &PlainColumn<Global>) -> Option<PlainColumn<Global>> {
+    Some(PlainColumn::from_points(vector_of(alloc, column).ok()?))
+}
+
+/// Returns a buffered column made of the points of a plain one at once.
+fn buffered_of(alloc: Global, column: &PlainColumn<Global>) -> Option<BufferedColumn<Global>> {
+    BufferedColumn::from_points(vector_of(alloc, column).ok()?).ok()
+}
+
+/// Returns true if a buffered column made of the points of a column at once, this many, has those of a plain one.
+fn is_buffered_equal(
+    alloc: Global,
+    column: &PlainColumn<Global>,
+    plain: &PlainColumn<Global>,
+    count: usize,
+) -> bool {
+    match buffered_of(alloc, column) {
+        Some(buffered) => is_equal_to(&buffered, plain, count),
+        None => false,
+    }
+}
+
+/// Returns true if columns of both kinds made of the points of a column at once, this many, have the same points.
+fn are_made_equal(alloc: Global, column: &PlainColumn<Global>, count: usize) -> bool {
+    match plain_of(alloc, column) {
+        Some(plain) => is_buffered_equal(alloc, column, &plain, count),
+        None => false,
+    }
+}
+
+/// Returns true if this holds of a column of this many points.
+fn is_made_equal(alloc: Global, count: usize) -> bool {
     let mut column = PlainColumn::new(alloc);
-    put_all(&mut column, Times(1, 1, count))?;
-    let plain = PlainColumn::from_points(vector_of(alloc, &column)?);
-    let buffered = BufferedColumn::from_points(vector_of(alloc, &column)?)?;
-    let more = buffered.held().checked_sub(buffered.live());
-    Ok(
-        buffered.live() == count
-            && more.is_some_and(|more| more <= 255)
-            && are_equal(plain.all(), buffered.all()),
-    )
+    put_all(&mut column, Times(1, 1, count)) && are_made_equal(alloc, &column, count)
 }
 
 #[test]
-fn buffered_columns_are_made_of_points(rt: HostRuntime) -> Result<(), Fail> {
+fn buffered_columns_are_made_of_points(rt: HostRuntime) {
     for count in COUNTS {
-        assert!(rt; is_made_equal(rt.alloc(), count)?, "{count}");
+        assert!(rt; is_made_equal(rt.alloc(), count), "{count}");
     }
-    Ok(())
 }
 
 /// Returns the number of points in the blocks of a column, if all are blocks.
@@ -368,15 +401,17 @@ fn coded_points(column: &BlockColumn<Global>) -> Option<usize> {
     Some(points)
 }
 
+/// Returns true if a column has this many points, and its blocks those in memory.
+fn has_blocks(column: &BlockColumn<Global>, count: usize) -> bool {
+    column.live() == count && coded_points(column) == Some(column.held())
+}
+
 #[test]
-fn blocks_are_held(rt: HostRuntime) -> Result<(), Fail> {
+fn blocks_are_held(rt: HostRuntime) {
     let mut column = BlockColumn::new(rt.alloc());
-    put_all(&mut column, Times(1, 1, 600))?;
-    drop_below(&mut column, 300)?;
+    assert!(rt; put_all(&mut column, Times(1, 1, 600)) && drop_below(&mut column, 300));
     assert_eq!(rt; column.blocks().len(), 2);
-    assert_eq!(rt; coded_points(&column), Some(column.held()));
-    put_all(&mut column, Times(1_000, -1, 300))?;
-    assert_eq!(rt; column.live(), 601);
-    assert_eq!(rt; coded_points(&column), Some(column.held()));
-    Ok(())
+    assert!(rt; has_blocks(&column, 301));
+    assert!(rt; put_all(&mut column, Times(1_000, -1, 300)));
+    assert!(rt; has_blocks(&column, 601));
 }

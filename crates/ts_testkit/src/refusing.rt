@@ -7,7 +7,7 @@ use std::cell::Cell;
 const NEVER: u64 = u64::MAX / 2;
 
 /// Passes requests on to another allocator, but refuses the one after `left` others.
-pub(crate) struct Refusing<B: Allocator> {
+pub struct Refusing<B: Allocator> {
     inner: B,
     left: Cell<u64>,
 }
@@ -21,7 +21,7 @@ fn is_refused(left: &Cell<u64>) -> bool {
 
 impl<B: Allocator> Refusing<B> {
     /// Creates an allocator that refuses nothing.
-    pub(crate) fn new(inner: B) -> Refusing<B> {
+    pub fn new(inner: B) -> Refusing<B> {
         Refusing {
             inner,
             left: Cell::new(NEVER),
@@ -29,17 +29,17 @@ impl<B: Allocator> Refusing<B> {
     }
 
     /// Refuses the request after `left` others, from now on.
-    pub(crate) fn refuse_after(&self, left: u64) {
+    pub fn refuse_after(&self, left: u64) {
         self.left.set(left);
     }
 
     /// Refuses nothing, from now on.
-    pub(crate) fn refuse_none(&self) {
+    pub fn refuse_none(&self) {
         self.left.set(NEVER);
     }
 
     /// Returns true if a request was refused.
-    pub(crate) fn has_refused(&self) -> bool {
+    pub fn has_refused(&self) -> bool {
         self.left.get() > NEVER
     }
 }
@@ -63,15 +63,4 @@ unsafe impl<B: Allocator> Allocator for Refusing<B> {
     unsafe fn deallocate(&self, ptr: *mut u8, size: usize, align: usize) {
         self.inner.deallocate(ptr, size, align);
     }
-}
-
-#[test]
-fn the_second_request_is_refused(rt: HostRuntime) {
-    let heap = Refusing::new(rt.alloc());
-    heap.refuse_after(1);
-    let first = Vec::<u8, _>::with_capacity(&heap, 4).is_ok();
-    let second = Vec::<u8, _>::with_capacity(&heap, 4).is_ok();
-    assert!(rt; first && !second && heap.has_refused());
-    let third = Vec::<u8, _>::with_capacity(&heap, 4).is_ok();
-    assert!(rt; third);
 }

@@ -4,21 +4,21 @@ use std::io;
 use std::io::{ErrorKind, Read, Write};
 
 /// A call that no test makes.
-pub(crate) const NEVER: usize = usize::MAX;
+pub const NEVER: usize = usize::MAX;
 
 /// A reader that returns at most `piece` bytes per call. The call with the index `fails_at` fails; the next one
 /// succeeds.
 #[derive(Drop)]
-pub(crate) struct PieceReader<'a> {
-    pub(crate) left: &'a [u8],
-    pub(crate) piece: usize,
-    pub(crate) calls: usize,
-    pub(crate) fails_at: usize,
+pub struct PieceReader<'a> {
+    pub left: &'a [u8],
+    pub piece: usize,
+    pub calls: usize,
+    pub fails_at: usize,
 }
 
 impl<'a> PieceReader<'a> {
     /// Creates a reader before its first call.
-    pub(crate) fn new(left: &'a [u8], piece: usize, fails_at: usize) -> PieceReader<'a> {
+    pub fn new(left: &'a [u8], piece: usize, fails_at: usize) -> PieceReader<'a> {
         PieceReader {
             left,
             piece,
@@ -44,7 +44,7 @@ impl Read for PieceReader<'_> {
 
 /// Failure of a writer's call.
 #[derive(Clone, Copy, Debug, PartialEq, Eq)]
-pub(crate) enum Failure {
+pub enum Failure {
     /// It returns an error.
     Error,
     /// It accepts no byte.
@@ -54,22 +54,17 @@ pub(crate) enum Failure {
 /// A writer that accepts at most `piece` bytes per call. The call with the index `fails_at` fails; the next one
 /// succeeds.
 #[derive(Drop)]
-pub(crate) struct PieceWriter {
-    pub(crate) written: Vec<u8>,
-    pub(crate) piece: usize,
-    pub(crate) calls: usize,
-    pub(crate) fails_at: usize,
-    pub(crate) failure: Failure,
+pub struct PieceWriter {
+    pub written: Vec<u8>,
+    pub piece: usize,
+    pub calls: usize,
+    pub fails_at: usize,
+    pub failure: Failure,
 }
 
 impl PieceWriter {
     /// Creates a writer over an empty vector, before its first call.
-    pub(crate) fn new(
-        written: Vec<u8>,
-        piece: usize,
-        fails_at: usize,
-        failure: Failure,
-    ) -> PieceWriter {
+    pub fn new(written: Vec<u8>, piece: usize, fails_at: usize, failure: Failure) -> PieceWriter {
         PieceWriter {
             written,
             piece,

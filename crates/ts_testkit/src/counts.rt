@@ -1,0 +1,21 @@
+//! Aggregates with counts at their limit.
+
+use ts_core::{Agg, MAX_COUNT, Partial, Time};
+
+/// Returns the merged aggregate of both, if they have at most 2^62 points together.
+pub fn merged(a: Agg, b: Agg) -> Option<Agg> {
+    if a.count() + b.count() > MAX_COUNT {
+        return None;
+    }
+    Some(a.merge(b))
+}
+
+/// Returns the aggregate of 2^62 - 1 points of value 1 at this time.
+pub fn all_but_one(time: Time) -> Option<Agg> {
+    let one = Agg::single(time, 1);
+    let mut total = Agg::empty();
+    for _ in 0..62 {
+        total = merged(merged(total, total)?, one)?;
+    }
+    Some(total)
+}
