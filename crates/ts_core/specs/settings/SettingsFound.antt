@@ -1,6 +1,6 @@
 -- The parts of settings that a JSON value has, empty where it lacks one: what a fault is looked for in, before anything
 -- is copied. (Own rules.)
-use Rattle.std.specs.Prelude.{ℕ, ℤ, pos, unsigned_abs, List, [], ◌∷◌, Option, option_and_then, unwrap_or, Result, codes, map}
+use Rattle.std.specs.Prelude.{pos, unsigned_abs, List, [], ◌∷◌, option_and_then, unwrap_or, Result, codes, map}
 use Rattle.serde_json.specs.Data.{Data, Items, no_items, item}
 use Rattle.serde_json.specs.Find.{get, as_str, as_array}
 use Rattle.serde_json.specs.View.{view}

@@ -1,6 +1,5 @@
 use Rattle.std.proofs.Common.{rules, ◌≡◌, ◌∙◌, ℤ, sym, ap, Some, unsigned_abs, SFits, to_z, of_z, to_z-of_z}
 use Rattle.std.specs.Int.{w64}
-use Rattle.std.specs.Result.{IsOk}
 use Rattle.serde_json.specs.View.{view}
 use Rattle.ts_core.specs.settings.SettingsFaults.{settings_fault}
 use Rattle.ts_core.specs.settings.SettingsTexts.{settings_parsed}

@@ -2,7 +2,7 @@ use Rattle.std.proofs.Common.{rules, ◌≡◌, ◌∙◌, true, false, None, So
 use Rattle.std.specs.Prelude.{is_some}
 use Rattle.serde_json.specs.View.{view, items_view}
 use Rattle.ts_core.specs.settings.SettingsTexts.{has_keys, each, filled_text}
-use Rattle.ts_core.proofs.settings.SettingsForms.{name_in, measurement_in, interval_in, offset_in, values_in, tags_in, duration_in, other_keys, no_name, no_measurement, no_interval, no_offset, no_tag_values, no_tags}
+use Rattle.ts_core.proofs.settings.SettingsForms.{name_in, measurement_in, interval_in, offset_in, values_in, tags_in, other_keys, no_name, no_measurement, no_interval, no_offset, no_tag_values, no_tags}
 use Rattle.ts_core.proofs.settings.FoundLemmas.{none_of, rule_form}
 use Rattle.ts_core.proofs.settings.first_fault.is_rule.Goals as goal
 

@@ -1,4 +1,4 @@
-use Rattle.std.proofs.Common.{◌≡◌, refl}
+use Rattle.std.proofs.Common.{refl}
 use Rattle.serde_json.specs.Data.{no_items}
 use Rattle.serde_json.specs.View.{view, items_view}
 use Rattle.ts_core.proofs.settings.FoundLemmas.{unwrapped, rules_listed}
