@@ -1,6 +1,7 @@
 -- SettingsTexts, SettingsWritten: settings written and parsed back
 pub mod SettingsBack
 pub mod SettingsForms
+pub mod FoundLemmas
 pub mod FilledTexts
 pub mod EachItem
 -- SettingsFaults: the properties of settings without a fault

@@ -2,4 +2,5 @@
 pub mod Settings
 pub mod SettingsFaults
 pub mod SettingsTexts
+pub mod SettingsFound
 pub mod SettingsWritten

@@ -8,7 +8,7 @@ mod partial;
 mod remainder;
 
 pub use aggregate::{Agg, Extremes, MAX_COUNT};
-pub use bucket::{Bucket, Buckets, first_index, index_of};
+pub use bucket::{Bucket, Buckets, bucket_index, first_index, index_of};
 pub use fold::{aggregate_points, fold_points};
 pub use means::{Frac, mean};
 pub use partial::{Partial, merge_within};

@@ -1,6 +1,6 @@
 -- The parts of a text of settings: a missing one is a fault of the form.
 use Rattle.std.proofs.Common.{◌≡◌, ℤ, ℕ, Bool, true, false, List, Option, Some, None, Result, Ok, Err, option_and_then, unsigned_abs, codes, refl, sym, ap, ◌∙◌, IfErr}
-use Rattle.std.specs.Result.{IsErrAnd}
+use Rattle.std.specs.Result.{IsErrAnd, IsOk, result_err}
 use Rattle.serde_json.specs.Data.{Data, Items}
 use Rattle.serde_json.specs.Find.{get, as_array}
 use Rattle.serde_json.specs.Read.{read}
@@ -8,6 +8,7 @@ use Rattle.ts_core.specs.facts.Facts.{Text}
 use Rattle.ts_core.specs.settings.Settings.{Rule, Settings}
 use Rattle.ts_core.specs.settings.SettingsFaults.{settings_fault}
 use Rattle.ts_core.specs.facts.Durations.{span_of, offset_of, keeping_of}
+use Rattle.ts_core.specs.settings.SettingsFound.{settings_from}
 use Rattle.ts_core.specs.settings.SettingsTexts.{has_keys, text_at, if_not_empty, filled_text, each, rule_with, rule_parsed, settings_with, settings_parsed, rule_read, settings_or_fault, unless_fault, settings_read, IsRefusal}
 use Rattle.ts_core.specs.declared.settings.settings_fault.SettingsError.{SettingsError}
 use Rattle.ts_core.specs.declared.settings.settings_fault.SettingsError.TheVariants.{Fault, OutOfMemory}
@@ -193,7 +194,7 @@ pub rule_data : (text : Text) (d : Data) → read text ≡ Some d → rule_parse
 unfolding rule_read
 rule_data text d is = ap (option_and_then rule_parsed) (sym is)
 
-form_told : (o : Option Settings) (e : SettingsError) (f : SettingsFault) → IsRefusal e o → e ≡ Fault f → settings_or_fault o ≡ Err f
+pub form_told : (o : Option Settings) (e : SettingsError) (f : SettingsFault) → IsRefusal e o → e ≡ Fault f → settings_or_fault o ≡ Err f
 form_told o OutOfMemory f r is = absurd (cc)
 form_told o (Fault g) f r is = let same : f ≡ Form = cc in rw (r.1, same) refl
 
@@ -201,13 +202,28 @@ pub no_data : (text : Text) (e : SettingsError) (f : SettingsFault) → IsRefusa
 unfolding settings_read
 no_data text e f r is = form_told (option_and_then settings_parsed (read text)) e f (refused_by e (read text) (option_and_then settings_parsed (read text)) (λ none. ap (option_and_then settings_parsed) none) r) is
 
-pub no_settings : (text : Text) (d : Data) (e : SettingsError) (f : SettingsFault) → read text ≡ Some d → IsRefusal e (settings_parsed d) → e ≡ Fault f → settings_read text ≡ Err f
+-- the settings of a text are those of its value
+pub value_read : (text : Text) (d : Data) → read text ≡ Some d → settings_from d ≡ settings_read text
 unfolding settings_read
-no_settings text d e f is r err = ap (λ o. settings_or_fault (option_and_then settings_parsed o)) is ∙ form_told (settings_parsed d) e f r err
+value_read text d is = ap (λ o. settings_or_fault (option_and_then settings_parsed o)) (sym is)
 
-pub at_fault : (text : Text) (d : Data) (s : Settings) (f : SettingsFault) → read text ≡ Some d → settings_parsed d ≡ Some s → settings_fault s ≡ Some f → settings_read text ≡ Err f
-unfolding settings_read
-at_fault text d s f is so fault = ap (λ o. settings_or_fault (option_and_then settings_parsed o)) is ∙ ap settings_or_fault so ∙ ap (unless_fault s) fault
+pub value_at_fault : (d : Data) (s : Settings) (f : SettingsFault) → settings_parsed d ≡ Some s → settings_fault s ≡ Some f → settings_from d ≡ Err f
+value_at_fault d s f so fault = ap settings_or_fault so ∙ ap (unless_fault s) fault
+
+pub value_faultless : (d : Data) (s : Settings) → settings_parsed d ≡ Some s → settings_fault s ≡ None → settings_from d ≡ Ok s
+value_faultless d s so none = ap settings_or_fault so ∙ ap (unless_fault s) none
+
+pub only_fault : (out : Result Settings SettingsFault) (fault f : SettingsFault) → Some fault ≡ result_err out → Fault fault ≡ Fault f → out ≡ Err f
+only_fault (Ok s) fault f is same = absurd (let q : Some fault ≡ None = is in cc)
+only_fault (Err g) fault f is same = let q : Some fault ≡ Some g = is in let e : g ≡ f = cc in ap Err e
+
+pub no_fault : (out : Result Settings SettingsFault) → None ≡ result_err out → IsOk out
+no_fault (Ok s) is = refl
+no_fault (Err f) is = absurd (let q : None ≡ Some f = is in cc)
+
+pub whatever_error : {X : Type 0} (r : Result X SettingsError) (out : Result Settings SettingsFault) → IsOk out → IfErr r (λ e. e ≡ OutOfMemory → IsOk out)
+whatever_error (Ok x) out ok = tt
+whatever_error (Err e) out ok = λ same. ok
 
 pub faultless : (text : Text) (d : Data) (s : Settings) → read text ≡ Some d → settings_parsed d ≡ Some s → settings_fault s ≡ None → settings_read text ≡ Ok s
 unfolding settings_read

@@ -1,7 +1,7 @@
 -- A read buffer, with a limit on the number of reads. (Own rules.)
 use Rattle.std.specs.Prelude.{◌≡◌, ◌≢◌, ℕ, ◌+◌, ◌-◌, ◌*◌, ◌≤◌, ◌<◌, List, [], ◌++◌, length, take, drop, Bool, true, false, not, nat_lt, Option, Result, Ok, Err, OnOk, OnErr, IfOk, if◌then◌else◌}
 use Rattle.std.specs.Io.KnownBytes.{prepend_known, IsAtEnd, Consumes, Keeps}
-use Rattle.ts_core.specs.io.Devices.{Input}
+use Rattle.ts_core.specs.io.Devices.{Input, EachReadCounts}
 use Rattle.ts_core.specs.declared.io.read_ahead.ReadFault.{ReadFault}
 use Rattle.ts_core.specs.declared.io.read_ahead.ReadFault.TheVariants.{Device, TooManyReads}
 
@@ -72,6 +72,7 @@ pub record IsFilled (old : Ahead) (source : Input) (result : Result Bool ReadFau
   pub failures : source'.failures ≡ source.failures + one_if_device result
   pub reads : source'.reads + old.reads ≡ source.reads + new.reads
   pub ends : source'.ends ≡ source.ends + bit new.ended
+  pub each : EachReadCounts source source'
   -- reads are counted up to the limit, at which nothing changes any more
   pub read_once : OnOk result (new.reads ≡ old.reads + 1)
   pub failed : result ≡ Err Device → new.reads ≡ old.reads + 1

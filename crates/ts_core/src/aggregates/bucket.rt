@@ -93,6 +93,17 @@ impl Buckets {
     }
 }
 
+/// Returns the index of the bucket that contains a time, among those of this interval and offset.
+pub fn bucket_index(time: i128, interval: i64, offset: i64) -> i128
+    requires interval { pos 1 ≤ℤ interval }
+    requires bound { unsigned_abs time ≤ 2 ^ 126 }
+    ensures bucket { IsBucketOf time interval offset result }
+    ensures index { result ≡ bucket_of time interval offset }
+    ensures near { unsigned_abs result ≤ unsigned_abs time + 2 ^ 64 }
+{
+    Buckets { interval, offset }.index(time)
+}
+
 /// Returns the index of the rule's bucket that contains a time.
 pub fn index_of<A: Allocator>(rule: &Rule<A>, time: i128) -> i128
     requires interval { pos 1 ≤ℤ rule.now.interval }

@@ -1,5 +1,5 @@
 //! A reader that counts its reads, failures and ends of input for contracts.
-ghost use Rattle.std.specs.Prelude.{◌≡◌};
+ghost use Rattle.std.specs.Prelude.{◌≡◌, ◌<◌, length};
 ghost use Rattle.ts_core.specs.io.Devices.{unread, IsRead};
 
 use crate::io::tally::Tally;
@@ -50,15 +50,17 @@ impl<R: Read> Source<R> {
         inner
     }
 
-    /// Calls the reader once and counts the read. A read of no bytes into a non-empty buffer is the end of input.
+    /// Calls the reader once, with a buffer that isn't empty, and counts the read. A read of no bytes is the end of
+    /// input.
     pub fn read(&mut self, buf: &mut [u8]) -> io::Result<usize>
+        requires { 0 < length buf.old }
         ensures { IsRead self.old result buf.new self.new }
     {
         self.reads.tick();
         let result = self.inner.read(buf);
         match &result {
             Ok(n) => {
-                if *n == 0 && !buf.is_empty() {
+                if *n == 0 {
                     self.ends.tick();
                 }
             }

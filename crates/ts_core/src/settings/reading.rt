@@ -1,13 +1,16 @@
 //! Parses settings from JSON.
-ghost use Rattle.std.specs.Prelude.{◌≡◌, pos, ◌≤ℤ◌, map, string_bytes, unsigned_abs, option_map, option_and_then, Some, Ok, Err, IfOk, IfErr, IfSome};
+ghost use Rattle.std.specs.Prelude.{◌≡◌, pos, ◌≤ℤ◌, map, string_bytes, unsigned_abs, option_map, option_and_then, Some, Ok, Err, IfOk, IfErr, IfSome, IsSome};
+ghost use Rattle.std.specs.Result.{IsOk};
 ghost use Rattle.serde_json.specs.Find.{get, as_array};
 ghost use Rattle.serde_json.specs.Read.{read};
 ghost use Rattle.serde_json.specs.View.{view, items_view};
 ghost use Rattle.ts_core.specs.facts.Durations.{span_of, offset_of, keeping_of};
+ghost use Rattle.ts_core.specs.settings.SettingsFound.{settings_from};
 ghost use Rattle.ts_core.specs.settings.SettingsTexts.{has_keys, text_at, if_not_empty, filled_text, each, rule_parsed, rule_read, settings_parsed, settings_read, IsRefusal};
 ghost use Rattle.ts_core.specs.declared.settings.settings_fault.SettingsError.TheVariants as errors;
 ghost use Rattle.ts_core.specs.declared.settings.settings_fault.SettingsFault.{SettingsFault};
 
+use super::first_fault::{first_fault, is_rule};
 use crate::facts::duration::{interval, keeping, offset};
 use crate::settings::{Rule, Settings, SettingsError, SettingsFault};
 use serde_json::Value;
@@ -16,7 +19,7 @@ use std::alloc::{Allocator, Global};
 const NO_FORM: SettingsError = SettingsError::Fault(SettingsFault::Form);
 
 /// Returns true if a value is an object with `count` keys.
-fn has_keys(value: &Value, count: usize) -> bool
+pub(super) fn has_keys(value: &Value, count: usize) -> bool
     ensures { result ≡ has_keys count (view value.now) }
 {
     match value.as_object() {
@@ -26,14 +29,14 @@ fn has_keys(value: &Value, count: usize) -> bool
 }
 
 /// Returns the text of a key, or `None` if its value isn't a text.
-fn text_at<'v>(value: &'v Value, key: &str) -> Option<&'v str>
+pub(super) fn text_at<'v>(value: &'v Value, key: &str) -> Option<&'v str>
     ensures { option_map (λ s. s.now) result ≡ text_at key.now (view value.now) }
 {
     value.get(key).and_then(Value::as_str)
 }
 
 /// Returns the items of a key, or `None` if its value isn't an array.
-fn values_at<'v>(value: &'v Value, key: &str) -> Option<&'v [Value]>
+pub(super) fn values_at<'v>(value: &'v Value, key: &str) -> Option<&'v [Value]>
     ensures { option_map (λ vs. items_view vs.now) result ≡ option_and_then as_array (get key.now (view value.now)) }
 {
     let values = value.get(key).and_then(Value::as_array)?;
@@ -41,7 +44,7 @@ fn values_at<'v>(value: &'v Value, key: &str) -> Option<&'v [Value]>
 }
 
 /// Returns the text, or `None` if it is empty.
-fn filled(text: &str) -> Option<&str>
+pub(super) fn filled(text: &str) -> Option<&str>
     ensures { option_map (λ s. s.now) result ≡ if_not_empty text.now }
 {
     if text.is_empty() { None } else { Some(text) }
@@ -64,28 +67,28 @@ fn filled_strings<A: Allocator + Copy>(
 }
 
 /// Returns the text of a key, or `None` if its value isn't a text, or is empty.
-fn filled_string_at<'v>(value: &'v Value, key: &str) -> Option<&'v str>
+pub(super) fn filled_string_at<'v>(value: &'v Value, key: &str) -> Option<&'v str>
     ensures { option_map (λ s. s.now) result ≡ option_and_then if_not_empty (text_at key.now (view value.now)) }
 {
     filled(text_at(value, key)?)
 }
 
 /// Parses the interval of a key; returns its nanoseconds.
-fn interval_at(value: &Value, key: &str) -> Option<i64>
+pub(super) fn interval_at(value: &Value, key: &str) -> Option<i64>
     ensures { result ≡ option_and_then span_of (text_at key.now (view value.now)) }
 {
     interval(text_at(value, key)?)
 }
 
 /// Parses the offset of a key; returns its nanoseconds.
-fn offset_at(value: &Value, key: &str) -> Option<i64>
+pub(super) fn offset_at(value: &Value, key: &str) -> Option<i64>
     ensures { result ≡ option_and_then offset_of (text_at key.now (view value.now)) }
 {
     offset(text_at(value, key)?)
 }
 
 /// Parses the retention duration of a key; returns its nanoseconds, 0 for ever.
-fn keeping_at(value: &Value, key: &str) -> Option<i64>
+pub(super) fn keeping_at(value: &Value, key: &str) -> Option<i64>
     ensures value { result ≡ option_and_then keeping_of (text_at key.now (view value.now)) }
     ensures lasting { IfSome result (λ n. pos 0 ≤ℤ n) }
 {
@@ -181,26 +184,52 @@ fn value_of(json: Global, text: &str) -> Result<Value, SettingsError>
 }
 
 impl<A: Allocator + Copy> Rule<A> {
+    /// Creates the rule that a JSON value is. Returns the error `Form` if it isn't one, and so is out of memory only for
+    /// a rule.
+    pub fn of_json(alloc: A, value: &Value) -> Result<Rule<A>, SettingsError>
+        ensures ok { IfOk result (λ r. rule_parsed (view value.now) ≡ Some r) }
+        ensures err { IfErr result (λ e. IsRefusal e (rule_parsed (view value.now))) }
+        ensures memory { IfErr result (λ e. e ≡ errors.OutOfMemory → IsSome (rule_parsed (view value.now))) }
+    {
+        if !is_rule(value) {
+            return Err(NO_FORM);
+        }
+        rule(alloc, value)
+    }
+
     /// Parses a rule, which is a JSON object as in settings. Returns the error `Form` if the text isn't one. The JSON
-    /// parser allocates in `json`.
+    /// parser allocates in `json`, and may run out of memory for any text; the rest is `of_json`.
     pub fn read(alloc: A, json: Global, text: &str) -> Result<Rule<A>, SettingsError>
         ensures ok { IfOk result (λ r. rule_read text.now ≡ Some r) }
         ensures err { IfErr result (λ e. IsRefusal e (rule_read text.now)) }
     {
         let value = value_of(json, text)?;
-        rule(alloc, &value)
+        Rule::of_json(alloc, &value)
     }
 }
 
 impl<A: Allocator + Copy> Settings<A> {
+    /// Creates the settings that a JSON value is, or returns their first error; the form of the whole value is checked
+    /// first. The error is found before anything is allocated, so only settings without one run out of memory.
+    pub fn of_json(alloc: A, value: &Value) -> Result<Settings<A>, SettingsError>
+        ensures ok { IfOk result (λ s. settings_from (view value.now) ≡ Ok s) }
+        ensures fault { IfErr result (λ e. (f : SettingsFault) → e ≡ errors.Fault f → settings_from (view value.now) ≡ Err f) }
+        ensures memory { IfErr result (λ e. e ≡ errors.OutOfMemory → IsOk (settings_from (view value.now))) }
+    {
+        if let Some(fault) = first_fault(value) {
+            return Err(SettingsError::Fault(fault));
+        }
+        let (raw, rules) = parts(alloc, value)?;
+        Ok(Settings::new(raw, rules)?)
+    }
+
     /// Parses settings, which are a JSON object, or returns their first error; the form of the whole text is checked
-    /// first. The JSON parser allocates in `json`.
+    /// first. The JSON parser allocates in `json`, and may run out of memory for any text; the rest is `of_json`.
     pub fn read(alloc: A, json: Global, text: &str) -> Result<Settings<A>, SettingsError>
         ensures ok { IfOk result (λ s. settings_read text.now ≡ Ok s) }
         ensures fault { IfErr result (λ e. (f : SettingsFault) → e ≡ errors.Fault f → settings_read text.now ≡ Err f) }
     {
         let value = value_of(json, text)?;
-        let (raw, rules) = parts(alloc, &value)?;
-        Ok(Settings::new(raw, rules)?)
+        Settings::of_json(alloc, &value)
     }
 }

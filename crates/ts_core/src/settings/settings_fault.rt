@@ -67,7 +67,7 @@ fn is_named<A: Allocator>(rules: &[Rule<A>], name: &str) -> bool
     rules.iter().any(|rule| rule.name() == name)
 }
 
-fn is_interval(interval: i64) -> bool
+pub(super) fn is_interval(interval: i64) -> bool
     ensures { result ≡ is_interval interval }
 {
     1_000_000_000 <= interval && interval <= 31_622_400_000_000_000
@@ -91,7 +91,7 @@ fn are_kept_tags<A: Allocator>(rule: &Rule<A>) -> bool
 }
 
 /// Returns true if a duration lasts at least as long as another; 0 is for ever.
-fn outlasts(long: u64, short: u64) -> bool
+pub(super) fn outlasts(long: u64, short: u64) -> bool
     ensures { result ≡ outlasts long short }
 {
     long == 0 || (0 < short && short <= long)

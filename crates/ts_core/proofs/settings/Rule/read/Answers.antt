@@ -14,8 +14,8 @@ returns-in_err-value-clause-err g c =
 
 pub returns-clause-ok : goal.returns-clause-ok
 returns-clause-ok g c =
-    subst (λ (o : Option Rule). IfOk c.rule.result (λ r. o ≡ Some r)) (rule_data c.args.text.now (view c.in_ok-value.value) c.in_ok-value.ensures.ok) c.rule.ensures.ok
+    subst (λ (o : Option Rule). IfOk c.of_json.result (λ r. o ≡ Some r)) (rule_data c.args.text.now (view c.in_ok-value.value) c.in_ok-value.ensures.ok) c.of_json.ensures.ok
 
 pub returns-clause-err : goal.returns-clause-err
 returns-clause-err g c =
-    subst (λ (o : Option Rule). IfErr c.rule.result (λ e. IsRefusal e o)) (rule_data c.args.text.now (view c.in_ok-value.value) c.in_ok-value.ensures.ok) c.rule.ensures.err
+    subst (λ (o : Option Rule). IfErr c.of_json.result (λ e. IsRefusal e o)) (rule_data c.args.text.now (view c.in_ok-value.value) c.in_ok-value.ensures.ok) c.of_json.ensures.err
