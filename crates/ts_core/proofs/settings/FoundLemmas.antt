@@ -9,9 +9,9 @@ use Rattle.serde_json.specs.View.{view, items_view}
 use Rattle.serde_json.specs.declared.value.Value.{Value}
 use Rattle.ts_core.specs.facts.Facts.{Text}
 use Rattle.ts_core.specs.settings.Settings.{Rule, Settings}
-use Rattle.ts_core.specs.settings.SettingsFaults.{settings_fault}
+use Rattle.ts_core.specs.settings.SettingsFaults.{settings_fault, added_fault}
 use Rattle.ts_core.specs.settings.SettingsTexts.{has_keys, if_not_empty, filled_text, each, rule_with, rule_parsed, settings_with, settings_parsed, unless_fault, settings_or_fault}
-use Rattle.ts_core.specs.settings.SettingsFound.{text_found, of_each, items_in, rule_found, rules_found, texts_found, settings_found, settings_from}
+use Rattle.ts_core.specs.settings.SettingsFound.{text_found, of_each, items_in, rule_found, rules_found, texts_found, settings_found, settings_from, fault_added}
 use Rattle.ts_core.specs.declared.settings.settings_fault.SettingsFault.{SettingsFault}
 use Rattle.ts_core.specs.declared.settings.settings_fault.SettingsFault.TheVariants.{Form}
 use Rattle.ts_core.proofs.settings.SettingsForms.{rule_of_parts, settings_of_parts, name_in, measurement_in, interval_in, offset_in, tags_in, duration_in, raw_in}
@@ -164,3 +164,18 @@ rules_listed d vs e = sym (ap (of_each rule_found) e ∙ found_of_each rule_foun
 pub none_of : {X : Type 0} (o : Option X) → is_some o ≡ false → o ≡ None
 none_of None h = refl
 none_of (Some x) h = absurd (let q : true ≡ false = h in cc)
+
+-- ---- a rule that is added
+
+-- a value that is no rule
+pub no_rule : (s : Settings) (o : Option Rule) → is_some o ≡ false → Some Form ≡ fault_added s o
+no_rule s None h = refl
+no_rule s (Some r) h = absurd (let q : true ≡ false = h in cc)
+
+added_is : (s : Settings) (o : Option Rule) (found : Rule) → ((r : Rule) → o ≡ Some r → found ≡ r) → is_some o ≡ true → added_fault s found ≡ fault_added s o
+added_is s None found same h = absurd (let q : false ≡ true = h in cc)
+added_is s (Some r) found same h = ap (added_fault s) (same r refl)
+
+-- the fault of adding a rule is that of its parts
+pub added_found : (s : Settings) (d : Data) → is_some (rule_parsed d) ≡ true → added_fault s (rule_found d) ≡ fault_added s (rule_parsed d)
+added_found s d h = added_is s (rule_parsed d) (rule_found d) (rule_is d) h

@@ -79,14 +79,18 @@ settings_error_text errors.OutOfMemory = memory_text
 abbrev pub unknown_rule_text : Text
 unknown_rule_text = fault_text coded.UnknownRule detailed.Alone
 
--- the fault of a rule after others
-abbrev pub fault_of_rule : ℕ → List Rule → Rule → Option RuleFault
-fault_of_rule raw earlier r =
+-- the fault of a rule, by whether an earlier one has its name
+abbrev pub fault_if_named : ℕ → Bool → Rule → Option RuleFault
+fault_if_named raw named r =
     unless (is_rule_name r.name) BadName
-    (unless (not (is_named earlier r.name)) RepeatedName
+    (unless (not named) RepeatedName
     (unless (is_interval r.interval) Interval
     (unless (are_kept_tags r.kept_tags) KeptTags
     (unless (outlasts r.duration raw) Duration None))))
+
+-- the fault of a rule after others
+abbrev pub fault_of_rule : ℕ → List Rule → Rule → Option RuleFault
+fault_of_rule raw earlier r = fault_if_named raw (is_named earlier r.name) r
 
 abbrev pub or_rule_fault : ℕ → Option RuleFault → Option SettingsFault → Option SettingsFault
 or_rule_fault n None next = next

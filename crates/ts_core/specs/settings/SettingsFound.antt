@@ -1,6 +1,6 @@
 -- The parts of settings that a JSON value has, empty where it lacks one: what a fault is looked for in, before anything
 -- is copied. (Own rules.)
-use Rattle.std.specs.Prelude.{pos, unsigned_abs, List, [], ◌∷◌, option_and_then, unwrap_or, Result, codes, map}
+use Rattle.std.specs.Prelude.{pos, unsigned_abs, List, [], ◌∷◌, Option, Some, None, option_and_then, unwrap_or, Result, codes, map}
 use Rattle.serde_json.specs.Data.{Data, Items, no_items, item}
 use Rattle.serde_json.specs.Find.{get, as_str, as_array}
 use Rattle.serde_json.specs.View.{view}
@@ -10,6 +10,8 @@ use Rattle.ts_core.specs.facts.Durations.{span_of, offset_of, keeping_of}
 use Rattle.ts_core.specs.settings.Settings.{Rule, Settings}
 use Rattle.ts_core.specs.settings.SettingsTexts.{text_at, if_not_empty, settings_parsed, settings_or_fault}
 use Rattle.ts_core.specs.declared.settings.settings_fault.SettingsFault.{SettingsFault}
+use Rattle.ts_core.specs.declared.settings.settings_fault.SettingsFault.TheVariants.{Form}
+use Rattle.ts_core.specs.settings.SettingsFaults.{added_fault}
 
 -- the text of a value
 abbrev pub text_found : Data → Text
@@ -52,3 +54,8 @@ settings_found d = record {
 -- the settings that a value is, or their first error
 abbrev pub settings_from : Data → Result Settings SettingsFault
 settings_from d = settings_or_fault (settings_parsed d)
+
+-- the fault of appending the rule that a value is, if it is one
+abbrev pub fault_added : Settings → Option Rule → Option SettingsFault
+fault_added s None = Some Form
+fault_added s (Some r) = added_fault s r

@@ -4,15 +4,19 @@ ghost use Rattle.std.specs.List.{list_any};
 ghost use Rattle.std.specs.Result.{result_err};
 ghost use Rattle.serde_json.specs.View.{view, items_view};
 ghost use Rattle.ts_core.specs.facts.Facts.{same_text};
-ghost use Rattle.ts_core.specs.settings.SettingsFaults.{is_named, is_interval, are_distinct, are_kept_tags, outlasts, unless, fault_of_rule, rules_fault, settings_fault};
+ghost use Rattle.ts_core.specs.settings.SettingsFaults.{is_named, is_interval, are_distinct, are_kept_tags, outlasts, fault_if_named, fault_of_rule, added_fault, rules_fault, settings_fault};
 ghost use Rattle.ts_core.specs.settings.SettingsFound.{text_found, texts_found, rule_found, rules_found, settings_found, settings_from};
 ghost use Rattle.ts_core.specs.settings.SettingsTexts.{filled_text, each, rule_parsed, settings_parsed};
 
 use super::reading::{
     filled, filled_string_at, has_keys, interval_at, keeping_at, offset_at, text_at, values_at,
 };
-use super::settings_fault::{RuleFault, SettingsFault, is_interval, is_rule_name, outlasts};
+use super::settings_fault::{
+    RuleFault, SettingsFault, is_interval, is_named as is_named_among, is_rule_name, outlasts,
+};
+use crate::settings::Rule;
 use serde_json::Value;
+use std::alloc::Allocator;
 
 /// Returns true if a value is a text that isn't empty.
 fn is_filled(value: &Value) -> bool
@@ -147,14 +151,14 @@ fn is_named(rules: &[Value], name: &str) -> bool
     rules.iter().any(|rule| name_of(rule) == name)
 }
 
-/// Returns the first fault of a rule after others.
-fn fault_of_rule(raw: u64, earlier: &[Value], rule: &Value) -> Option<RuleFault>
-    ensures { result ≡ fault_of_rule raw (rules_found earlier.now) (rule_found (view rule.now)) }
+/// Returns the first fault of a rule, by whether an earlier one has its name.
+fn fault_if_named(raw: u64, is_named: bool, rule: &Value) -> Option<RuleFault>
+    ensures { result ≡ fault_if_named raw is_named (rule_found (view rule.now)) }
 {
     if !is_rule_name(name_of(rule)) {
         return Some(RuleFault::BadName);
     }
-    if is_named(earlier, name_of(rule)) {
+    if is_named {
         return Some(RuleFault::RepeatedName);
     }
     if !is_interval(interval_of(rule)) {
@@ -167,6 +171,30 @@ fn fault_of_rule(raw: u64, earlier: &[Value], rule: &Value) -> Option<RuleFault>
         return Some(RuleFault::Duration);
     }
     None
+}
+
+/// Returns the first fault of a rule after others.
+fn fault_of_rule(raw: u64, earlier: &[Value], rule: &Value) -> Option<RuleFault>
+    ensures { result ≡ fault_of_rule raw (rules_found earlier.now) (rule_found (view rule.now)) }
+{
+    fault_if_named(raw, is_named(earlier, name_of(rule)), rule)
+}
+
+/// Returns the fault of appending a rule: there are 32 already, or the rule's own.
+pub(super) fn added_fault<A: Allocator>(
+    raw: u64,
+    rules: &[Rule<A>],
+    rule: &Value,
+) -> Option<SettingsFault>
+    ensures { result ≡ added_fault (record { raw_duration = raw; rules = rules.now }) (rule_found (view rule.now)) }
+{
+    if rules.len() >= 32 {
+        return Some(SettingsFault::TooManyRules);
+    }
+    match fault_if_named(raw, is_named_among(rules, name_of(rule)), rule) {
+        Some(fault) => Some(SettingsFault::OfRule(fault, rules.len())),
+        None => None,
+    }
 }
 
 /// Returns the first fault of rules.

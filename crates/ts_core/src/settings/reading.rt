@@ -5,12 +5,12 @@ ghost use Rattle.serde_json.specs.Find.{get, as_array};
 ghost use Rattle.serde_json.specs.Read.{read};
 ghost use Rattle.serde_json.specs.View.{view, items_view};
 ghost use Rattle.ts_core.specs.facts.Durations.{span_of, offset_of, keeping_of};
-ghost use Rattle.ts_core.specs.settings.SettingsFound.{settings_from};
+ghost use Rattle.ts_core.specs.settings.SettingsFound.{settings_from, fault_added};
 ghost use Rattle.ts_core.specs.settings.SettingsTexts.{has_keys, text_at, if_not_empty, filled_text, each, rule_parsed, rule_read, settings_parsed, settings_read, IsRefusal};
 ghost use Rattle.ts_core.specs.declared.settings.settings_fault.SettingsError.TheVariants as errors;
 ghost use Rattle.ts_core.specs.declared.settings.settings_fault.SettingsFault.{SettingsFault};
 
-use super::first_fault::{first_fault, is_rule};
+use super::first_fault::{added_fault, first_fault, is_rule};
 use crate::facts::duration::{interval, keeping, offset};
 use crate::settings::{Rule, Settings, SettingsError, SettingsFault};
 use serde_json::Value;
@@ -167,7 +167,7 @@ fn parts<A: Allocator + Copy>(
 }
 
 /// Parses JSON, allocating in `json`. Returns the error `Form` if the text isn't JSON.
-fn value_of(json: Global, text: &str) -> Result<Value, SettingsError>
+pub fn json_value(json: Global, text: &str) -> Result<Value, SettingsError>
     ensures ok { IfOk result (λ v. read text.now ≡ Some (view v)) }
     ensures err { IfErr result (λ e. IsRefusal e (read text.now)) }
 {
@@ -203,8 +203,21 @@ impl<A: Allocator + Copy> Rule<A> {
         ensures ok { IfOk result (λ r. rule_read text.now ≡ Some r) }
         ensures err { IfErr result (λ e. IsRefusal e (rule_read text.now)) }
     {
-        let value = value_of(json, text)?;
+        let value = json_value(json, text)?;
         Rule::of_json(alloc, &value)
+    }
+}
+
+impl<A: Allocator> Settings<A> {
+    /// Returns the fault that appending the rule of a JSON value would have; its form is checked first. Does not
+    /// allocate.
+    pub fn check_json(&self, value: &Value) -> Option<SettingsFault>
+        ensures { result ≡ fault_added self.now (rule_parsed (view value.now)) }
+    {
+        if !is_rule(value) {
+            return Some(SettingsFault::Form);
+        }
+        added_fault(self.raw_duration, self.rules.as_slice(), value)
     }
 }
 
@@ -229,7 +242,7 @@ impl<A: Allocator + Copy> Settings<A> {
         ensures ok { IfOk result (λ s. settings_read text.now ≡ Ok s) }
         ensures fault { IfErr result (λ e. (f : SettingsFault) → e ≡ errors.Fault f → settings_read text.now ≡ Err f) }
     {
-        let value = value_of(json, text)?;
+        let value = json_value(json, text)?;
         Settings::of_json(alloc, &value)
     }
 }

@@ -61,7 +61,7 @@ pub fn is_rule_name(name: &str) -> bool
 }
 
 /// Returns true if one of the rules has this name.
-fn is_named<A: Allocator>(rules: &[Rule<A>], name: &str) -> bool
+pub(super) fn is_named<A: Allocator>(rules: &[Rule<A>], name: &str) -> bool
     ensures { result ≡ is_named rules.now name.now }
 {
     rules.iter().any(|rule| rule.name() == name)
