@@ -22,11 +22,10 @@ use std::alloc::{AllocError, Allocator};
 use std::marker::Model;
 use ts_core::{KeyRef, Rule};
 use ts_line::Line;
-use ts_raw::{BufferedColumn, Column as _, ColumnId, Index, Points, SERIES_LIMIT};
+use ts_raw::{Column as _, ColumnId, Index, Points, SERIES_LIMIT};
 
-/// Type of a store's columns: coded blocks behind a buffer of the latest points. Storing them in another way is a
-/// change of this line.
-pub(crate) type StoredColumn<A> = BufferedColumn<A>;
+/// Type of a store's columns: coded blocks. Storing them in another way is a change of this line.
+pub(crate) type StoredColumn<A> = ts_raw::StoredColumn<A>;
 
 /// Index, one column per series and field, one rollup per rule, and a scratch list of the columns that the current line
 /// touches.
