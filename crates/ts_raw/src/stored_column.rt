@@ -1,7 +1,7 @@
 //! A column of coded blocks, seen as its points alone.
-ghost use Rattle.std.specs.Prelude.{◌≡◌, ◌+◌, ◌≤◌, ℤ, List, None, IfOk};
+ghost use Rattle.std.specs.Prelude.{◌≡◌, ◌+◌, ◌≤◌, ℕ, List, None, IfOk};
 ghost use Rattle.std.specs.FinMap as map;
-ghost use Rattle.ts_raw.specs.BlockColumns.{HoldPoints};
+ghost use Rattle.ts_raw.specs.BlockColumns.{points_in_texts, AreHeld};
 ghost use Rattle.ts_raw.specs.Columns.{AreTimed};
 ghost use Rattle.ts_raw.specs.PlainColumns.{IsRising};
 
@@ -50,9 +50,10 @@ impl<A: Allocator> StoredColumn<A> {
         self.column.all()
     }
 
-    /// Returns the coded blocks, in the order of time. The first one may begin with removed points.
+    /// Returns the coded blocks, in the order of time. They hold all points; the first one may begin with removed ones.
+    /// `held` counts the points of them all.
     pub fn blocks(&self) -> Blocks<'_>
-        ensures { (parts : List (List (ℤ × ℤ))) × HoldPoints self.now.points parts result }
+        ensures { AreHeld (map.entries self.now.points) result (points_in_texts result) }
     {
         self.column.blocks()
     }
@@ -107,7 +108,8 @@ impl<A: Allocator + Copy> Column for StoredColumn<A> {
     fn held(&self) -> usize
         ensures all { map.len self.now.points ≤ result }
         ensures few { result ≤ map.len self.now.points + 255 }
+        ensures blocks { (texts : List (List ℕ)) × AreHeld (map.entries self.now.points) texts result }
     {
-        self.column.held()
+        self.blocks().points()
     }
 }
