@@ -175,14 +175,6 @@ copied_more src old new all ms i n d h l marked blocks is s e v k b last summary
 
 -- ---- a block of points at the end
 
-last_at : (p : ℤ × ℤ) (ps : List (ℤ × ℤ)) (d : ℤ × ℤ) → (get_or (p ∷ ps) (length ps) d).0 ≡ last_of p.0 (times_of ps)
-last_at p [] d = refl
-last_at p (q ∷ ps) d = last_at q ps d
-
-pub last_point : (ps : List (ℤ × ℤ)) (d : ℤ × ℤ) → ArePoints ps → (get_or ps (length ps - 1) d).0 ≡ last_time ps
-last_point [] d h = absurd h
-last_point (p ∷ ps) d h = ap (λ k. (get_or (p ∷ ps) k d).0) (let n : suc (length ps) - 1 ≡ length ps = omega arith in n) ∙ last_at p ps d
-
 pub block_at_end : (old block new : List ℕ) (ps : List (ℤ × ℤ)) (m : BlockHandle) → IsBlockOf block ps → new ≡ old ++ block → m.start ≡ length old → m.end ≡ length new → m.values ≡ values_start ps → m.count ≡ length ps → m.last ≡ last_time ps → m.summary ≡ aggregate_of_points ps
     → IsEncoded new m ps
 block_at_end old block new ps m b is s e v k l a =

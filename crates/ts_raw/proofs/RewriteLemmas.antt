@@ -51,14 +51,6 @@ pub timed_of : (ps : List (ℤ × ℤ)) → ArePoints ps → AreTimed ps
 timed_of [] h = absurd h
 timed_of (p ∷ ps) h = (h.1, timed_later p.0 ps h.2)
 
-later_of : (t : ℤ) (ps : List (ℤ × ℤ)) → T (below_all int_cmp t ps) → IsRising ps → AreTimed ps → AreLater t (times_of ps)
-later_of t [] b s h = tt
-later_of t (p ∷ ps) b s h = (T_less t p.0 (both_of _ _ b).0, h.0, later_of p.0 ps (both_of _ _ s).0 (both_of _ _ s).1 h.1)
-
-pub are_points : (ps : List (ℤ × ℤ)) → 0 < length ps → length ps ≤ 256 → IsRising ps → AreTimed ps → AreValues (values_of ps) → ArePoints ps
-are_points [] some few s h v = absurd (omega arith)
-are_points (p ∷ ps) some few s h v = (omega arith, h.0, later_of p.0 ps (both_of _ _ s).0 (both_of _ _ s).1 h.1, v)
-
 pub values_in : (ps : List (ℤ × ℤ)) → ArePoints ps → AreValues (values_of ps)
 values_in [] h = absurd h
 values_in (p ∷ ps) h = h.3

@@ -8,7 +8,7 @@ use ts_block::{append, begin};
 use ts_core::{Agg, Partial, Time};
 
 /// Number of points that a block holds at most.
-pub(crate) const BLOCK_POINTS: usize = 256;
+const BLOCK_POINTS: usize = 256;
 
 /// Number of bytes that a point takes at most: a block's count, time and value, or a step and a value.
 pub(crate) const POINT_BYTES: usize = 20;

@@ -59,7 +59,7 @@ fn insert_among<A: Allocator>(points: &mut Vec<(Time, i64), A>, point: (Time, i6
 }
 
 /// Inserts a point, replacing the point with its time. Appends it if it comes after all others.
-pub(crate) fn insert_point<A: Allocator>(points: &mut Vec<(Time, i64), A>, point: (Time, i64))
+fn insert_point<A: Allocator>(points: &mut Vec<(Time, i64), A>, point: (Time, i64))
     requires rising { IsRising points.old.items }
     requires spare { vec_len points.old < vec_capacity points.old }
     ensures { points.new.items ≡ put int_cmp point.0 point.1 points.old.items }
@@ -160,7 +160,7 @@ impl<A: Allocator> PlainColumn<A> {
     }
 
     /// Returns all points in the order of time.
-    pub(crate) fn as_slice(&self) -> &[(Time, i64)]
+    fn as_slice(&self) -> &[(Time, i64)]
         ensures points { result.now ≡ map.entries self.now.points }
         ensures timed { AreTimed result.now }
     {
@@ -168,30 +168,12 @@ impl<A: Allocator> PlainColumn<A> {
     }
 
     /// Returns the points from `from`, inclusive, to `to`, exclusive (nanoseconds).
-    pub(crate) fn window(&self, from: i64, to: i64) -> &[(Time, i64)]
+    fn window(&self, from: i64, to: i64) -> &[(Time, i64)]
         ensures points { result.now ≡ points_within self.now.points from to }
         ensures timed { AreTimed result.now }
         ensures all_timed { AreTimed (map.entries self.now.points) }
     {
         between(self.points.as_slice(), from, to)
-    }
-
-    /// Removes the first `count` points. No point is staged afterwards.
-    pub(crate) fn remove_front(&mut self, count: usize)
-        requires { count ≤ length (map.entries self.old.points) }
-        ensures points { map.entries self.new.points ≡ drop count (map.entries self.old.points) }
-        ensures none_staged { self.new.staged ≡ None }
-    {
-        self.staged = None;
-        drop_front(&mut self.points, count);
-    }
-
-    /// Forgets the staged point.
-    pub(crate) fn unstage(&mut self)
-        ensures points { self.new.points ≡ self.old.points }
-        ensures none_staged { self.new.staged ≡ None }
-    {
-        self.staged = None;
     }
 
     /// Returns the value at a time, if there is a point. Doesn't search if the time is after all others.

@@ -3,7 +3,7 @@ ghost use Rattle.std.specs.Prelude.{◌≡◌, ◌+◌, ◌<◌, ◌≤◌, ◌�
 ghost use Rattle.std.specs.Ordering.{int_cmp};
 ghost use Rattle.std.specs.FinMap.{put};
 ghost use Rattle.ts_core.specs.aggregates.Aggregates.{aggregate_of_points};
-ghost use Rattle.ts_block.specs.Blocks.{ArePoints, IsBlockOf};
+ghost use Rattle.ts_block.specs.Blocks.{IsBlockOf};
 ghost use Rattle.ts_block.specs.Appending.{values_start, last_time};
 ghost use Rattle.ts_raw.specs.CodedPoints.{IsBlockHandle, AreBlocks, block_points_at, coded_points, with_starts, count_in_blocks};
 ghost use Rattle.ts_raw.specs.Rewriting.{IsEncoded, AreHalves, blocks_of, handles_replaced, cut_in_block, cut_after};
@@ -11,8 +11,8 @@ ghost use Rattle.ts_raw.specs.Rewriting.{IsEncoded, AreHalves, blocks_of, handle
 use crate::block_handle::BlockHandle;
 use crate::walk::text_of;
 use std::alloc::{AllocError, Allocator};
-use ts_block::{Decoder, encode_with_offset, first_points, last_points, with_point};
-use ts_core::{Agg, Partial, Time, aggregate_points, reserve_eighth};
+use ts_block::{Decoder, first_points, last_points, with_point};
+use ts_core::{Agg, Partial, Time, reserve_eighth};
 
 /// Number of points above which a block is halved when a point is inserted or replaced. Late points mostly come near
 /// one another, and a smaller block is encoded anew sooner.
@@ -39,31 +39,6 @@ pub(crate) fn cut_left(at: usize, cut: usize) -> usize
     ensures { result ≡ cut_after at cut }
 {
     if at == 0 { 0 } else { cut }
-}
-
-/// Encodes points as a block at the end of the bytes. Returns its handle; the number of points before it is 0.
-pub(crate) fn push_points<A: Allocator + Copy>(
-    bytes: &mut Vec<u8, A>,
-    points: &[(Time, i64)],
-) -> Result<BlockHandle, AllocError>
-    requires { ArePoints points.now }
-    ensures kept { take (vec_len bytes.old) bytes.new.items ≡ bytes.old.items }
-    ensures block { IfOk result (λ handle. IsEncoded bytes.new.items handle points.now) }
-{
-    let (block, values) = encode_with_offset(*bytes.allocator(), points)?;
-    reserve_eighth(bytes, block.len())?;
-    let start = bytes.len();
-    bytes.extend_from_slice(block.as_slice()).unwrap();
-    let summary = aggregate_points(points);
-    Ok(BlockHandle {
-        start,
-        values,
-        end: bytes.len(),
-        count: points.len(),
-        before: 0,
-        last: points[points.len() - 1].0,
-        summary,
-    })
 }
 
 /// Aggregates the points of a block.

@@ -8,6 +8,8 @@ pub mod SizesKept
 pub mod IndicesKept
 -- ColumnStates
 pub mod ColumnsLemmas
+-- BlocksHeld
+pub mod BlocksLemmas
 -- CellCounts
 pub mod CountsKept
 -- WholeStates

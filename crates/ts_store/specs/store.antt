@@ -2,6 +2,7 @@
 -- cited by public contracts and laws
 pub mod Inventories
 pub mod WholeStates
+pub mod BlocksHeld
 -- used only by models and proofs of the code
 pub mod ColumnStates
 pub mod CellCounts

@@ -6,7 +6,7 @@ ghost use Rattle.ts_raw.specs.PlainColumns.{IsRising};
 use std::alloc::{AllocError, Global};
 use ts_block::check;
 use ts_core::Time;
-use ts_raw::{BlockColumn, BufferedColumn, Column, PlainColumn, Points};
+use ts_raw::{BlockColumn, Blocks, Column, PlainColumn, Points, StoredColumn};
 
 /// Times: the first one, the distance of each to the next, and their number.
 #[derive(Clone, Copy)]
@@ -102,7 +102,7 @@ const ROWS: [&[Call]; 12] = [
         Call::DropBelow(999),
         Call::Range(i64::MIN, i64::MAX, Times(999, 1, 301)),
     ],
-    // late points among 2,000: in a block, in place of one there, between the last block and the buffer, and first
+    // late points among 2,000: in a block, in place of one there, in the last block, and first
     &[
         Call::Put(Times(2, 2, 2_000)),
         Call::Range(0, 5_000, Times(2, 2, 2_000)),
@@ -133,7 +133,7 @@ const ROWS: [&[Call]; 12] = [
         Call::Live(4_000),
         Call::Range(0, 5_000, Times(1, 1, 4_000)),
     ],
-    // marks within a block, between the last block and the buffer, within the buffer, and after all points
+    // marks within a block, at the first point of one, within the last block, and after all points
     &[
         Call::Put(Times(1, 1, 2_000)),
         Call::DropBelow(300),
@@ -152,7 +152,7 @@ const ROWS: [&[Call]; 12] = [
         Call::Put(Times(5, 1, 3)),
         Call::Range(0, 3_000, Times(5, 1, 3)),
     ],
-    // late points before the only one left in a block, and before those left in the buffer
+    // late points before the only one left in a block, and before those left in the last block
     &[
         Call::Put(Times(1, 1, 2_000)),
         Call::DropBelow(1_536),
@@ -194,8 +194,8 @@ const ROWS: [&[Call]; 12] = [
     ],
 ];
 
-/// Numbers of points to make columns of. From 512 on, a buffered column has blocks.
-const COUNTS: [usize; 6] = [0, 1, 511, 512, 513, 2_000];
+/// Numbers of points to make columns of: none, a part of a block, whole blocks, and one more or less.
+const COUNTS: [usize; 8] = [0, 1, 255, 256, 257, 512, 513, 2_000];
 
 /// Stages a point; returns true if there was memory.
 fn stage<C: Column>(column: &mut C, time: i64, value: i64) -> bool {
@@ -315,9 +315,9 @@ fn coded_columns_answer(rt: HostRuntime) {
 }
 
 #[test]
-fn buffered_columns_answer(rt: HostRuntime) {
+fn stored_columns_answer(rt: HostRuntime) {
     for (row, calls) in ROWS.iter().enumerate() {
-        let mut column = BufferedColumn::new(rt.alloc());
+        let mut column = StoredColumn::new(rt.alloc());
         assert_eq!(rt; first_wrong(&mut column, calls), None, "{row}");
     }
 }
@@ -336,12 +336,8 @@ fn are_equal(one: Points<'_>, other: Points<'_>) -> bool {
 }
 
 /// Returns true if a column has the points of a plain one, this many, and at most 255 removed ones.
-fn is_equal_to(
-    buffered: &BufferedColumn<Global>,
-    plain: &PlainColumn<Global>,
-    count: usize,
-) -> bool {
-    buffered.live() == count && is_lean(buffered, 255) && are_equal(plain.all(), buffered.all())
+fn is_equal_to(stored: &StoredColumn<Global>, plain: &PlainColumn<Global>, count: usize) -> bool {
+    stored.live() == count && is_lean(stored, 255) && are_equal(plain.all(), stored.all())
 }
 
 /// Returns a plain column made of the points of another at once.
@@ -349,20 +345,20 @@ fn plain_of(alloc: Global, column: &PlainColumn<Global>) -> Option<PlainColumn<G
     Some(PlainColumn::from_points(vector_of(alloc, column).ok()?))
 }
 
-/// Returns a buffered column made of the points of a plain one at once.
-fn buffered_of(alloc: Global, column: &PlainColumn<Global>) -> Option<BufferedColumn<Global>> {
-    BufferedColumn::from_points(vector_of(alloc, column).ok()?).ok()
+/// Returns a column of blocks made of the points of a plain one at once.
+fn stored_of(alloc: Global, column: &PlainColumn<Global>) -> Option<StoredColumn<Global>> {
+    StoredColumn::from_points(vector_of(alloc, column).ok()?).ok()
 }
 
-/// Returns true if a buffered column made of the points of a column at once, this many, has those of a plain one.
-fn is_buffered_equal(
+/// Returns true if a column of blocks made of the points of a column at once, this many, has those of a plain one.
+fn is_stored_equal(
     alloc: Global,
     column: &PlainColumn<Global>,
     plain: &PlainColumn<Global>,
     count: usize,
 ) -> bool {
-    match buffered_of(alloc, column) {
-        Some(buffered) => is_equal_to(&buffered, plain, count),
+    match stored_of(alloc, column) {
+        Some(stored) => is_equal_to(&stored, plain, count),
         None => false,
     }
 }
@@ -370,7 +366,7 @@ fn is_buffered_equal(
 /// Returns true if columns of both kinds made of the points of a column at once, this many, have the same points.
 fn are_made_equal(alloc: Global, column: &PlainColumn<Global>, count: usize) -> bool {
     match plain_of(alloc, column) {
-        Some(plain) => is_buffered_equal(alloc, column, &plain, count),
+        Some(plain) => is_stored_equal(alloc, column, &plain, count),
         None => false,
     }
 }
@@ -382,15 +378,14 @@ fn is_made_equal(alloc: Global, count: usize) -> bool {
 }
 
 #[test]
-fn buffered_columns_are_made_of_points(rt: HostRuntime) {
+fn columns_are_made_of_points(rt: HostRuntime) {
     for count in COUNTS {
         assert!(rt; is_made_equal(rt.alloc(), count), "{count}");
     }
 }
 
-/// Returns the number of points in the blocks of a column, if all are blocks.
-fn coded_points(column: &BlockColumn<Global>) -> Option<usize> {
-    let blocks = column.blocks();
+/// Returns the number of points in blocks, if all are blocks.
+fn coded_points(blocks: &Blocks<'_>) -> Option<usize> {
     let mut points: usize = 0;
     let mut at: usize = 0;
     for _ in 0..blocks.len() {
@@ -402,8 +397,10 @@ fn coded_points(column: &BlockColumn<Global>) -> Option<usize> {
 }
 
 /// Returns true if a column has this many points, and its blocks those in memory.
-fn has_blocks(column: &BlockColumn<Global>, count: usize) -> bool {
-    column.live() == count && coded_points(column) == Some(column.held())
+fn has_blocks<C: Column>(column: &C, blocks: &Blocks<'_>, count: usize) -> bool {
+    column.live() == count
+        && blocks.points() == column.held()
+        && coded_points(blocks) == Some(column.held())
 }
 
 #[test]
@@ -411,7 +408,20 @@ fn blocks_are_held(rt: HostRuntime) {
     let mut column = BlockColumn::new(rt.alloc());
     assert!(rt; put_all(&mut column, Times(1, 1, 600)) && drop_below(&mut column, 300));
     assert_eq!(rt; column.blocks().len(), 2);
-    assert!(rt; has_blocks(&column, 301));
+    assert!(rt; has_blocks(&column, &column.blocks(), 301));
     assert!(rt; put_all(&mut column, Times(1_000, -1, 300)));
-    assert!(rt; has_blocks(&column, 601));
+    assert!(rt; has_blocks(&column, &column.blocks(), 601));
+}
+
+#[test]
+fn stored_points_are_in_blocks(rt: HostRuntime) {
+    let mut column = StoredColumn::new(rt.alloc());
+    assert!(rt; has_blocks(&column, &column.blocks(), 0));
+    assert!(rt; put_all(&mut column, Times(1, 1, 600)) && drop_below(&mut column, 300));
+    // the removed points of the first block that is left are counted: from 257 on
+    assert_eq!(rt; column.held(), 344);
+    assert!(rt; has_blocks(&column, &column.blocks(), 301));
+    assert!(rt; drop_below(&mut column, 601));
+    assert!(rt; has_blocks(&column, &column.blocks(), 0));
+    assert_eq!(rt; column.held(), 0);
 }

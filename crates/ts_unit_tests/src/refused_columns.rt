@@ -1,17 +1,17 @@
-//! Points in columns with coded blocks: a point after the others, one in the middle of a full block, and one for which
-//! a buffer's first points are moved into a block.
+//! Points in columns with coded blocks: a point after the others, the first of a new block, and one in the middle of a
+//! full block.
 
 use crate::columns::{put, put_at};
 use std::alloc::Allocator;
 use ts_core::Time;
-use ts_raw::{BlockColumn, BufferedColumn, Column};
+use ts_raw::{BlockColumn, Column, StoredColumn};
 use ts_testkit::Refusing;
 
 /// More requests for memory than a point makes.
 const MANY: u64 = 100;
 
-/// Number of points of a full buffer.
-const FULL: usize = 512;
+/// Number of points of a full block.
+const FULL: usize = 256;
 
 /// Inserts points of the even times from 0 on, this many; returns true if there was memory.
 fn put_evens<C: Column>(column: &mut C, count: usize) -> bool {
@@ -119,22 +119,22 @@ fn a_point_of_a_coded_column_is_whole_or_not_at_all(rt: HostRuntime) {
     assert!(rt; refused_coded(&heap, 301, 1_000).is_some());
 }
 
-/// Returns as `is_put_at_once` does, for a new column of blocks behind a buffer.
-fn is_buffered_at_once<B: Allocator>(
+/// Returns as `is_put_at_once` does, for a new column of a store.
+fn is_stored_at_once<B: Allocator>(
     heap: &Refusing<B>,
     count: usize,
     time: Time,
     left: u64,
 ) -> Option<bool> {
-    let mut column = BufferedColumn::new(heap);
+    let mut column = StoredColumn::new(heap);
     is_added_at_once(heap, &mut column, count, time, left)
 }
 
-/// Refuses each request of a new point of a buffered column in turn, until none is refused. Returns how many were.
-fn refused_buffered<B: Allocator>(heap: &Refusing<B>, count: usize, time: i64) -> Option<u64> {
+/// Refuses each request of a new point of a store's column in turn, until none is refused. Returns how many were.
+fn refused_stored<B: Allocator>(heap: &Refusing<B>, count: usize, time: i64) -> Option<u64> {
     let time = Time::new(time)?;
     for left in 0..MANY {
-        if is_buffered_at_once(heap, count, time, left)? {
+        if is_stored_at_once(heap, count, time, left)? {
             return Some(left);
         }
     }
@@ -142,13 +142,14 @@ fn refused_buffered<B: Allocator>(heap: &Refusing<B>, count: usize, time: i64) -
 }
 
 #[test]
-fn a_point_of_a_buffered_column_is_whole_or_not_at_all(rt: HostRuntime) {
+fn a_point_of_a_stored_column_is_whole_or_not_at_all(rt: HostRuntime) {
     let heap = Refusing::new(rt.alloc());
-    // after the others: the first block is made of the buffer's first points
-    let moved = refused_buffered(&heap, FULL, 5_000);
-    assert!(rt; moved > Some(0));
-    // in the middle of that block, which is then halved
-    assert!(rt; refused_buffered(&heap, FULL, 255) > moved);
+    // the first point: bytes and a handle
+    assert!(rt; refused_stored(&heap, 0, 5_000) > Some(1));
     // after the others: a second block
-    assert!(rt; refused_buffered(&heap, FULL + 256, 5_000) > Some(0));
+    assert!(rt; refused_stored(&heap, FULL, 5_000).is_some());
+    // in the middle of a full block, which is halved
+    assert!(rt; refused_stored(&heap, FULL, 255) > Some(0));
+    // in the middle of a short one
+    assert!(rt; refused_stored(&heap, 20, 15) > Some(0));
 }

@@ -1,12 +1,14 @@
 //! Index of columns with their facts.
-ghost use Rattle.std.specs.Prelude.{◌≡◌, ◌≤◌, ◌<◌, ◌+◌, ◌*◌, ◌^◌, [], false, length, map, pos, ◌≤ℤ◌, replicate, slice_index_or, IfOk, OnOk, OnErr};
+ghost use Rattle.std.specs.Prelude.{◌≡◌, ◌≤◌, ◌<◌, ◌+◌, ◌*◌, ◌^◌, ℕ, List, [], false, min, length, map, pos, ◌≤ℤ◌, replicate, slice_index_or, IfOk, OnOk, OnErr};
 ghost use Rattle.std.specs.List.{AllByRecursion};
 ghost use Rattle.ts_core.specs.facts.Facts.{is_of};
 ghost use Rattle.ts_core.specs.store.StoreStates.{facts_of as facts_in};
 ghost use Rattle.ts_line.specs.Parts.{series_of, line_facts};
 ghost use Rattle.ts_store.specs.write.LivePuts.{StayLive};
+ghost use Rattle.ts_raw.specs.BlockColumns.{AreHeld, points_in_texts};
 ghost use Rattle.ts_raw.specs.Columns.{AreTimed};
 ghost use Rattle.ts_raw.specs.PlainColumns.{IsRising};
+ghost use Rattle.ts_store.specs.store.BlocksHeld.{HoldColumns, points_in_columns};
 ghost use Rattle.ts_store.specs.write.Refusals.{is_too_many};
 ghost use Rattle.ts_store.specs.read.ViewResults.{no_points, column_refs_where, points_at};
 ghost use Rattle.ts_store.specs.write.LinesInColumns.{PutsLine, GrowsForLine};
@@ -22,11 +24,10 @@ use std::alloc::{AllocError, Allocator};
 use std::marker::Model;
 use ts_core::{KeyRef, Rule};
 use ts_line::Line;
-use ts_raw::{BufferedColumn, Column as _, ColumnId, Index, Points, SERIES_LIMIT};
+use ts_raw::{Blocks, Column as _, ColumnId, Index, Points, SERIES_LIMIT};
 
-/// Type of a store's columns: coded blocks behind a buffer of the latest points. Storing them in another way is a
-/// change of this line.
-pub(crate) type StoredColumn<A> = BufferedColumn<A>;
+/// Type of a store's columns: coded blocks. Storing them in another way is a change of this line.
+pub(crate) type StoredColumn<A> = ts_raw::StoredColumn<A>;
 
 /// Index, one column per series and field, one rollup per rule, and a scratch list of the columns that the current line
 /// touches.
@@ -135,17 +136,26 @@ impl<A: Allocator + Copy> ColumnFacts<A> {
         count
     }
 
-    /// Returns the number of points in memory, which may include up to 256 removed ones per column.
+    /// Returns the number of points of the coded blocks of all columns. It may include up to 256 removed ones per column.
     pub(crate) fn held_points(&self) -> u64
         requires { length (facts_in self.now.columns) ≤ 2 ^ 62 }
         ensures all { length (facts_in self.now.columns) ≤ result }
         ensures few_more { result ≤ length (facts_in self.now.columns) + 256 * length self.now.columns }
+        ensures blocks { (all : List (List (List ℕ))) × HoldColumns self.now.columns all × (result ≡ min (points_in_columns all) 18446744073709551615) }
     {
         let mut count: u64 = 0;
         for column in &self.columns {
             count = count.saturating_add(column.held() as u64);
         }
         count
+    }
+
+    /// Returns the coded blocks of a column.
+    pub(crate) fn blocks_of(&self, column: ColumnId) -> Blocks<'_>
+        requires { column < length self.now.columns }
+        ensures { AreHeld (slice_index_or self.now.columns column no_points).points result (points_in_texts result) }
+    {
+        self.columns[column.number()].blocks()
     }
 
     /// Returns the columns of a measurement and a field, in creation order.

@@ -4,7 +4,7 @@ use Rattle.ts_block.specs.Appending.{EndsInBlock}
 use Rattle.ts_raw.specs.declared.block_handle.BlockHandle.{BlockHandle}
 use Rattle.ts_raw.specs.CodedPoints.{coded_points, blocks_at, AreCountedBlocks, OthersEndBy}
 use Rattle.ts_raw.proofs.PushLemmas.{all_within, others_from, new_mark, summary_of_one, rising_push, coded_less}
-use Rattle.ts_raw.proofs.SealingLemmas.{sealed, joined_push}
+use Rattle.ts_raw.proofs.PushedBlocks.{sealed, joined_push}
 use Rattle.ts_raw.proofs.appending.push_block.Given.{Over}
 use Rattle.ts_raw.proofs.appending.push_block.Goals.{After-push_reserved}
 use Rattle.ts_raw.proofs.appending.push_block.Goals as goal

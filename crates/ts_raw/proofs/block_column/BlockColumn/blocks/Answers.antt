@@ -1,8 +1,9 @@
 use Rattle.std.proofs.Common.{ℕ, ℤ, List, drop, sym, ap, subst, ◌∙◌, int_cmp}
+use Rattle.std.specs.FinMap as map
 use Rattle.std.specs.FinMap.{entries-from_sorted}
 use Rattle.ts_raw.specs.declared.block_handle.BlockHandle.{BlockHandle}
 use Rattle.ts_raw.specs.BlockColumns.{BlockColumnState, HoldPoints, texts_at}
-use Rattle.ts_raw.specs.CodedPoints.{AreBlockHandles, coded_points, blocks_at}
+use Rattle.ts_raw.specs.CodedPoints.{AreCountedBlocks, coded_points, blocks_at}
 use Rattle.ts_raw.proofs.CutLemmas.{is_rising_behind}
 use Rattle.ts_raw.proofs.BlockLists.{coded_concat}
 use Rattle.ts_raw.proofs.ColumnBlocks.{cut_few, blocks_are}
@@ -10,7 +11,7 @@ use Rattle.ts_raw.proofs.block_column.BlockColumn.blocks.Goals as goal
 
 pub new-requires : goal.new-requires
 new-requires g c =
-    subst (λ (x : List ℕ). AreBlockHandles x 0 c.as_slice-2.result.now) (sym c.as_slice.ensures.value) (subst (λ (x : List BlockHandle). AreBlockHandles c.self.inside.bytes.items 0 x) (sym c.as_slice-2.ensures.value) c.self.invariant.counted.coded.marked)
+    subst (λ (x : List ℕ). AreCountedBlocks x c.as_slice-2.result.now c.self.inside.total) (sym c.as_slice.ensures.value) (subst (λ (x : List BlockHandle). AreCountedBlocks c.self.inside.bytes.items x c.self.inside.total) (sym c.as_slice-2.ensures.value) c.self.invariant.counted)
 
 pub returns : goal.returns
 returns g c =
@@ -19,7 +20,7 @@ returns g c =
     let cut : ℕ = c.self.inside.cut in
     let all : List (ℤ × ℤ) = coded_points bytes ms in
     let texts = c.new.ensures ∙ (λ i. texts_at (c.as_slice.ensures.value i) (c.as_slice-2.ensures.value i)) in
-    subst (λ (x : BlockColumnState). HoldPoints x.points x.blocks c.new.result) c.self.view_is (subst (HoldPoints _ (blocks_at bytes ms)) (sym texts) (record {
+    subst (λ (x : BlockColumnState). HoldPoints (map.entries x.points) x.blocks c.new.result) c.self.view_is (subst (HoldPoints _ (blocks_at bytes ms)) (sym texts) (record {
       blocks = blocks_are bytes ms 0 c.self.invariant.counted.coded.marked;
       removed = cut;
       few = cut_few bytes ms cut c.self.invariant.counted.coded.marked c.self.invariant.cut_fits;
