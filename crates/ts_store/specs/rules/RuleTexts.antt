@@ -1,10 +1,11 @@
 -- A rule that is added by its text, and the state of a store after rules come and go. (Own rules. InfluxData 1.8,
 -- database management: retention policies and continuous queries are created and dropped while the database is in use.)
 use Rattle.std.specs.Prelude.{◌≡◌, ⊤, ℤ, ◌∷◌, Option, Some, None, Result, Ok, Err}
+use Rattle.serde_json.specs.Data.{Data}
 use Rattle.ts_core.specs.facts.Facts.{Text}
 use Rattle.ts_core.specs.settings.Settings.{Rule, Settings}
 use Rattle.ts_core.specs.settings.SettingsFaults.{added_fault}
-use Rattle.ts_core.specs.settings.SettingsTexts.{rule_read}
+use Rattle.ts_core.specs.settings.SettingsTexts.{rule_parsed, rule_read}
 use Rattle.ts_core.specs.declared.settings.settings_fault.SettingsError.{SettingsError}
 use Rattle.ts_core.specs.declared.settings.settings_fault.SettingsError.TheVariants as errors
 use Rattle.ts_core.specs.declared.settings.settings_fault.SettingsFault.{SettingsFault}
@@ -64,3 +65,21 @@ pub record TextComes (old new : StoreData) (text : Text) (added : AddedRule) : T
 abbrev pub AddsText : StoreData → StoreData → Text → Result AddedRule SettingsError → Type 0
 AddsText old new text (Ok added) = TextComes old new text added
 AddsText old new text (Err error) = IsErrorOf (rule_for old.settings text) error × (new ≡ old)
+
+-- ---- the call that adds the rule of a JSON value
+
+-- the rule that a value adds to these settings, or its first fault; the form of the value is checked first
+abbrev pub rule_of_value : Settings → Data → Result Rule SettingsFault
+rule_of_value s value = rule_or_fault s (rule_parsed value)
+
+-- the rule of the value was added, with this name and low index
+pub record ValueComes (old new : StoreData) (value : Data) (added : AddedRule) : Type 0 where
+  pub rule : Rule
+  pub read : rule_of_value old.settings value ≡ Ok rule
+  pub name : added.name.bytes ≡ rule.name
+  pub comes : RuleComes old new rule added.low
+
+-- The rule of the value is added. A value with a fault is refused with its first fault. On an error, nothing changes.
+abbrev pub AddsValue : StoreData → StoreData → Data → Result AddedRule SettingsError → Type 0
+AddsValue old new value (Ok added) = ValueComes old new value added
+AddsValue old new value (Err error) = IsErrorOf (rule_of_value old.settings value) error × (new ≡ old)

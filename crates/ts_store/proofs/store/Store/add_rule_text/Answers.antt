@@ -1,34 +1,10 @@
-use Rattle.std.proofs.Common.{rules, ℤ, to_z, of_z, w64, ◌≡◌, ◌≤◌, refl, sym, ◌∙◌, subst, length, Result, Ok, Err, Some, IfOk}
-use Rattle.std.specs.Option.{IsSome}
-use Rattle.std.specs.Result.{IsOk, result_ok}
-use Rattle.std.proofs.lemmas.Option.{none-some}
-use Rattle.ts_core.specs.facts.Facts.{Text}
-use Rattle.ts_store.specs.rules.RuleTexts.{TextComes}
-use Rattle.ts_store.proofs.rules.RuleTextLemmas.{read_refused, text_came, text_refused, name_fits}
+use Rattle.serde_json.specs.View.{view}
+use Rattle.std.proofs.Common.{refl}
+use Rattle.ts_store.proofs.rules.RuleTextLemmas.{read_refused, text_added}
 use Rattle.ts_store.proofs.store.Store.add_rule_text.Goals as goal
+
+pub returns-in-Ok : goal.returns-in-Ok
+returns-in-Ok g c = text_added c.args.self.now c.add_rule_json.new.self c.args.text.now (view c.in-Ok.value) c.add_rule_json.result c.in-Ok.ensures.ok c.add_rule_json.ensures.added
 
 pub returns-in-Err : goal.returns-in-Err
 returns-in-Err g c = (read_refused c.args.self.now.settings c.args.text.now c.in-Err.error c.in-Err.ensures.err, refl)
-
-ok_some : {T E : Type 0} (r : Result T E) → IsOk r → IsSome (result_ok r)
-ok_some (Ok x) h = refl
-ok_some (Err e) h = h
-
-ok_is : {T E : Type 0} (P : T → Type 0) (r : Result T E) (x : T) → Some x ≡ result_ok r → IfOk r P → P x
-ok_is P (Ok y) x e h = let q : Some x ≡ Some y = e in let k : x ≡ y = cc in subst P (sym k) h
-ok_is P (Err f) x e h = absurd (none-some x (sym e))
-
-pub unwrap-requires : goal.unwrap-requires
-unwrap-requires g c =
-    let short = name_fits c.args.self.now c.add_rule.new.self c.in-Ok.rule c.in-Ok-add_rule.low c.in-Ok-add_rule.ensures in
-    subst IsSome (sym c.ok-name.ensures.value) (ok_some c.from.result (c.from.ensures.variant.1 (subst (λ (t : Text). length t ≤ 32) (sym c.name.ensures) short)))
-
-pub returns-in-Ok-add_rule : goal.returns-in-Ok-add_rule
-returns-in-Ok-add_rule g c =
-    let name = ok_is _ c.from.result c.unwrap.result (sym c.unwrap.ensures ∙ c.ok-name.ensures.value) c.from.ensures.ok in
-    let same : to_z w64 (of_z w64 c.in-Ok-add_rule.low) ≡ c.in-Ok-add_rule.low = search rules in
-    subst (λ (low : ℤ). TextComes c.args.self.now c.add_rule.new.self c.args.text.now (record { name = c.unwrap.result; low = low })) (sym same)
-    (text_came c.args.self.now c.add_rule.new.self c.args.text.now c.in-Ok.rule (record { name = c.unwrap.result; low = c.in-Ok-add_rule.low }) c.in-Ok.ensures.ok (name ∙ c.name.ensures) c.in-Ok-add_rule.ensures)
-
-pub returns-in-Err-add_rule : goal.returns-in-Err-add_rule
-returns-in-Err-add_rule g c = text_refused c.args.self.now c.add_rule.new.self c.args.text.now c.in-Ok.rule c.in-Err-add_rule.error c.in-Ok.ensures.ok c.in-Err-add_rule.ensures
