@@ -11,7 +11,7 @@ index-requires g c =
 
 pub returns : goal.returns
 returns g c =
-    subst (λ (ps : List (ℤ × ℤ)). AreHeld ps c.blocks.result (points_in_texts c.blocks.result))
+    subst (λ (ps : List (ℤ × ℤ)). AreHeld ps c.blocks-2.result (points_in_texts c.blocks-2.result))
     (points_shown c.self.inside.index.columns c.self.inside.columns.items c.args.self.now.columns c.args.column c.index.result.now (ap (λ (h : StoreContent). h.columns) c.self.view_is) c.self.invariant.each c.requires
     (c.index.ensures ∙ ap (λ n. get_or c.self.inside.columns.items n c.index.result.now) c.number.ensures))
-    c.blocks.ensures
+    c.blocks-2.ensures
