@@ -6,6 +6,7 @@ ghost use Rattle.ts_core.specs.settings.SettingsFound.{fault_added};
 ghost use Rattle.ts_core.specs.settings.SettingsTexts.{rule_parsed};
 ghost use Rattle.ts_store.specs.rules.RuleTexts.{AddsText, AddsValue};
 
+use crate::read::View as _;
 use crate::store::Store;
 use arrayvec::ArrayString;
 use serde_json::Value;
@@ -29,7 +30,7 @@ impl<A: Allocator + Copy> Store<A> {
         ensures added { AddsValue self.old self.new (view value.now) result }
         ensures memory { IfErr result (λ e. e ≡ errors.OutOfMemory → fault_added self.old.settings (rule_parsed (view value.now)) ≡ None) }
     {
-        if let Some(fault) = self.settings.check_json(value) {
+        if let Some(fault) = self.settings().check_json(value) {
             return Err(SettingsError::Fault(fault));
         }
         let rule = match Rule::of_json(alloc, value) {
