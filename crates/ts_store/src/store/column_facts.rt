@@ -26,7 +26,8 @@ use ts_core::{KeyRef, Rule};
 use ts_line::Line;
 use ts_raw::{Blocks, Column as _, ColumnId, Index, Points, SERIES_LIMIT};
 
-/// Type of a store's columns: coded blocks. Storing them in another way is a change of this line.
+/// Type of a store's columns: coded blocks. Storing them in another way, as a type that shows `Blocks` too, is a change
+/// of this line.
 pub(crate) type StoredColumn<A> = ts_raw::StoredColumn<A>;
 
 /// Index, one column per series and field, one rollup per rule, and a scratch list of the columns that the current line
