@@ -4,13 +4,18 @@ use Rattle.std.specs.Result.{IsOk, result_ok}
 use Rattle.std.proofs.lemmas.Option.{none-some}
 use Rattle.serde_json.specs.View.{view}
 use Rattle.ts_core.specs.facts.Facts.{Text}
+use Rattle.ts_core.specs.settings.Settings.{Settings}
+use Rattle.ts_core.specs.settings.SettingsFound.{fault_added}
 use Rattle.ts_core.specs.settings.SettingsTexts.{rule_parsed}
 use Rattle.ts_store.specs.rules.RuleTexts.{ValueComes}
 use Rattle.ts_store.proofs.rules.RuleTextLemmas.{value_refused, value_at_fault, value_came, rule_refused, name_fits}
 use Rattle.ts_store.proofs.store.Store.add_rule_json.Goals as goal
 
 pub returns-in-Some-clause-added : goal.returns-in-Some-clause-added
-returns-in-Some-clause-added g c = (value_at_fault c.args.self.now.settings (rule_parsed (view c.args.value.now)) c.in-Some.fault c.in-Some.ensures, refl)
+returns-in-Some-clause-added g c =
+    let fault : Some c.in-Some.fault ≡ fault_added c.args.self.now.settings (rule_parsed (view c.args.value.now)) =
+    subst (λ (s : Settings). Some c.in-Some.fault ≡ fault_added s (rule_parsed (view c.args.value.now))) c.settings.ensures.value c.in-Some.ensures in
+    (value_at_fault c.args.self.now.settings (rule_parsed (view c.args.value.now)) c.in-Some.fault fault, refl)
 
 pub returns-in-Err-clause-added : goal.returns-in-Err-clause-added
 returns-in-Err-clause-added g c = (value_refused c.args.self.now.settings (view c.args.value.now) c.in-Err.error c.in-Err.ensures.err, refl)
