@@ -5,6 +5,7 @@ pub mod RunOutcomes
 pub mod Calls
 pub mod ServedRequests
 pub mod Services
+pub mod Inspections
 pub mod Openings
 -- used only by proofs of the code
 pub mod FaultNumbers
