@@ -1,12 +1,20 @@
 //! The raw points of a store as line protocol, a line per point.
-ghost use Rattle.std.specs.Prelude.{◌≡◌};
+ghost use Rattle.std.specs.Prelude.{◌≡◌, ◌<◌, ◌++◌, [], length, map, IfOk, OnOk};
+ghost use Rattle.std.specs.List.{AllByRecursion, concat};
+ghost use Rattle.ts_core.specs.io.Devices.{IsPut};
+ghost use Rattle.ts_core.specs.io.OutputBuffering.{IsBuffered};
+ghost use Rattle.ts_core.specs.text.FaultTexts.{parts_joined};
+ghost use Rattle.ts_image.specs.Saving.{HasItsColumns};
+ghost use Rattle.tsdb.specs.Exports.{point_line, export_column, series_columns, column_lines, head_text, IsExported};
+ghost use Rattle.tsdb.specs.declared.export.ExportFault.TheVariants as faults;
 
 use crate::line_text::{head_text, is_field, is_key, key_text};
 use itoa::Buffer;
 use std::alloc::{AllocError, Global};
 use std::io::Write;
+use std::marker::Model;
 use ts_core::{OutputBuffer, Refused, Sink, Time};
-use ts_raw::Points;
+use ts_raw::{ColumnId, Points};
 use ts_store::{SavedColumn, SavedSeries, Store};
 
 /// Size of the write buffer, in bytes.
@@ -19,19 +27,48 @@ pub enum ExportFault {
     Device,
     /// A name can't stand in a line. Nothing was written.
     Name,
-    /// Out of memory.
+    /// Out of memory. Nothing was written.
     OutOfMemory,
 }
 
 impl From<AllocError> for ExportFault {
+    ghost from_gives = { λ error result. result ≡ faults.OutOfMemory };
+
     fn from(_: AllocError) -> ExportFault {
         ExportFault::OutOfMemory
     }
 }
 
-impl From<Refused> for ExportFault {
-    fn from(_: Refused) -> ExportFault {
-        ExportFault::Device
+/// A column to be written.
+#[derive(Drop)]
+struct ExportColumn {
+    /// Its lines up to the value.
+    head: Vec<u8>,
+    id: ColumnId,
+}
+
+impl Model for ExportColumn {
+    ghost use Rattle.tsdb.specs.Exports.{ExportColumn as ExportColumnValue};
+
+    ghost Value = { ExportColumnValue };
+
+    ghost view = { λ c. record { head = c.head.items; number = c.id } };
+}
+
+/// Writes texts, one after another.
+fn put_texts<W: Write>(
+    texts: &[&[u8]],
+    out: &mut OutputBuffer<Global>,
+    sink: &mut Sink<W>,
+) -> Result<(), Refused>
+    ensures { IsBuffered sink.old out.old result (parts_joined texts.now) sink.new out.new }
+{
+    match texts.split_first() {
+        None => Ok(()),
+        Some((first, others)) => {
+            out.write_all(first, sink)?;
+            put_texts(others, out, sink)
+        }
     }
 }
 
@@ -42,12 +79,22 @@ fn put_point<W: Write>(
     value: i64,
     out: &mut OutputBuffer<Global>,
     sink: &mut Sink<W>,
-) -> Result<(), Refused> {
-    out.write_all(head, sink)?;
-    out.write_all(Buffer::new().format(value).as_bytes(), sink)?;
-    out.write_all(b"i ", sink)?;
-    out.write_all(Buffer::new().format(time.nanos()).as_bytes(), sink)?;
-    out.write_all(b"\n", sink)
+) -> Result<(), Refused>
+    ensures { IsBuffered sink.old out.old result (point_line head.now (time, value)) sink.new out.new }
+{
+    let mut digits = Buffer::new();
+    let mut stamp = Buffer::new();
+    put_texts(
+        &[
+            head,
+            digits.format(value).as_bytes(),
+            b"i ",
+            stamp.format(time.nanos()).as_bytes(),
+            b"\n",
+        ],
+        out,
+        sink,
+    )
 }
 
 /// Writes the lines of points, which begin with `head`.
@@ -56,92 +103,111 @@ fn put_points<W: Write>(
     points: Points<'_>,
     out: &mut OutputBuffer<Global>,
     sink: &mut Sink<W>,
-) -> Result<(), Refused> {
+) -> Result<(), Refused>
+    ensures { IsBuffered sink.old out.old result (concat (map (point_line head.now) points.entry)) sink.new out.new }
+{
     for (time, value) in points {
         put_point(head, time, value, out, sink)?;
     }
     Ok(())
 }
 
-/// Writes the lines of a column; `key` is the key of its series as a line states it.
-fn put_column<W: Write>(
-    alloc: Global,
+/// Writes the lines of columns, one column after another.
+fn put_columns<W: Write>(
     store: &Store<Global>,
+    columns: &[ExportColumn],
+    out: &mut OutputBuffer<Global>,
+    sink: &mut Sink<W>,
+) -> Result<(), Refused>
+    requires { AllByRecursion (λ c. c.number < length store.now.columns) columns.now }
+    ensures { IsBuffered sink.old out.old result (concat (map (column_lines store.now) columns.now)) sink.new out.new }
+{
+    for column in columns {
+        put_points(column.head.as_slice(), store.points_of(column.id), out, sink)?;
+    }
+    Ok(())
+}
+
+/// Writes the lines of columns. Nothing stays in the buffer.
+fn put_all<W: Write>(
+    store: &Store<Global>,
+    columns: &[ExportColumn],
+    out: &mut OutputBuffer<Global>,
+    sink: &mut Sink<W>,
+) -> Result<(), Refused>
+    requires empty { out.old ≡ [] }
+    requires columns { AllByRecursion (λ c. c.number < length store.now.columns) columns.now }
+    ensures { IsPut sink.old result (concat (map (column_lines store.now) columns.now)) sink.new }
+{
+    put_columns(store, columns, out, sink)?;
+    out.flush(sink)
+}
+
+/// Returns a column to be written, or the fault `Name`; `key` is the key of its series as a line states it.
+fn export_column(
+    alloc: Global,
     key: &[u8],
     column: &SavedColumn<'_, Global>,
-    out: &mut OutputBuffer<Global>,
-    sink: &mut Sink<W>,
-) -> Result<(), ExportFault> {
-    let head = head_text(alloc, key, column.field.as_str())?;
-    put_points(head.as_slice(), store.points_of(column.id), out, sink)?;
-    Ok(())
-}
-
-/// Writes the lines of a series, column by column.
-fn put_series<W: Write>(
-    alloc: Global,
-    store: &Store<Global>,
-    series: &SavedSeries<'_, Global>,
-    out: &mut OutputBuffer<Global>,
-    sink: &mut Sink<W>,
-) -> Result<(), ExportFault> {
-    let key = key_text(alloc, series.key)?;
-    for column in series.columns.as_slice() {
-        put_column(alloc, store, key.as_slice(), column, out, sink)?;
+) -> Result<ExportColumn, ExportFault>
+    ensures { IfOk result (λ c. c ≡ record { head = head_text key.now column.now.field; number = column.now.number }) }
+{
+    let field = column.field.as_str();
+    let head = head_text(alloc, key, field)?;
+    if !is_field(field, head.as_slice()) {
+        return Err(ExportFault::Name);
     }
-    Ok(())
+    Ok(ExportColumn {
+        head,
+        id: column.id,
+    })
 }
 
-/// Returns true if a line can state the names of a series and of its columns.
-fn is_stated(alloc: Global, series: &SavedSeries<'_, Global>) -> Result<bool, AllocError> {
+/// Appends the columns of a series.
+fn list_series(
+    alloc: Global,
+    columns: &mut Vec<ExportColumn>,
+    series: &SavedSeries<'_, Global>,
+) -> Result<(), ExportFault>
+    ensures { OnOk result (columns.new.items ≡ columns.old.items ++ series_columns series.now) }
+{
     let key = key_text(alloc, series.key)?;
     if !is_key(series.key, key.as_slice()) {
-        return Ok(false);
+        return Err(ExportFault::Name);
     }
     for column in series.columns.as_slice() {
-        let head = head_text(alloc, key.as_slice(), column.field.as_str())?;
-        if !is_field(column.field.as_str(), head.as_slice()) {
-            return Ok(false);
-        }
+        columns.push(export_column(alloc, key.as_slice(), column)?)?;
     }
-    Ok(true)
-}
-
-/// Returns true if a line can state all names of these series.
-fn are_stated(alloc: Global, all: &[SavedSeries<'_, Global>]) -> Result<bool, AllocError> {
-    for series in all {
-        if !is_stated(alloc, series)? {
-            return Ok(false);
-        }
-    }
-    Ok(true)
-}
-
-/// Writes the lines of these series.
-fn put_all<W: Write>(
-    alloc: Global,
-    store: &Store<Global>,
-    all: &[SavedSeries<'_, Global>],
-    sink: &mut Sink<W>,
-) -> Result<(), ExportFault> {
-    let mut out = OutputBuffer::new(alloc, BUFFER_SIZE)?;
-    for series in all {
-        put_series(alloc, store, series, &mut out, sink)?;
-    }
-    out.flush(sink)?;
     Ok(())
+}
+
+/// Lists the columns of these series.
+fn listed(
+    alloc: Global,
+    all: &[SavedSeries<'_, Global>],
+) -> Result<Vec<ExportColumn>, ExportFault>
+    ensures { IfOk result (λ columns. columns.items ≡ concat (map series_columns all.now)) }
+{
+    let mut columns = Vec::new(alloc);
+    for series in all {
+        list_series(alloc, &mut columns, series)?;
+    }
+    Ok(columns)
 }
 
 /// Writes all raw points of a store as lines: the series in the order of their keys, with their columns in the order of
-/// their fields, each in the order of time. Writes nothing if a name can't stand in a line.
+/// their fields, each in the order of time. Writes nothing if a name can't stand in a line, or when out of memory.
 pub fn export<W: Write>(
     alloc: Global,
     store: &Store<Global>,
     sink: &mut Sink<W>,
-) -> Result<(), ExportFault> {
+) -> Result<(), ExportFault>
+    ensures { IsExported store.now sink.old result sink.new }
+{
     let all = store.saved_series(alloc)?;
-    if !are_stated(alloc, all.as_slice())? {
-        return Err(ExportFault::Name);
+    let columns = listed(alloc, all.as_slice())?;
+    let mut out = OutputBuffer::new(alloc, BUFFER_SIZE)?;
+    match put_all(store, columns.as_slice(), &mut out, sink) {
+        Ok(()) => Ok(()),
+        Err(_) => Err(ExportFault::Device),
     }
-    put_all(alloc, store, all.as_slice(), sink)
 }

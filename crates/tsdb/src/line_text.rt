@@ -1,5 +1,10 @@
-//! Line protocol of a column: the text of its lines before the value, with escapes.
-ghost use Rattle.std.specs.Prelude.{◌≡◌, ◌++◌, codes, IfOk, OnOk, vec_items};
+//! Line protocol of a column: its lines up to the value, with escapes.
+ghost use Rattle.std.specs.Prelude.{◌≡◌, ◌++◌, map, codes, IfOk, OnOk};
+ghost use Rattle.ts_core.specs.text.Texts.{owned_pairs};
+ghost use Rattle.ts_line.specs.Scan.{is_stop};
+ghost use Rattle.ts_line.specs.Spelling.{tags_text};
+ghost use Rattle.tsdb.specs.Exports.{stops_of, escaped_byte, escaped, escaped_tag, key_text, head_text};
+ghost use Rattle.ts_line.specs.declared.scan.Stops.TheVariants.{Equals};
 
 use std::alloc::{AllocError, Global};
 use ts_core::Key;
@@ -7,7 +12,7 @@ use ts_core::Key;
 /// Limit on the bytes of a series key in a line.
 const KEY_LIMIT: usize = 4096;
 
-/// Limit on the bytes of a line up to its value: that of a line, less the longest value and time.
+/// Limit on the bytes of a line up to its value: that of a line, less those of the longest value and time.
 const HEAD_LIMIT: usize = 65_536 - 43;
 
 /// Part of a line, by the delimiters that need a backslash there.
@@ -22,6 +27,7 @@ pub enum NamePart {
 impl NamePart {
     /// Returns true if the byte needs a backslash.
     fn is_delimiter(self, byte: u8) -> bool
+        ensures { result ≡ is_stop (stops_of self) byte }
     {
         match self {
             NamePart::Measurement => byte == b' ' || byte == b',',
@@ -30,30 +36,54 @@ impl NamePart {
     }
 }
 
+/// Appends a byte of a name, with a backslash before a delimiter.
+fn push_byte(line: &mut Vec<u8>, part: NamePart, byte: u8) -> Result<(), AllocError>
+    ensures { OnOk result (line.new.items ≡ line.old.items ++ escaped_byte (stops_of part) byte) }
+{
+    if part.is_delimiter(byte) {
+        line.push(b'\\')?;
+    }
+    line.push(byte)?;
+    Ok(())
+}
+
 /// Appends a name, with a backslash before each delimiter.
-fn push_name(line: &mut Vec<u8>, part: NamePart, name: &str) -> Result<(), AllocError> {
+fn push_name(line: &mut Vec<u8>, part: NamePart, name: &str) -> Result<(), AllocError>
+    ensures { OnOk result (line.new.items ≡ line.old.items ++ escaped (stops_of part) name.now) }
+{
     for byte in name.as_bytes() {
-        if part.is_delimiter(*byte) {
-            line.push(b'\\')?;
-        }
-        line.push(*byte)?;
+        push_byte(line, part, *byte)?;
     }
     Ok(())
+}
+
+/// Appends a tag after a comma.
+fn push_tag(line: &mut Vec<u8>, key: &str, value: &str) -> Result<(), AllocError>
+    ensures { OnOk result (line.new.items ≡ line.old.items ++ (codes "," ++ (escaped Equals key.now ++ (codes "=" ++ escaped Equals value.now)))) }
+{
+    line.push(b',')?;
+    push_name(line, NamePart::Key, key)?;
+    line.push(b'=')?;
+    push_name(line, NamePart::Key, value)
 }
 
 /// Appends tags, each after a comma.
-fn push_tags(line: &mut Vec<u8>, tags: &[(String, String)]) -> Result<(), AllocError> {
-    for tag in tags {
-        line.push(b',')?;
-        push_name(line, NamePart::Key, tag.0.as_str())?;
-        line.push(b'=')?;
-        push_name(line, NamePart::Key, tag.1.as_str())?;
+fn push_tags(line: &mut Vec<u8>, tags: &[(String, String)]) -> Result<(), AllocError>
+    ensures { OnOk result (line.new.items ≡ line.old.items ++ tags_text (map escaped_tag (owned_pairs tags.now))) }
+{
+    match tags.split_first() {
+        None => Ok(()),
+        Some((tag, others)) => {
+            push_tag(line, tag.0.as_str(), tag.1.as_str())?;
+            push_tags(line, others)
+        }
     }
-    Ok(())
 }
 
 /// Returns the key of a series as a line states it: the measurement and the tags.
-pub fn key_text(alloc: Global, key: &Key<Global>) -> Result<Vec<u8>, AllocError> {
+pub fn key_text(alloc: Global, key: &Key<Global>) -> Result<Vec<u8>, AllocError>
+    ensures { IfOk result (λ text. text.items ≡ key_text key.now) }
+{
     let mut line = Vec::new(alloc);
     push_name(&mut line, NamePart::Measurement, key.measurement())?;
     push_tags(&mut line, key.tags())?;
@@ -61,7 +91,9 @@ pub fn key_text(alloc: Global, key: &Key<Global>) -> Result<Vec<u8>, AllocError>
 }
 
 /// Returns the lines of a column up to the value: the key of its series, and the field with an equals sign.
-pub fn head_text(alloc: Global, key: &[u8], field: &str) -> Result<Vec<u8>, AllocError> {
+pub fn head_text(alloc: Global, key: &[u8], field: &str) -> Result<Vec<u8>, AllocError>
+    ensures { IfOk result (λ text. text.items ≡ head_text key.now field.now) }
+{
     let mut line = Vec::new(alloc);
     line.extend_from_slice(key)?;
     line.push(b' ')?;
