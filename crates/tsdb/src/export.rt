@@ -10,7 +10,7 @@ ghost use Rattle.tsdb.specs.declared.export.ExportFault.TheVariants as faults;
 
 use crate::line_text::{head_text, is_field, is_key, key_text};
 use itoa::Buffer;
-use std::alloc::{AllocError, Global};
+use std::alloc::{AllocError, AllocFailed, Global};
 use std::io::Write;
 use std::marker::Model;
 use ts_core::{OutputBuffer, Refused, Sink, Time};
@@ -35,6 +35,14 @@ impl From<AllocError> for ExportFault {
     ghost from_gives = { λ error result. result ≡ faults.OutOfMemory };
 
     fn from(_: AllocError) -> ExportFault {
+        ExportFault::OutOfMemory
+    }
+}
+
+impl<T: Drop> From<AllocFailed<T>> for ExportFault {
+    ghost from_gives = { λ error result. result ≡ faults.OutOfMemory };
+
+    fn from(_: AllocFailed<T>) -> ExportFault {
         ExportFault::OutOfMemory
     }
 }
