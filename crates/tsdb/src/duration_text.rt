@@ -1,7 +1,8 @@
 //! Durations as settings state them.
+ghost use Rattle.std.specs.Prelude.{◌<◌};
+
 use itoa::Buffer;
 use std::alloc::{AllocError, Global};
-use ts_core::push_all;
 
 /// A unit of a duration: its nanoseconds and its name.
 type Unit = (u64, &'static str);
@@ -17,7 +18,9 @@ const UNITS: [Unit; 6] = [
 ];
 
 /// Returns the longest unit that divides a number of nanoseconds.
-fn unit_of(nanos: u64) -> Unit {
+fn unit_of(nanos: u64) -> Unit
+    ensures { 0 < result.0 }
+{
     for unit in UNITS {
         if nanos % unit.0 == 0 {
             return unit;
@@ -30,7 +33,9 @@ fn unit_of(nanos: u64) -> Unit {
 fn duration_text(alloc: Global, sign: &str, nanos: u64) -> Result<String, AllocError> {
     let (length, name) = unit_of(nanos);
     let mut text = String::new(alloc);
-    push_all(&mut text, &[sign, Buffer::new().format(nanos / length), name])?;
+    text.push_str(sign)?;
+    text.push_str(Buffer::new().format(nanos / length))?;
+    text.push_str(name)?;
     Ok(text)
 }
 
