@@ -1,15 +1,13 @@
 -- The raw points of a store as lines of line protocol. (InfluxData 1.8, line protocol reference, syntax, special
 -- characters. Own rule: a line per point, in the order of an image.)
-use Rattle.std.specs.Prelude.{◌≡◌, ◌++◌, ℕ, ℤ, List, [], ◌∷◌, map, codes, if◌then◌else◌, Result, Ok, Err, OnOk}
+use Rattle.std.specs.Prelude.{◌≡◌, ◌++◌, ℕ, ℤ, List, [], ◌∷◌, map, flat_map, codes, slice_index_or, if◌then◌else◌, Result, Ok, Err, OnOk}
 use Rattle.std.specs.Fmt.{signed_decimal}
-use Rattle.std.specs.List.{concat}
 use Rattle.std.specs.Io.KnownBytes.{Appends}
 use Rattle.ts_core.specs.facts.Facts.{Text, Series}
 use Rattle.ts_core.specs.io.Devices.{Output, AppendsFront}
 use Rattle.ts_core.specs.store.StoreData.{StoreData}
 use Rattle.ts_store.specs.image.SavedContent.{SavedColumn, SavedSeries}
 use Rattle.ts_store.specs.read.ViewResults.{no_points}
-use Rattle.std.specs.Prelude.{slice_index_or}
 use Rattle.ts_image.specs.Saving.{IsOrder}
 use Rattle.ts_line.specs.Scan.{is_stop}
 use Rattle.ts_line.specs.Spelling.{tags_text}
@@ -32,7 +30,7 @@ escaped_byte stops byte = if is_stop stops byte then 92 ∷ byte ∷ [] else byt
 
 -- the name with a backslash before each delimiter
 abbrev pub escaped : Stops → Text → Text
-escaped stops name = concat (map (escaped_byte stops) name)
+escaped stops name = flat_map (escaped_byte stops) name
 
 abbrev pub escaped_tag : Text × Text → Text × Text
 escaped_tag tag = (escaped Equals tag.0, escaped Equals tag.1)
@@ -62,11 +60,11 @@ abbrev pub series_columns : SavedSeries → List ExportColumn
 series_columns saved = map (export_column saved.series) saved.columns
 
 abbrev pub column_lines : StoreData → ExportColumn → Text
-column_lines k column = concat (map (point_line column.head) (slice_index_or k.columns column.number no_points).points)
+column_lines k column = flat_map (point_line column.head) (slice_index_or k.columns column.number no_points).points
 
 -- the lines of all raw points, with the series and columns in this order
 abbrev pub lines_text : StoreData → List SavedSeries → Text
-lines_text k order = concat (map (column_lines k) (concat (map series_columns order)))
+lines_text k order = flat_map (column_lines k) (flat_map series_columns order)
 
 -- ---- the export
 

@@ -1,11 +1,10 @@
 //! The raw points of a store as line protocol, a line per point.
-ghost use Rattle.std.specs.Prelude.{◌≡◌, ◌<◌, ◌++◌, [], length, map, IfOk, OnOk};
-ghost use Rattle.std.specs.List.{AllByRecursion, concat};
+ghost use Rattle.std.specs.Prelude.{◌≡◌, ◌<◌, ◌++◌, [], length, flat_map, IfOk, OnOk};
+ghost use Rattle.std.specs.List.{AllByRecursion};
 ghost use Rattle.ts_core.specs.io.Devices.{IsPut};
 ghost use Rattle.ts_core.specs.io.OutputBuffering.{IsBuffered};
 ghost use Rattle.ts_core.specs.text.FaultTexts.{parts_joined};
-ghost use Rattle.ts_image.specs.Saving.{HasItsColumns};
-ghost use Rattle.tsdb.specs.Exports.{point_line, export_column, series_columns, column_lines, head_text, IsExported};
+ghost use Rattle.tsdb.specs.Exports.{point_line, series_columns, column_lines, head_text, IsExported};
 ghost use Rattle.tsdb.specs.declared.export.ExportFault.TheVariants as faults;
 
 use crate::line_text::{head_text, is_field, is_key, key_text};
@@ -112,12 +111,26 @@ fn put_points<W: Write>(
     out: &mut OutputBuffer<Global>,
     sink: &mut Sink<W>,
 ) -> Result<(), Refused>
-    ensures { IsBuffered sink.old out.old result (concat (map (point_line head.now) points.entry)) sink.new out.new }
+    ensures { IsBuffered sink.old out.old result (flat_map (point_line head.now) points.entry) sink.new out.new }
 {
     for (time, value) in points {
         put_point(head, time, value, out, sink)?;
     }
     Ok(())
+}
+
+/// Writes the lines of a column.
+fn put_column<W: Write>(
+    store: &Store<Global>,
+    column: &ExportColumn,
+    out: &mut OutputBuffer<Global>,
+    sink: &mut Sink<W>,
+) -> Result<(), Refused>
+    requires { column.now.number < length store.now.columns }
+    ensures { IsBuffered sink.old out.old result (column_lines store.now column.now) sink.new out.new }
+{
+    let points = store.points_of(column.id);
+    put_points(column.head.as_slice(), points, out, sink)
 }
 
 /// Writes the lines of columns, one column after another.
@@ -128,10 +141,10 @@ fn put_columns<W: Write>(
     sink: &mut Sink<W>,
 ) -> Result<(), Refused>
     requires { AllByRecursion (λ c. c.number < length store.now.columns) columns.now }
-    ensures { IsBuffered sink.old out.old result (concat (map (column_lines store.now) columns.now)) sink.new out.new }
+    ensures { IsBuffered sink.old out.old result (flat_map (column_lines store.now) columns.now) sink.new out.new }
 {
     for column in columns {
-        put_points(column.head.as_slice(), store.points_of(column.id), out, sink)?;
+        put_column(store, column, out, sink)?;
     }
     Ok(())
 }
@@ -145,7 +158,7 @@ fn put_all<W: Write>(
 ) -> Result<(), Refused>
     requires empty { out.old ≡ [] }
     requires columns { AllByRecursion (λ c. c.number < length store.now.columns) columns.now }
-    ensures { IsPut sink.old result (concat (map (column_lines store.now) columns.now)) sink.new }
+    ensures { IsPut sink.old result (flat_map (column_lines store.now) columns.now) sink.new }
 {
     put_columns(store, columns, out, sink)?;
     out.flush(sink)
@@ -193,7 +206,7 @@ fn listed(
     alloc: Global,
     all: &[SavedSeries<'_, Global>],
 ) -> Result<Vec<ExportColumn>, ExportFault>
-    ensures { IfOk result (λ columns. columns.items ≡ concat (map series_columns all.now)) }
+    ensures { IfOk result (λ columns. columns.items ≡ flat_map series_columns all.now) }
 {
     let mut columns = Vec::new(alloc);
     for series in all {

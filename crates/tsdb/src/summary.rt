@@ -1,5 +1,8 @@
 //! A summary of what an image holds.
-ghost use Rattle.std.specs.Prelude.{◌≡◌, IfOk};
+ghost use Rattle.std.specs.Prelude.{◌≡◌, ◌<◌, ◌^◌, length, IfOk};
+ghost use Rattle.std.specs.List.{AllByRecursion};
+ghost use Rattle.ts_core.specs.store.StoreStates.{facts_of};
+ghost use Rattle.ts_image.specs.Saving.{HasItsColumns};
 
 use crate::duration_text::{keeping_text, offset_text};
 use serde::Serialize;
@@ -90,7 +93,9 @@ impl<'a> SettingsSummary<'a> {
 }
 
 /// Counts cells.
-fn count_cells(cells: FrozenCells<'_, Global>) -> u64 {
+fn count_cells(cells: FrozenCells<'_, Global>) -> u64
+    ensures { length cells.entry < 2 ^ 64 → result ≡ length cells.entry }
+{
     let mut count: u64 = 0;
     for _ in cells {
         count = count.saturating_add(1);
@@ -121,7 +126,9 @@ fn count_columns(all: &[SavedSeries<'_, Global>]) -> u64 {
 }
 
 /// Counts the columns of a series that wait for the open run.
-fn count_waiting_of(store: &Store<Global>, series: &SavedSeries<'_, Global>) -> u64 {
+fn count_waiting_of(store: &Store<Global>, series: &SavedSeries<'_, Global>) -> u64
+    requires { HasItsColumns store.now series.now }
+{
     let mut count: u64 = 0;
     for column in series.columns.as_slice() {
         if store.waits(column.id) {
@@ -132,7 +139,9 @@ fn count_waiting_of(store: &Store<Global>, series: &SavedSeries<'_, Global>) -> 
 }
 
 /// Counts the columns that wait for the open run.
-fn count_waiting(store: &Store<Global>, all: &[SavedSeries<'_, Global>]) -> u64 {
+fn count_waiting(store: &Store<Global>, all: &[SavedSeries<'_, Global>]) -> u64
+    requires { AllByRecursion (HasItsColumns store.now) all.now }
+{
     let mut count: u64 = 0;
     for series in all {
         count = count.saturating_add(count_waiting_of(store, series));
@@ -168,7 +177,11 @@ impl<'a> Summary<'a> {
         store: &'a Store<Global>,
         version: u8,
         bytes: u64,
-    ) -> Result<Summary<'a>, AllocError> {
+    ) -> Result<Summary<'a>, AllocError>
+        ensures image { IfOk result (λ s. (s.version ≡ version) × (s.bytes ≡ bytes)) }
+        ensures run { IfOk result (λ s. (s.raw_mark ≡ store.now.marks.raw) × (s.run_open ≡ store.now.running)) }
+        ensures counts { IfOk result (λ s. (s.accepted ≡ store.now.accepted) × (s.raw_points ≡ length (facts_of store.now.columns))) }
+    {
         let all = store.saved_series(alloc)?;
         Ok(Summary {
             version,
