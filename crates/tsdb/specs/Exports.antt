@@ -1,6 +1,6 @@
 -- The raw points of a store as lines of line protocol. (InfluxData 1.8, line protocol reference, syntax, special
 -- characters. Own rule: a line per point, in the order of an image.)
-use Rattle.std.specs.Prelude.{◌≡◌, ◌++◌, ℕ, ℤ, List, [], ◌∷◌, map, flat_map, codes, slice_index_or, if◌then◌else◌, Result, Ok, Err, OnOk}
+use Rattle.std.specs.Prelude.{◌≡◌, ◌++◌, ℕ, ℤ, List, [], ◌∷◌, map, flat_map, codes, slice_index_or, if◌then◌else◌, Result, Err, OnOk}
 use Rattle.std.specs.Fmt.{signed_decimal}
 use Rattle.std.specs.Io.KnownBytes.{Appends}
 use Rattle.ts_core.specs.facts.Facts.{Text, Series}

@@ -202,10 +202,7 @@ fn list_series(
 }
 
 /// Lists the columns of these series.
-fn listed(
-    alloc: Global,
-    all: &[SavedSeries<'_, Global>],
-) -> Result<Vec<ExportColumn>, ExportFault>
+fn listed(alloc: Global, all: &[SavedSeries<'_, Global>]) -> Result<Vec<ExportColumn>, ExportFault>
     ensures { IfOk result (λ columns. columns.items ≡ flat_map series_columns all.now) }
 {
     let mut columns = Vec::new(alloc);

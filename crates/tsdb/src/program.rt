@@ -174,9 +174,9 @@ fn image<'a>(alloc: Global) -> Arg<'a>
 fn inspected<'a>(alloc: Global) -> Arg<'a>
     ensures { IsArgument image_argument_rule result }
 {
-    Arg::new(alloc, "IMAGE").required(true).help(
-        "The file that a store was saved in",
-    )
+    Arg::new(alloc, "IMAGE")
+        .required(true)
+        .help("The file that a store was saved in")
 }
 
 fn lines<'a>(alloc: Global) -> Arg<'a>

@@ -1,6 +1,3 @@
-use Rattle.std.proofs.Common.{sym, subst}
-use Rattle.std.specs.List.{AllByRecursion}
-use Rattle.ts_image.specs.Saving.{HasItsColumns}
 use Rattle.ts_image.proofs.SavedWholes.{columns_there}
 use Rattle.tsdb.proofs.summary.Summary.of_store.Goals as goal
 
