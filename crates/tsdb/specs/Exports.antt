@@ -1,6 +1,6 @@
 -- The raw points of a store as lines of line protocol. (InfluxData 1.8, line protocol reference, syntax, special
 -- characters. Own rule: a line per point, in the order of an image.)
-use Rattle.std.specs.Prelude.{◌≡◌, ◌++◌, ℕ, ℤ, List, [], ◌∷◌, map, flat_map, codes, slice_index_or, if◌then◌else◌, Result, Err, OnOk}
+use Rattle.std.specs.Prelude.{◌≡◌, ◌≤◌, ◌++◌, ℕ, ℤ, Bool, true, not, length, List, [], ◌∷◌, map, flat_map, codes, slice_index_or, if◌then◌else◌, Result, Err, OnOk}
 use Rattle.std.specs.Fmt.{signed_decimal}
 use Rattle.std.specs.Io.KnownBytes.{Appends}
 use Rattle.ts_core.specs.facts.Facts.{Text, Series}
@@ -9,8 +9,9 @@ use Rattle.ts_core.specs.store.StoreData.{StoreData}
 use Rattle.ts_store.specs.image.SavedContent.{SavedColumn, SavedSeries}
 use Rattle.ts_store.specs.read.ViewResults.{no_points}
 use Rattle.ts_image.specs.Saving.{IsOrder}
-use Rattle.ts_line.specs.Scan.{is_stop}
-use Rattle.ts_line.specs.Spelling.{tags_text}
+use Rattle.ts_line.specs.PartTexts.{unescaped}
+use Rattle.ts_line.specs.Scan.{is_backslash, is_stop}
+use Rattle.ts_line.specs.Spelling.{tags_text, IsWrittenPart}
 use Rattle.ts_line.specs.declared.scan.Stops.{Stops}
 use Rattle.ts_line.specs.declared.scan.Stops.TheVariants.{Comma, Equals}
 use Rattle.tsdb.specs.declared.line_text.NamePart.{NamePart}
@@ -41,6 +42,16 @@ key_text series = escaped Comma series.measurement ++ tags_text (map escaped_tag
 -- a line up to the value
 abbrev pub head_text : Text → Text → Text
 head_text key field = key ++ (codes " " ++ (escaped Equals field ++ codes "="))
+
+-- a name that doesn't end in a backslash, after the byte `before`
+abbrev pub ends_bare : ℕ → Text → Bool
+ends_bare before [] = not (is_backslash before)
+ends_bare before (byte ∷ bytes) = ends_bare byte bytes
+
+-- Each name that isn't empty and doesn't end in a backslash is a part of a line as escaped, and is read as the name.
+abbrev pub NamesAreRead : Type 0
+NamesAreRead = (part : NamePart) (name : Text) → 1 ≤ length name → ends_bare 0 name ≡ true
+    → IsWrittenPart (stops_of part) (escaped (stops_of part) name) × (unescaped (stops_of part) (escaped (stops_of part) name) ≡ name)
 
 -- ---- lines
 

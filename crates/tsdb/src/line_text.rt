@@ -3,7 +3,7 @@ ghost use Rattle.std.specs.Prelude.{◌≡◌, ◌++◌, map, codes, IfOk, OnOk}
 ghost use Rattle.ts_core.specs.text.Texts.{owned_pairs};
 ghost use Rattle.ts_line.specs.Scan.{is_stop};
 ghost use Rattle.ts_line.specs.Spelling.{tags_text};
-ghost use Rattle.tsdb.specs.Exports.{stops_of, escaped_byte, escaped, escaped_tag, key_text, head_text};
+ghost use Rattle.tsdb.specs.Exports.{stops_of, escaped_byte, escaped, escaped_tag, key_text, head_text, NamesAreRead};
 ghost use Rattle.ts_line.specs.declared.scan.Stops.TheVariants.{Equals};
 
 use std::alloc::{AllocError, Global};
@@ -103,7 +103,9 @@ pub fn head_text(alloc: Global, key: &[u8], field: &str) -> Result<Vec<u8>, Allo
 }
 
 /// Returns true if a name can stand in a line: it doesn't end in a backslash and has no line feed.
-fn is_name(name: &str) -> bool {
+fn is_name(name: &str) -> bool
+    ensures read { NamesAreRead }
+{
     name.as_bytes().last() != Some(&b'\\') && !name.as_bytes().contains(&b'\n')
 }
 
