@@ -1,5 +1,5 @@
 -- Commands as clap sees them, and the values of their arguments.
-use Rattle.std.proofs.Common.{◌≡◌, ◌∙◌, ◌||◌, ℕ, refl, sym, ap, ap₂, subst, codes, List, Option, Some, None, Result, Ok, Err, true, inl, Bor}
+use Rattle.std.proofs.Common.{◌≡◌, ◌∙◌, ◌||◌, ℕ, Bool, refl, sym, ap, ap₂, subst, codes, List, Option, Some, None, Result, Ok, Err, true, false, inl, Bor}
 use Rattle.std.specs.Prelude.{⊤, option_map, unwrap_or, IsErrAnd}
 use Rattle.std.specs.Str.Parse.{ParsesUnsigned}
 use Rattle.std.proofs.lemmas.Option.{none-some}
@@ -11,7 +11,7 @@ use Rattle.clap.specs.declared.parser.matches.ArgMatches.{ArgMatches}
 use Rattle.clap.specs.declared.parser.matches.Found.{Found}
 use Rattle.clap.proofs.OnLiterals.{clap_on_literals}
 use Rattle.clap.proofs.WalkLemmas.{one_text-rows}
-use Rattle.tsdb.specs.CommandLines.{IsArgument, IsCommand, IsActionOf, IsNumberIn, ParsesAs, program_app}
+use Rattle.tsdb.specs.CommandLines.{IsArgument, IsCommand, IsActionOf, IsFlag, IsNumberIn, ParsesAs, program_app}
 use Rattle.tsdb.specs.declared.command_line.Action.{Action}
 use Rattle.tsdb.specs.declared.command_line.Action.TheVariants.{Faults}
 
@@ -54,6 +54,10 @@ module _ (bits : ℕ) where
       → IsNumberIn bits (one_of id (rows_of found)) n → ⊥
   value_unread found id n some is =
       number_unread (one_text found id) n some (subst (λ (value : Option Text). IsNumberIn bits value n) (sym (one_text-rows found id)) is)
+
+pub flag_read : (found : Found) (id : Text) (flag : Bool) → (one_text found id ≡ None → flag ≡ false) → (one_text found id ≡ Some (codes "true") → flag ≡ true)
+    → (one_text found id ≡ Some (codes "false") → flag ≡ false) → IsFlag (one_of id (rows_of found)) flag
+flag_read found id flag missing set unset = subst (λ (value : Option Text). IsFlag value flag) (one_text-rows found id) (missing, set, unset)
 
 -- the faults are requested, with this number
 pub faults_requested : (entered : Option (Text × List Row)) (name : Text) (rows : List Row) (number : Option (Bor Text))

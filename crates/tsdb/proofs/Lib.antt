@@ -1,3 +1,5 @@
+-- Exports
+pub mod AppendLemmas
 -- FaultTables
 pub mod FaultTableLemmas
 -- ServedRequests

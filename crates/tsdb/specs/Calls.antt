@@ -13,7 +13,7 @@ use Rattle.ts_reply.specs.OutcomeViews.{given_text}
 use Rattle.tsdb.specs.declared.call.Answer.{Answer}
 use Rattle.tsdb.specs.declared.call.Answer.TheVariants as answer
 use Rattle.tsdb.specs.declared.command_line.Action.{Action}
-use Rattle.tsdb.specs.declared.command_line.Action.TheVariants.{Replay, Faults, Serve}
+use Rattle.tsdb.specs.declared.command_line.Action.TheVariants.{Replay, Faults, Inspect, Serve}
 use Rattle.tsdb.specs.declared.command_line.CliOutcome.TheVariants as cli_outcome
 use Rattle.tsdb.specs.declared.outcome.Outcome.{Outcome}
 use Rattle.tsdb.specs.declared.outcome.Outcome.TheVariants.{Answered, Stopped, NoScript, NoFault}
@@ -39,6 +39,7 @@ PrintsFaults table old other new = ⊥
 abbrev pub Executes : Result Action Error → Input → Output → Answer → Input → Output → Type 0
 Executes (Ok Replay) source sink (answer.Outcome outcome) source' sink' = IsReplayed source sink outcome source' sink'
 Executes (Ok (Faults number)) source sink (answer.Outcome outcome) source' sink' = PrintsFaults (fault_table (given_text number)) sink outcome sink' × (source' ≡ source)
+Executes (Ok (Inspect inspection)) source sink (answer.Inspection inspection') source' sink' = (inspection' ≡ inspection) × (source' ≡ source) × (sink' ≡ sink)
 Executes (Ok (Serve service)) source sink (answer.Service service') source' sink' = (service' ≡ service) × (source' ≡ source) × (sink' ≡ sink)
 Executes (Err error) source sink (answer.Outcome (NoScript cli_outcome)) source' sink' = IsPrintedAs (outcome_of_kind (kind_of error)) cli_outcome × (source' ≡ source) × (sink' ≡ sink)
 Executes _ source sink answer source' sink' = ⊥

@@ -1,9 +1,10 @@
 -- The commands of the program with their arguments, and the action that a command line requests. (Own rule. The library
 -- clap defines how words match commands, and their errors.)
-use Rattle.std.specs.Prelude.{⊤, true, false, ◌≡◌, ◌⊎◌, ℕ, codes, List, [], ◌∷◌, pos, Option, Some, None, Result, Ok, Err, fold}
+use Rattle.std.specs.Prelude.{⊤, Bool, true, false, ◌≡◌, ◌⊎◌, ℕ, codes, List, [], ◌∷◌, pos, Option, Some, None, Result, Ok, Err, fold}
 use Rattle.std.specs.Str.Parse.{ParsesUnsigned}
 use Rattle.clap.specs.Words.{App, HasKind, Row, Rule, Text, app_of, fault_of, first_of, kind_of, new_app, new_rule, one_of, rule_of, subcommand_of, with_rule, with_subcommand}
 use Rattle.clap.specs.declared.builder.arg.Arg.{Arg}
+use Rattle.clap.specs.declared.builder.action.ArgAction.TheVariants.{SetTrue}
 use Rattle.clap.specs.declared.builder.command.Command.{Command}
 use Rattle.clap.specs.declared.builder.command.Command.TheViews.{out-Command}
 use Rattle.clap.specs.declared.builder.value_parser.ValueParser.{ValueParser}
@@ -13,7 +14,8 @@ use Rattle.clap.specs.declared.error.kind.ErrorKind.{ErrorKind}
 use Rattle.clap.specs.declared.error.kind.ErrorKind.TheVariants as kind
 use Rattle.ts_reply.specs.OutcomeViews.{given_text}
 use Rattle.tsdb.specs.declared.command_line.Action.{Action}
-use Rattle.tsdb.specs.declared.command_line.Action.TheVariants.{Replay, Faults, Serve}
+use Rattle.tsdb.specs.declared.command_line.Action.TheVariants.{Replay, Faults, Inspect, Serve}
+use Rattle.tsdb.specs.declared.command_line.Inspection.{Inspection}
 use Rattle.tsdb.specs.declared.command_line.Service.{Service}
 use Rattle.tsdb.specs.declared.command_line.CliOutcome.{CliOutcome}
 use Rattle.tsdb.specs.declared.command_line.CliOutcome.TheVariants.{Done, Device, Wrong, OutOfMemory}
@@ -37,6 +39,14 @@ settings_rule = required_rule (codes "SETTINGS") None
 abbrev pub image_argument_rule : Rule
 image_argument_rule = required_rule (codes "IMAGE") None
 
+-- the flag `--lines`
+abbrev pub lines_rule : Rule
+lines_rule = record (new_rule (codes "lines")) { long = Some (codes "lines"); action = Some SetTrue }
+
+-- `tsdb inspect [--lines] IMAGE`
+abbrev pub inspect_app : App
+inspect_app = fold with_rule (new_app (codes "inspect")) (lines_rule ∷ image_argument_rule ∷ [])
+
 -- a port from 1 on
 abbrev pub port_rule : Rule
 port_rule = required_rule (codes "PORT") (Some (Signed (pos 1) (pos 65535)))
@@ -56,7 +66,7 @@ tsdb_app = record (new_app (codes "tsdb")) {
 }
 
 abbrev pub program_app : App
-program_app = fold (λ a sub. with_subcommand a sub.top) tsdb_app (replay_app ∷ faults_app ∷ serve_app ∷ [])
+program_app = fold (λ a sub. with_subcommand a sub.top) tsdb_app (replay_app ∷ faults_app ∷ inspect_app ∷ serve_app ∷ [])
 
 -- an argument as clap sees it; no subcommand takes it too
 abbrev pub IsArgument : Rule → Arg → Type 0
@@ -77,11 +87,19 @@ abbrev pub IsServiceOf : List Row → Service → Type 0
 IsServiceOf rows service = (first_of (codes "SETTINGS") rows ≡ Some service.settings.now) × (first_of (codes "IMAGE") rows ≡ Some service.image.now)
     × IsNumberIn 16 (one_of (codes "PORT") rows) service.port × IsNumberIn 64 (one_of (codes "REQUESTS") rows) service.requests
 
+-- a flag is true if its value is `true`, and false if it is `false` or missing
+abbrev pub IsFlag : Option Text → Bool → Type 0
+IsFlag value flag = (value ≡ None → flag ≡ false) × (value ≡ Some (codes "true") → flag ≡ true) × (value ≡ Some (codes "false") → flag ≡ false)
+
+abbrev pub IsInspectionOf : List Row → Inspection → Type 0
+IsInspectionOf rows inspection = (first_of (codes "IMAGE") rows ≡ Some inspection.image.now) × IsFlag (one_of (codes "lines") rows) inspection.lines
+
 -- the action that a subcommand requests with the values of its arguments
 abbrev pub IsActionOf : Option (Text × List Row) → Action → Type 0
 IsActionOf None action = ⊥
 IsActionOf (Some (name, rows)) Replay = name ≡ codes "replay"
 IsActionOf (Some (name, rows)) (Faults number) = (name ≡ codes "faults") × (given_text number ≡ first_of (codes "N") rows)
+IsActionOf (Some (name, rows)) (Inspect inspection) = (name ≡ codes "inspect") × IsInspectionOf rows inspection
 IsActionOf (Some (name, rows)) (Serve service) = (name ≡ codes "serve") × IsServiceOf rows service
 
 -- The words, of which the first is the program's name, request an action if clap accepts them. Otherwise the error is

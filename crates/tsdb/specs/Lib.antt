@@ -5,6 +5,8 @@ pub mod RunOutcomes
 pub mod Calls
 pub mod ServedRequests
 pub mod Services
+pub mod Inspections
+pub mod Exports
 pub mod Openings
 -- used only by proofs of the code
 pub mod FaultNumbers

@@ -64,6 +64,10 @@ save_words saving.Unfit = code_message code.ContradictoryImage
 abbrev pub file_line : Text → Text → Text → Text
 file_line file fault words = codes "tsdb: " ++ (file ++ (codes ": " ++ (fault ++ (codes ": " ++ words))))
 
+-- the line of a load that failed
+abbrev pub load_line : Text → LoadFault → Text
+load_line image fault = file_line image (load_fault_text fault) (load_words fault)
+
 -- the line of a save that failed
 abbrev pub save_line : Text → SaveFault → Text
 save_line image fault = file_line image (save_fault_text fault) (save_words fault)
@@ -72,7 +76,7 @@ save_line image fault = file_line image (save_fault_text fault) (save_words faul
 abbrev pub service_line : Service → ServiceFault → Text
 service_line service NoSettings = codes "tsdb: " ++ (service.settings.now ++ codes ": the settings could not be read")
 service_line service (WrongSettings fault) = file_line service.settings.now (settings_fault_text fault) (settings_words fault)
-service_line service (Image fault) = file_line service.image.now (load_fault_text fault) (load_words fault)
+service_line service (Image fault) = load_line service.image.now fault
 service_line service InUse = codes "tsdb: " ++ (service.image.now ++ codes ": another tsdb serves this image")
 service_line service NoPort = codes "tsdb: port " ++ (decimal service.port ++ codes " of 127.0.0.1 could not be listened on")
 service_line service (NotSaved fault) = save_line service.image.now fault

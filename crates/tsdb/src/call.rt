@@ -8,7 +8,7 @@ ghost use Rattle.tsdb.specs.Calls.{IsReplayed, PrintsFaults, IsCall};
 ghost use Rattle.tsdb.specs.declared.command_line.CliOutcome.TheVariants.{OutOfMemory};
 ghost use Rattle.tsdb.specs.declared.outcome.Outcome.TheVariants.{NoScript, NoText};
 
-use crate::command_line::{Action, CliOutcome, Service, cli_outcome_of, parse};
+use crate::command_line::{Action, CliOutcome, Inspection, Service, cli_outcome_of, parse};
 use crate::fault_table::fault_table;
 use crate::hints::hint_of;
 use crate::outcome::Outcome;
@@ -43,6 +43,8 @@ pub fn read_arguments(rt: &(impl Env + AllocGlobal)) -> Result<Vec<String>, Outc
 pub enum Answer<'a> {
     /// Its action was carried out, or there was none.
     Outcome(Outcome),
+    /// It requests `inspect`, which is left to the caller.
+    Inspection(Inspection<'a>),
     /// It requests `serve`, which is left to the caller.
     Service(Service<'a>),
 }
@@ -60,6 +62,7 @@ pub fn answer_arguments<'a, S: AsStr, R: Read, W: Write>(
     match parse(rt.alloc(), words) {
         Ok(Action::Replay) => Answer::Outcome(replay(rt.alloc(), source, sink)),
         Ok(Action::Faults(number)) => Answer::Outcome(print_faults(rt.alloc(), number, sink)),
+        Ok(Action::Inspect(inspection)) => Answer::Inspection(inspection),
         Ok(Action::Serve(service)) => Answer::Service(service),
         Err(error) => Answer::Outcome(Outcome::NoScript(print_error(rt, words, &error))),
     }

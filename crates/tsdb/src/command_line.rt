@@ -1,7 +1,7 @@
 //! The command line: parses the action that it requests, or returns clap's answer to it.
 ghost use Rattle.std.specs.Prelude.{◌≡◌, map, MatchOption};
 ghost use Rattle.clap.specs.Words.{kind_of, found_of, rows_of, subcommand_rows_of};
-ghost use Rattle.tsdb.specs.CommandLines.{IsActionOf, IsServiceOf, ParsesAs, outcome_of_kind};
+ghost use Rattle.tsdb.specs.CommandLines.{IsActionOf, IsInspectionOf, IsServiceOf, ParsesAs, outcome_of_kind};
 
 use crate::program::program;
 use clap::error::ErrorKind;
@@ -37,6 +37,28 @@ impl<'a> Service<'a> {
     }
 }
 
+/// Arguments of `tsdb inspect`.
+#[derive(Clone, Copy, Drop)]
+pub struct Inspection<'a> {
+    /// File of the store's image.
+    pub image: &'a str,
+    /// True for its raw points as line protocol, false for a summary.
+    pub lines: bool,
+}
+
+impl<'a> Inspection<'a> {
+    /// Returns the values of the arguments, or `None` if the image is missing.
+    fn from_matches(matches: &ArgMatches<'a>) -> Option<Inspection<'a>>
+        ensures { MatchOption result ((inspection : Inspection) → IsInspectionOf (rows_of (found_of matches.now)) inspection → ⊥)
+            (IsInspectionOf (rows_of (found_of matches.now))) }
+    {
+        Some(Inspection {
+            image: matches.get_str("IMAGE")?,
+            lines: matches.get_flag("lines"),
+        })
+    }
+}
+
 /// Action that a command line requests.
 #[derive(Clone, Copy, Drop)]
 pub enum Action<'a> {
@@ -44,6 +66,8 @@ pub enum Action<'a> {
     Replay,
     /// Prints the table of faults, or the row of one number.
     Faults(Option<&'a str>),
+    /// Prints what an image holds.
+    Inspect(Inspection<'a>),
     /// Serves HTTP requests.
     Serve(Service<'a>),
 }
@@ -57,6 +81,7 @@ impl<'a> Action<'a> {
         match matches.subcommand() {
             Some(("replay", _)) => Some(Action::Replay),
             Some(("faults", values)) => Some(Action::Faults(values.get_str("N"))),
+            Some(("inspect", values)) => Some(Action::Inspect(Inspection::from_matches(values)?)),
             Some(("serve", values)) => Some(Action::Serve(Service::from_matches(values)?)),
             _ => None,
         }

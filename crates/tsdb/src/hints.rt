@@ -9,6 +9,9 @@ pub fn hint_of<S: AsStr>(words: &[S], kind: ErrorKind) -> Option<&'static str> {
         ErrorKind::MissingRequiredArgument if command == "serve" => {
             Some("Example: tsdb serve settings.json image 8086 0")
         }
+        ErrorKind::MissingRequiredArgument if command == "inspect" => {
+            Some("Example: tsdb inspect image")
+        }
         ErrorKind::ValueValidation if command == "serve" => {
             Some("PORT is a number from 1 to 65535, REQUESTS one from 0 on.")
         }

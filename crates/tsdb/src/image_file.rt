@@ -140,7 +140,7 @@ fn refused(error: io::Error) -> Failed<SaveFault> {
 }
 
 /// Returns the error of a load that the system refused.
-fn not_loaded(error: io::Error) -> Failed<LoadFault> {
+pub fn not_loaded(error: io::Error) -> Failed<LoadFault> {
     if error.kind() == io::ErrorKind::OutOfMemory {
         Failed {
             fault: LoadFault::OutOfMemory,
@@ -152,6 +152,14 @@ fn not_loaded(error: io::Error) -> Failed<LoadFault> {
             cause: Some(error),
         }
     }
+}
+
+/// Opens an image to read it; it has to be a regular file.
+pub fn open_image<R: Files>(rt: &R, path: &str) -> io::Result<R::File> {
+    if !fs::metadata(rt, path)?.is_file() {
+        return Err(io::Error::other("it isn't a regular file"));
+    }
+    fs::open(rt, path)
 }
 
 /// Renames a file, and flushes the folder of its new name, so that a crash doesn't undo the rename.
@@ -205,14 +213,9 @@ impl<'a> ImageFile<'a> {
     ) -> Result<Option<Store<Global>>, Failed<LoadFault>>
         ensures { IfOk result (λ found. IfSome found IsFromImage) }
     {
-        match fs::metadata(rt, self.path.as_str()) {
-            Ok(found) if found.is_file() => {}
-            Ok(_) => return Err(not_loaded(io::Error::other("it isn't a regular file"))),
-            Err(error) if error.kind() == io::ErrorKind::NotFound => return Ok(None),
-            Err(error) => return Err(not_loaded(error)),
-        }
-        let mut source = match fs::open(rt, self.path.as_str()) {
+        let mut source = match open_image(rt, self.path.as_str()) {
             Ok(file) => Source::new(file),
+            Err(error) if error.kind() == io::ErrorKind::NotFound => return Ok(None),
             Err(error) => return Err(not_loaded(error)),
         };
         match load(rt.alloc(), &mut source) {

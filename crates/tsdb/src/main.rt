@@ -1,5 +1,6 @@
-//! The program `tsdb`. It runs scripts from standard input (`tsdb replay`), serves HTTP requests (`tsdb serve`) and
-//! prints the meaning of faults (`tsdb faults`). Depends on ts_script, ts_http and ts_store.
+//! The program `tsdb`. It runs scripts from standard input (`tsdb replay`), serves HTTP requests (`tsdb serve`), prints
+//! what an image holds (`tsdb inspect`) and the meaning of faults (`tsdb faults`). Depends on ts_script, ts_http,
+//! ts_image and ts_store.
 //!
 //! Proved: a call has the effect that specs/Calls defines for its words and standard input (`call::answer_arguments`), and
 //! requests change a store as ts_http defines them (`requests::serve_on`). Sockets, the clock and files have no
@@ -12,9 +13,15 @@
 
 mod call;
 mod command_line;
+mod duration_text;
+mod export;
 mod fault_table;
 mod hints;
 mod image_file;
+mod inspect;
+mod inspect_fault;
+mod line_text;
+mod measured;
 mod opening;
 mod outcome;
 mod program;
@@ -25,10 +32,12 @@ mod service;
 mod service_fault;
 mod settings_cause;
 mod start;
+mod summary;
 mod timed;
 mod unread;
 
 use call::{Answer, answer_arguments, read_arguments};
+use inspect::inspect;
 use outcome::end;
 use service::serve;
 use std::io;
@@ -44,6 +53,7 @@ fn main(rt: HostRuntime) -> ExitCode {
     let mut sink = Sink::new(io::writer(&rt));
     match answer_arguments(&rt, words.as_slice(), &mut source, &mut sink) {
         Answer::Outcome(outcome) => end(&rt, outcome),
+        Answer::Inspection(inspection) => inspect(&rt, &inspection, &mut sink),
         Answer::Service(service) => serve(&rt, &service),
     }
 }

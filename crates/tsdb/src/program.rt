@@ -1,9 +1,9 @@
 //! The commands of the program with their arguments and help, as clap reads them.
 ghost use Rattle.std.specs.Prelude.{◌≡◌, IfOk, true};
 ghost use Rattle.clap.specs.Words.{app_of, rule_of};
-ghost use Rattle.tsdb.specs.CommandLines.{program_app, replay_app, faults_app, serve_app, IsCommand, IsArgument, port_rule, requests_rule, settings_rule, image_argument_rule};
+ghost use Rattle.tsdb.specs.CommandLines.{program_app, replay_app, faults_app, inspect_app, serve_app, IsCommand, IsArgument, port_rule, requests_rule, settings_rule, image_argument_rule, lines_rule};
 
-use clap::{Arg, Command, value_parser};
+use clap::{Arg, ArgAction, Command, value_parser};
 use std::alloc::{AllocError, Global};
 
 const VERSION: &str = "0.1.0";
@@ -57,7 +57,8 @@ Example:
 prints ok, ok and 1.
 
 `tsdb faults` prints what each fault means, `tsdb faults N` only fault N.
-`tsdb serve SETTINGS IMAGE PORT REQUESTS` answers HTTP requests; see `tsdb serve --help`.";
+`tsdb serve SETTINGS IMAGE PORT REQUESTS` answers HTTP requests; see `tsdb serve --help`.
+`tsdb inspect IMAGE` prints what a saved store holds; see `tsdb inspect --help`.";
 
 const NOTES: &str = "\
 A connection has one request: POST /write, GET or POST /query, or /ping, as in InfluxDB 1.x; POST /maintain, which
@@ -76,6 +77,29 @@ Example:
 
   tsdb serve settings.json image 8086 0";
 
+const INSPECTION: &str = "\
+Reads the image and changes nothing; a store that is being served may be inspected too. Prints one JSON object:
+
+  version, bytes      the version of the image's form, and its size
+  settings            the settings that it was saved with, in the form of `serve`'s SETTINGS
+  raw_mark            the time from which on all raw points are kept, in nanoseconds since the Unix epoch
+  rules               of each rule its name, its low index (its first whole bucket) and its cells of dropped points
+  run_open            true if a retention run is in progress, and waiting_columns: those that it hasn't moved yet
+  accepted            the values that were accepted, repeats counted
+  series, columns, raw_points    their numbers
+  without_rule        the measurements that no rule rolls up: once dropped, their points are gone
+
+With --lines it prints each raw point as a line of line protocol with its time in nanoseconds instead: the series in
+the order of their names, each column oldest point first. Written into a new store, before retention runs there, the
+lines give the same raw points. Cells of dropped points can't be written as lines. If a name of the image can't stand
+in a line, nothing is printed.
+
+An image at fault is reported in one line on standard error, as `tsdb serve` reports it, with status 1.
+
+Example:
+
+  tsdb inspect --lines image | gzip > points.gz";
+
 /// Creates the program's command, with its subcommands.
 pub fn program<'a>(alloc: Global) -> Result<Command<'a>, AllocError>
     ensures { IfOk result (λ c. app_of c ≡ program_app) }
@@ -88,6 +112,7 @@ pub fn program<'a>(alloc: Global) -> Result<Command<'a>, AllocError>
         .arg_required_else_help(true)
         .subcommand(replay(alloc))?
         .subcommand(faults(alloc)?)?
+        .subcommand(inspect(alloc)?)?
         .subcommand(serve(alloc)?)
 }
 
@@ -106,6 +131,16 @@ fn faults<'a>(alloc: Global) -> Result<Command<'a>, AllocError>
     Command::new(alloc, "faults")
         .about("Prints what the number of each fault means")
         .arg(number)
+}
+
+fn inspect<'a>(alloc: Global) -> Result<Command<'a>, AllocError>
+    ensures { IfOk result (IsCommand inspect_app) }
+{
+    Command::new(alloc, "inspect")
+        .about("Prints what the image of a store holds")
+        .after_help(INSPECTION)
+        .arg(lines(alloc))?
+        .arg(inspected(alloc))
 }
 
 fn serve<'a>(alloc: Global) -> Result<Command<'a>, AllocError>
@@ -134,6 +169,23 @@ fn image<'a>(alloc: Global) -> Arg<'a>
     Arg::new(alloc, "IMAGE").required(true).help(
         "The file that the store is saved in; created if it doesn't exist",
     )
+}
+
+fn inspected<'a>(alloc: Global) -> Arg<'a>
+    ensures { IsArgument image_argument_rule result }
+{
+    Arg::new(alloc, "IMAGE")
+        .required(true)
+        .help("The file that a store was saved in")
+}
+
+fn lines<'a>(alloc: Global) -> Arg<'a>
+    ensures { IsArgument lines_rule result }
+{
+    Arg::new(alloc, "lines")
+        .long("lines")
+        .action(ArgAction::SetTrue)
+        .help("Prints the raw points as line protocol")
 }
 
 fn port<'a>(alloc: Global) -> Arg<'a>

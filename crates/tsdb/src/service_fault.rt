@@ -1,6 +1,6 @@
 //! Errors of a service, and their lines for standard error.
 ghost use Rattle.std.specs.Prelude.{◌≡◌, ◌++◌, OnOk, string_bytes};
-ghost use Rattle.tsdb.specs.Services.{service_status, service_line, settings_words, load_words, save_words, save_line};
+ghost use Rattle.tsdb.specs.Services.{service_status, service_line, settings_words, load_words, load_line, save_words, save_line};
 
 use crate::command_line::Service;
 use itoa::Buffer;
@@ -52,6 +52,15 @@ fn load_words(fault: LoadFault) -> &'static str
         LoadFault::TooManyReads => FaultCode::EndlessImage.message(),
         LoadFault::OutOfMemory => "out of memory",
     }
+}
+
+/// Appends the line of a load that failed.
+pub fn load_line_to(fault: LoadFault, image: &str, text: &mut String) -> Result<(), AllocError>
+    ensures { OnOk result (string_bytes text.new ≡ string_bytes text.old ++ load_line image.now fault) }
+{
+    push_all(text, &["tsdb: ", image, ": "])?;
+    fault.text_to(text)?;
+    push_all(text, &[": ", load_words(fault)])
 }
 
 /// Returns the words of a fault of a save.
@@ -136,11 +145,7 @@ impl ServiceFault {
                 fault.text_to(text)?;
                 push_all(text, &[": ", settings_words(fault)])
             }
-            ServiceFault::Image(fault) => {
-                push_all(text, &["tsdb: ", service.image, ": "])?;
-                fault.text_to(text)?;
-                push_all(text, &[": ", load_words(fault)])
-            }
+            ServiceFault::Image(fault) => load_line_to(fault, service.image, text),
             ServiceFault::InUse => push_all(
                 text,
                 &["tsdb: ", service.image, ": another tsdb serves this image"],

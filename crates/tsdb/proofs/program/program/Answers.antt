@@ -9,4 +9,5 @@ returns c =
     let empty : IsCommand tsdb_app c.arg_required_else_help.result = search rules in
     let first = command_added _ _ c.in_ok-subcommand.field-0 _ _ empty c.replay.ensures c.in_ok-subcommand.ensures in
     let second = command_added _ _ c.in_ok-subcommand-2.field-0 _ _ first c.in_ok-faults.ensures c.in_ok-subcommand-2.ensures in
-    IfOk-weaker c.subcommand-3.result _ _ (λ r added. (command_added _ _ r _ _ second c.in_ok-serve.ensures added).0) c.subcommand-3.ensures
+    let third = command_added _ _ c.in_ok-subcommand-3.field-0 _ _ second c.in_ok-inspect.ensures c.in_ok-subcommand-3.ensures in
+    IfOk-weaker c.subcommand-4.result _ _ (λ r added. (command_added _ _ r _ _ third c.in_ok-serve.ensures added).0) c.subcommand-4.ensures

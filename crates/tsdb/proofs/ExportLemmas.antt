@@ -1,0 +1,30 @@
+-- The columns of an export are those of the store.
+use Rattle.std.proofs.Common.{◌≡◌, ℕ, zero, suc, ◌<◌, List, [], ◌∷◌, ◌++◌, length, map, get_or, sym, subst, arith}
+use Rattle.std.specs.Prelude.{flat_map}
+use Rattle.std.specs.List.{AllByRecursion}
+use Rattle.ts_core.specs.facts.Facts.{Series}
+use Rattle.ts_core.specs.store.StoreData.{StoreData}
+use Rattle.ts_store.specs.image.SavedContent.{SavedColumn, SavedSeries}
+use Rattle.ts_image.specs.Saving.{HasItsColumns}
+use Rattle.tsdb.specs.Exports.{ExportColumn, export_column, series_columns}
+
+pub all_at : {X : Type 0} (P : X → Type 0) (xs : List X) (i : ℕ) (x : X) → i < length xs → x ≡ get_or xs i x → AllByRecursion P xs → P x
+all_at P [] i x lt e w = absurd (omega arith)
+all_at {X} P (y ∷ ys) zero x lt e w = subst P (sym e) w.0
+all_at P (y ∷ ys) (suc i) x lt e w = all_at P ys i x (omega arith) e w.1
+
+all_both : {X : Type 0} (P : X → Type 0) (xs ys : List X) → AllByRecursion P xs → AllByRecursion P ys → AllByRecursion P (xs ++ ys)
+all_both P [] ys v w = w
+all_both P (x ∷ xs) ys v w = (v.0, all_both P xs ys v.1 w)
+
+module _ (k : StoreData) where
+  abbrev pub IsThere : ExportColumn → Type 0
+  IsThere column = column.number < length k.columns
+
+  series_there : (s : Series) (cs : List SavedColumn) → AllByRecursion (λ (c : SavedColumn). c.number < length k.columns) cs → AllByRecursion IsThere (map (export_column s) cs)
+  series_there s [] w = tt
+  series_there s (c ∷ cs) w = (w.0, series_there s cs w.1)
+
+  pub all_there : (all : List SavedSeries) → AllByRecursion (HasItsColumns k) all → AllByRecursion IsThere (flat_map series_columns all)
+  all_there [] w = tt
+  all_there (s ∷ ss) w = all_both IsThere (series_columns s) (flat_map series_columns ss) (series_there s.series s.columns w.0) (all_there ss w.1)
