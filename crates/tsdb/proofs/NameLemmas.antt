@@ -1,14 +1,11 @@
 -- Names with their delimiters escaped: parts of a line, which are read as the names.
-use Rattle.std.proofs.Common.{◌≡◌, ℕ, suc, ◌+◌, ◌≤◌, Bool, true, false, ◌&&◌, not, [], ◌∷◌, ◌++◌, length, refl, ap, arith}
-use Rattle.std.specs.Prelude.{flat_map}
+use Rattle.std.proofs.Common.{◌≡◌, ℕ, ◌≤◌, Bool, true, false, [], ◌∷◌, length, refl, ap, arith}
 use Rattle.std.proofs.Math.Bool.{and-false}
 use Rattle.std.proofs.lemmas.Bool.Decides.{nat_tests}
 use Rattle.ts_core.specs.facts.Facts.{Text}
-use Rattle.ts_line.specs.declared.scan.Stops.{Stops}
-use Rattle.ts_line.specs.declared.scan.Stops.TheVariants.{Space, Comma, Equals, Plain}
 use Rattle.ts_line.specs.PartTexts.{begins_escapable, unescaped}
-use Rattle.ts_line.specs.Scan.{is_backslash, is_stop, is_escaped, ends}
-use Rattle.ts_line.specs.Spelling.{is_closed, IsWrittenPart}
+use Rattle.ts_line.specs.Scan.{is_backslash, is_stop, is_escaped}
+use Rattle.ts_line.specs.Spelling.{is_closed}
 use Rattle.tsdb.specs.Exports.{stops_of, escaped, ends_bare, NamesAreRead}
 use Rattle.tsdb.specs.declared.line_text.NamePart.{NamePart}
 use Rattle.tsdb.specs.declared.line_text.NamePart.TheVariants.{Measurement, Key}
