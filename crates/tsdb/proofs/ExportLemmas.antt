@@ -1,5 +1,5 @@
 -- The columns of an export are those of the store.
-use Rattle.std.proofs.Common.{◌≡◌, ℕ, zero, suc, ◌<◌, List, [], ◌∷◌, ◌++◌, length, map, get_or, sym, subst, arith}
+use Rattle.std.proofs.Common.{◌<◌, List, [], ◌∷◌, ◌++◌, length, map}
 use Rattle.std.specs.Prelude.{flat_map}
 use Rattle.std.specs.List.{AllByRecursion}
 use Rattle.ts_core.specs.facts.Facts.{Series}
@@ -7,11 +7,6 @@ use Rattle.ts_core.specs.store.StoreData.{StoreData}
 use Rattle.ts_store.specs.image.SavedContent.{SavedColumn, SavedSeries}
 use Rattle.ts_image.specs.Saving.{HasItsColumns}
 use Rattle.tsdb.specs.Exports.{ExportColumn, export_column, series_columns}
-
-pub all_at : {X : Type 0} (P : X → Type 0) (xs : List X) (i : ℕ) (x : X) → i < length xs → x ≡ get_or xs i x → AllByRecursion P xs → P x
-all_at P [] i x lt e w = absurd (omega arith)
-all_at {X} P (y ∷ ys) zero x lt e w = subst P (sym e) w.0
-all_at P (y ∷ ys) (suc i) x lt e w = all_at P ys i x (omega arith) e w.1
 
 all_both : {X : Type 0} (P : X → Type 0) (xs ys : List X) → AllByRecursion P xs → AllByRecursion P ys → AllByRecursion P (xs ++ ys)
 all_both P [] ys v w = w

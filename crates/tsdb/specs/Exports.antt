@@ -40,8 +40,8 @@ abbrev pub key_text : Series → Text
 key_text series = escaped Comma series.measurement ++ tags_text (map escaped_tag series.tags)
 
 -- a line up to the value
-abbrev pub head_text : Text → Text → Text
-head_text key field = key ++ (codes " " ++ (escaped Equals field ++ codes "="))
+abbrev pub line_start : Text → Text → Text
+line_start key field = key ++ (codes " " ++ (escaped Equals field ++ codes "="))
 
 -- a name that doesn't end in a backslash, after the byte `before`
 abbrev pub ends_bare : ℕ → Text → Bool
@@ -65,7 +65,7 @@ pub record ExportColumn : Type 0 where
   pub number : ℕ
 
 abbrev pub export_column : Series → SavedColumn → ExportColumn
-export_column series column = record { head = head_text (key_text series) column.field; number = column.number }
+export_column series column = record { head = line_start (key_text series) column.field; number = column.number }
 
 abbrev pub series_columns : SavedSeries → List ExportColumn
 series_columns saved = map (export_column saved.series) saved.columns

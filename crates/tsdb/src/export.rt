@@ -4,10 +4,10 @@ ghost use Rattle.std.specs.List.{AllByRecursion};
 ghost use Rattle.ts_core.specs.io.Devices.{IsPut};
 ghost use Rattle.ts_core.specs.io.OutputBuffering.{IsBuffered};
 ghost use Rattle.ts_core.specs.text.FaultTexts.{parts_joined};
-ghost use Rattle.tsdb.specs.Exports.{point_line, series_columns, column_lines, head_text, IsExported};
+ghost use Rattle.tsdb.specs.Exports.{point_line, series_columns, column_lines, line_start, IsExported};
 ghost use Rattle.tsdb.specs.declared.export.ExportFault.TheVariants as faults;
 
-use crate::line_text::{head_text, is_field, is_key, key_text};
+use crate::line_text::{line_start, is_field, is_key, key_text};
 use itoa::Buffer;
 use std::alloc::{AllocError, AllocFailed, Global};
 use std::io::Write;
@@ -170,10 +170,10 @@ fn export_column(
     key: &[u8],
     column: &SavedColumn<'_, Global>,
 ) -> Result<ExportColumn, ExportFault>
-    ensures { IfOk result (λ c. c ≡ record { head = head_text key.now column.now.field; number = column.now.number }) }
+    ensures { IfOk result (λ c. c ≡ record { head = line_start key.now column.now.field; number = column.now.number }) }
 {
     let field = column.field.as_str();
-    let head = head_text(alloc, key, field)?;
+    let head = line_start(alloc, key, field)?;
     if !is_field(field, head.as_slice()) {
         return Err(ExportFault::Name);
     }

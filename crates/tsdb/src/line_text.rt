@@ -3,7 +3,7 @@ ghost use Rattle.std.specs.Prelude.{◌≡◌, ◌++◌, map, codes, IfOk, OnOk}
 ghost use Rattle.ts_core.specs.text.Texts.{owned_pairs};
 ghost use Rattle.ts_line.specs.Scan.{is_stop};
 ghost use Rattle.ts_line.specs.Spelling.{tags_text};
-ghost use Rattle.tsdb.specs.Exports.{stops_of, escaped_byte, escaped, escaped_tag, key_text, head_text, NamesAreRead};
+ghost use Rattle.tsdb.specs.Exports.{stops_of, escaped_byte, escaped, escaped_tag, key_text, line_start, NamesAreRead};
 ghost use Rattle.ts_line.specs.declared.scan.Stops.TheVariants.{Equals};
 
 use std::alloc::{AllocError, Global};
@@ -91,8 +91,8 @@ pub fn key_text(alloc: Global, key: &Key<Global>) -> Result<Vec<u8>, AllocError>
 }
 
 /// Returns the lines of a column up to the value: the key of its series, and the field with an equals sign.
-pub fn head_text(alloc: Global, key: &[u8], field: &str) -> Result<Vec<u8>, AllocError>
-    ensures { IfOk result (λ text. text.items ≡ head_text key.now field.now) }
+pub fn line_start(alloc: Global, key: &[u8], field: &str) -> Result<Vec<u8>, AllocError>
+    ensures { IfOk result (λ text. text.items ≡ line_start key.now field.now) }
 {
     let mut line = Vec::new(alloc);
     line.extend_from_slice(key)?;

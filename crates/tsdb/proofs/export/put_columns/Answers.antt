@@ -2,7 +2,7 @@ use Rattle.std.proofs.Common.{◌<◌, length}
 use Rattle.std.proofs.lemmas.Result.{err_from_is_err_and}
 use Rattle.tsdb.specs.Exports.{ExportColumn, column_lines}
 use Rattle.tsdb.proofs.AppendLemmas.{puts_more, puts_stop}
-use Rattle.tsdb.proofs.ExportLemmas.{all_at}
+use Rattle.ts_image.proofs.Saved.{all_at}
 use Rattle.tsdb.proofs.export.put_columns.Goals as goal
 
 pub returns-in_err-put_column : goal.returns-in_err-put_column

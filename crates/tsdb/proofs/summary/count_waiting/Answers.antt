@@ -1,5 +1,5 @@
 use Rattle.ts_image.specs.Saving.{HasItsColumns}
-use Rattle.tsdb.proofs.ExportLemmas.{all_at}
+use Rattle.ts_image.proofs.Saved.{all_at}
 use Rattle.tsdb.proofs.summary.count_waiting.Goals as goal
 
 pub count_waiting_of-requires : goal.count_waiting_of-requires

@@ -1,7 +1,7 @@
 use Rattle.std.proofs.Common.{rules, ◌≡◌, ◌<◌, ℕ, length, sym, subst}
 use Rattle.std.specs.List.{AllByRecursion}
 use Rattle.ts_store.specs.image.SavedContent.{SavedColumn}
-use Rattle.tsdb.proofs.ExportLemmas.{all_at}
+use Rattle.ts_image.proofs.Saved.{all_at}
 use Rattle.tsdb.proofs.summary.count_waiting_of.Goals as goal
 
 pub waits-requires : goal.waits-requires
