@@ -7,7 +7,7 @@ ghost use Rattle.ts_core.specs.text.FaultTexts.{parts_joined};
 ghost use Rattle.tsdb.specs.Exports.{point_line, series_columns, column_lines, line_start, IsExported};
 ghost use Rattle.tsdb.specs.declared.export.ExportFault.TheVariants as faults;
 
-use crate::line_text::{line_start, is_field, is_key, key_text};
+use crate::line_text::{is_field, is_key, key_text, line_start};
 use itoa::Buffer;
 use std::alloc::{AllocError, AllocFailed, Global};
 use std::io::Write;
