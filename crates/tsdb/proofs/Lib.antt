@@ -1,5 +1,7 @@
 -- Exports
 pub mod AppendLemmas
+pub mod ExportLemmas
+pub mod NameLemmas
 -- FaultTables
 pub mod FaultTableLemmas
 -- ServedRequests
