@@ -2,7 +2,7 @@
 ghost use Rattle.std.specs.Prelude.{◌≡◌, ◌≤◌, length, map, drop, false, true};
 ghost use Rattle.std.specs.List.{AllByRecursion};
 ghost use Rattle.httparse.specs.Spans.{IsHeaderWithin, IsRequestWithin, header_bytes, span_bytes};
-ghost use Rattle.ts_core.specs.io.Devices.{one_if_err};
+ghost use Rattle.ts_core.specs.io.Devices.{EachReadCounts, one_if_err};
 ghost use Rattle.ts_http.specs.Heads.{head_limit};
 ghost use Rattle.ts_http.specs.Requests.{path_of, target_query, route_of, method_of, is_allowed, body_limit, refused, body_length};
 ghost use Rattle.ts_http.specs.OutcomeReplies.{ActsAs, reply_of};
@@ -199,7 +199,8 @@ fn act_on_body<R: Read, A: Allocator + Copy>(
 ) -> Result<Outcome, ReadFailed>
     requires allowed { is_allowed head.now.route head.now.method ≡ true }
     requires len { len ≤ body_limit }
-    ensures { IsActedOn now head.now.route head.now.method head.now.query.now head.now.behind.now len store.old source.old result store.new source.new }
+    ensures acted { IsActedOn now head.now.route head.now.method head.now.query.now head.now.behind.now len store.old source.old result store.new source.new }
+    ensures each { EachReadCounts source.old source.new }
 {
     if len == 0 {
         return Ok(act(alloc, json, store, now, head, b""));
@@ -239,7 +240,9 @@ pub fn serve_one<R: Read, W: Write, A: Allocator + Copy>(
     source: &mut Source<R>,
     sink: &mut Sink<W>,
 ) -> Result<Served, IoFault>
-    ensures { IsServed now store.old source.old sink.old result store.new source.new sink.new }
+    ensures served { IsServed now store.old source.old sink.old result store.new source.new sink.new }
+    // So the limit of reads is reached only by as many bytes.
+    ensures each { EachReadCounts source.old source.new }
 {
     let mut buffer = [0; HEAD_LIMIT];
     let mut spans = [EMPTY_HEADER_SPAN; FIELD_LIMIT];

@@ -1,7 +1,7 @@
 -- A line reader, by its read buffer and the line so far. (Own rule.)
 use Rattle.std.specs.Prelude.{◌≡◌, ◌≢◌, ◌↔◌, ℕ, ◌+◌, ◌≤◌, ◌<◌, List, [], ◌∷◌, ◌++◌, length, take, drop, Bool, true, false, not, IsTrue, Option, Result, Err, IfOk, OnOk, OnErr, ◌==◌, if◌then◌else◌}
 use Rattle.std.specs.Io.KnownBytes.{Keeps, Consumes, IsAtEnd}
-use Rattle.ts_core.specs.io.Devices.{Input}
+use Rattle.ts_core.specs.io.Devices.{Input, EachReadCounts}
 use Rattle.ts_core.specs.io.ReadingAhead.{Ahead, pending, bit, one_if_device, weight}
 use Rattle.ts_core.specs.declared.io.read_ahead.ReadFault.{ReadFault}
 use Rattle.ts_core.specs.declared.io.read_ahead.ReadFault.TheVariants.{TooManyReads}
@@ -93,6 +93,7 @@ pub record CallsReader {T : Type 0} (old : Ahead) (source : Input) (result : Res
   pub failures : source'.failures ≡ source.failures + one_if_device result
   pub reads : source'.reads + old.reads ≡ source.reads + new.reads
   pub ends : source'.ends + bit old.ended ≡ source.ends + bit new.ended
+  pub each : EachReadCounts source source'
 
 -- one read; it returns false at the end of input
 pub record IsReadOn (old : ReaderState) (source : Input) (result : Result Bool ReadFault) (new : ReaderState) (source' : Input) : Type 0 where

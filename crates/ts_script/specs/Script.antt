@@ -3,7 +3,7 @@ use Rattle.std.specs.Prelude.{◌≡◌, ◌≢◌, ℕ, ◌+◌, ◌≤◌, Lis
 use Rattle.std.specs.List.{concat}
 use Rattle.std.specs.Io.KnownBytes.{Consumes, IsAtEnd, Appends}
 use Rattle.ts_core.specs.facts.Facts.{Text}
-use Rattle.ts_core.specs.io.Devices.{Input, Output, AppendsFront}
+use Rattle.ts_core.specs.io.Devices.{Input, Output, EachReadCounts, AppendsFront}
 use Rattle.ts_core.specs.io.ReadingAhead.{bit}
 use Rattle.ts_script.specs.ScriptLines.{lines_read}
 use Rattle.ts_script.specs.Machine.{State, start, Prints}
@@ -57,4 +57,6 @@ pub record IsReplay {T : Type 0} (reads : ℕ) (source : Input) (sink : Output) 
   -- the end was read, or the limit of reads was reached
   pub end : OnOk result (source'.ends ≡ source.ends + 1)
   pub within : source'.reads ≤ source.reads + reads
+  -- so the limit of reads is reached only by as many bytes
+  pub each : EachReadCounts source source'
   pub limit : result ≡ Err TooManyReads → (source'.reads ≡ source.reads + reads) × (source'.ends ≡ source.ends)

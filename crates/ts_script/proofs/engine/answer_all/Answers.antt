@@ -1,6 +1,7 @@
 use Rattle.std.proofs.Common.{◌≡◌, true, false, true≢false, refl, sym, ap, ◌∙◌, Err, arith}
 use Rattle.std.proofs.lemmas.Result.{err_from_is_err_and}
 use Rattle.ts_core.specs.io.ReadingAhead.{Ahead, bit}
+use Rattle.ts_core.proofs.io.ReadCounts.{no_read_counts, reads_count_on}
 use Rattle.ts_script.specs.LineReading.{lines_to_come}
 use Rattle.ts_script.specs.ScriptReplies.{text_of}
 use Rattle.ts_script.specs.RunFaults.{fault_of_read}
@@ -17,6 +18,7 @@ loop-lines-init g c =
       reads = omega (arith, reads);
       allowed = refl;
       within = omega (arith, reads);
+      each = no_read_counts c.args.source.now;
       ends = omega (arith, ap (λ (a : Ahead). bit a.ended) e);
       reader = refl;
       writer = refl;
@@ -41,6 +43,7 @@ returns-in_err-send_before_wait g c =
       writer = omega (arith, i.writer, s.failures);
       end = tt;
       within = omega (arith, i.reads, i.within, i.allowed);
+      each = i.each;
       limit = λ e. absurd (writer_is_not_turns _ refl e);
     }
 
@@ -58,6 +61,7 @@ loop-lines-preserved g c =
       reads = omega (arith, i.reads, n.source_calls.reads);
       allowed = n.source_calls.allowed ∙ i.allowed;
       within = n.source_calls.within;
+      each = reads_count_on c.args.source.now c.loop-lines.source c.next.new.source i.each n.source_calls.each;
       ends = omega (arith, i.ends, n.source_calls.ends);
       reader = omega (arith, i.reader, n.source_calls.failures);
       writer = omega (arith, i.writer, b.failures, s.sent.failures);
@@ -86,6 +90,7 @@ returns-in_err-send g c =
       writer = omega (arith, i.writer, b.failures, s.failures);
       end = tt;
       within = omega (arith, i.reads, i.allowed, n.source_calls.reads, n.source_calls.within, n.source_calls.allowed);
+      each = reads_count_on c.args.source.now c.loop-lines.source c.next.new.source i.each n.source_calls.each;
       limit = λ e. absurd (writer_is_not_turns _ refl e);
     }
 
@@ -114,6 +119,7 @@ returns-in_err-next g c =
       writer = omega (arith, i.writer, b.sent.failures, writer_silent result fault told);
       end = rw told tt;
       within = omega (arith, i.reads, i.allowed, n.reads, n.within, n.allowed);
+      each = reads_count_on c.args.source.now c.loop-lines.source c.next.new.source i.each n.each;
       limit = λ t.
           let at = n.limit (turns_told fault result c.next.result told c.in_err-next.was t) in
           (omega (arith, i.reads, i.allowed, n.reads, n.allowed, at), omega (arith, i.ends, n.ends, ap bit going));
@@ -141,6 +147,7 @@ returns-in_err-flush g c =
       writer = omega (arith, i.writer, b.failures, s.failures);
       end = tt;
       within = omega (arith, i.reads, i.allowed, n.source_calls.reads, n.source_calls.within, n.source_calls.allowed);
+      each = reads_count_on c.args.source.now c.loop-lines.source c.next.new.source i.each n.source_calls.each;
       limit = λ e. absurd (writer_is_not_turns _ refl e);
     }
 
@@ -165,6 +172,7 @@ returns-in-End g c =
       writer = omega (arith, i.writer, b.failures, s.buffered.failures);
       end = omega (arith, i.ends, n.source_calls.ends, ap bit (n.goes_on.over c.in-End.is));
       within = omega (arith, i.reads, i.allowed, n.source_calls.reads, n.source_calls.within, n.source_calls.allowed);
+      each = reads_count_on c.args.source.now c.loop-lines.source c.next.new.source i.each n.source_calls.each;
       limit = λ e. absurd (done_has_no_fault _ _ _ refl e);
     }
 

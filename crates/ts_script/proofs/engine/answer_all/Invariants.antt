@@ -1,5 +1,6 @@
 use Rattle.std.proofs.Common.{◌≡◌, ◌+◌, ◌≤◌, string_capacity}
 use Rattle.ts_script.specs.declared.reply.TheConstants.{TEXT_CAPACITY}
+use Rattle.ts_core.specs.io.Devices.{EachReadCounts}
 use Rattle.ts_core.specs.io.ReadingAhead.{bit, weight}
 use Rattle.ts_script.specs.LineReading.{lines_to_come, EndIsOver}
 use Rattle.ts_script.proofs.Progress.{Progress}
@@ -12,6 +13,7 @@ invariant-loop-lines g l = record {
   reads : l.source.reads ≡ l.initial.source.reads + l.lines.ahead.reads;
   allowed : l.lines.ahead.limit ≡ l.initial.lines.ahead.limit;
   within : l.lines.ahead.reads ≤ l.lines.ahead.limit;
+  each : EachReadCounts l.initial.source l.source;
   ends : l.source.ends ≡ l.initial.source.ends + bit l.lines.ahead.ended;
   reader : l.source.failures ≡ l.initial.source.failures;
   writer : l.sink.failures ≡ l.initial.sink.failures;

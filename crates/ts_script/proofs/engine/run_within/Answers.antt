@@ -2,6 +2,7 @@ use Rattle.std.proofs.Common.{◌≡◌, ℕ, [], false, true≢false, refl, sym
 use Rattle.std.proofs.KnownBytes.{Consumes-nil}
 use Rattle.std.proofs.lemmas.Result.{err_from_is_err_and}
 use Rattle.ts_core.specs.io.Devices.{Input, Output}
+use Rattle.ts_core.proofs.io.ReadCounts.{no_read_counts}
 use Rattle.ts_script.specs.Script.{IsReplay}
 use Rattle.ts_script.specs.declared.run_fault.RunFault.{RunFault}
 use Rattle.ts_script.specs.declared.run_fault.RunFault.TheVariants.{OutOfMemory}
@@ -22,6 +23,7 @@ without_memory reads source sink result none = rw none record {
   writer = omega arith;
   end = tt;
   within = omega arith;
+  each = no_read_counts source;
   limit = λ e. cc;
 }
 

@@ -1,6 +1,7 @@
 use Rattle.std.proofs.Common.{◌≡◌, false, refl, sym, ap, ◌∙◌, arith}
 use Rattle.std.proofs.lemmas.Result.{err_from_is_err_and}
 use Rattle.ts_core.specs.io.ReadingAhead.{bit}
+use Rattle.ts_core.proofs.io.ReadCounts.{reads_count_on}
 use Rattle.ts_script.specs.LineReading.{lines_to_come}
 use Rattle.ts_script.proofs.LineScan.{next_is_some, found_told, last_told, more_told, after-whole, flipped, flipped_back}
 use Rattle.ts_script.proofs.line_reader.LineReader.gather.Goals as goal
@@ -36,6 +37,7 @@ returns-then-consume_chunk-clause-source_calls g c =
       failures = omega (arith, i.failures);
       reads = omega (arith, i.reads, t.reads);
       ends = omega (arith, i.ends, ap bit going, ap bit c.requires.going);
+      each = i.each;
     }
 
 pub read_on-requires-clause-empty : goal.read_on-requires-clause-empty
@@ -56,6 +58,7 @@ returns-in_err-read_on-clause-source_calls g c =
       failures = omega (arith, s.failures, i.failures);
       reads = omega (arith, s.reads, i.reads, t.reads);
       ends = omega (arith, s.ends, i.ends, ap bit c.requires.going, ap bit s.stays, ap bit t.ended, ap bit i.going);
+      each = reads_count_on c.args.source.now c.loop-self.source c.read_on.new.source i.each s.each;
     }
 
 pub returns-in_err-read_on-clause-cut : goal.returns-in_err-read_on-clause-cut
@@ -107,6 +110,7 @@ returns-then-not-branch-clause-source_calls g c =
       failures = omega (arith, s.failures, i.failures);
       reads = omega (arith, s.reads, i.reads, t.reads);
       ends = omega (arith, s.ends, i.ends, ap bit going, ap bit c.requires.going);
+      each = reads_count_on c.args.source.now c.loop-self.source c.read_on.new.source i.each s.each;
     }
 
 pub loop-self-smaller : goal.loop-self-smaller
@@ -130,4 +134,5 @@ loop-self-preserved g c =
       failures = omega (arith, s.failures, i.failures);
       reads = omega (arith, s.reads, i.reads, t.reads);
       ends = omega (arith, s.ends, i.ends, ap bit going, ap bit t.ended, ap bit i.going);
+      each = reads_count_on c.args.source.now c.loop-self.source c.read_on.new.source i.each s.each;
     }

@@ -1,4 +1,5 @@
 use Rattle.std.proofs.Common.{◌≡◌, ℕ, ◌+◌, ◌-◌, ◌≤◌, List, false}
+use Rattle.ts_core.specs.io.Devices.{EachReadCounts}
 use Rattle.ts_core.specs.io.ReadingAhead.{weight}
 use Rattle.ts_script.specs.LineReading.{lines_to_come}
 use Rattle.ts_script.proofs.LineScan.{SoFar}
@@ -13,6 +14,7 @@ invariant-loop-self g l = record {
   failures : l.source.failures ≡ l.initial.source.failures;
   reads : l.source.reads + l.initial.self.ahead.reads ≡ l.initial.source.reads + l.self.ahead.reads;
   ends : l.source.ends ≡ l.initial.source.ends;
+  each : EachReadCounts l.initial.source l.source;
 }
 
 abbrev pub decreases-loop-self : goal.decreases-loop-self
