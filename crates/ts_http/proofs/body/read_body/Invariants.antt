@@ -1,6 +1,7 @@
 use Rattle.std.proofs.Common.{◌≡◌, ◌+◌, ◌-◌, ◌≤◌, ◌++◌, length, take}
 use Rattle.std.specs.Io.KnownBytes.{Consumes}
 use Rattle.ts_core.specs.facts.Facts.{Text}
+use Rattle.ts_core.specs.io.Devices.{EachReadCounts}
 use Rattle.ts_http.proofs.body.read_body.Given as goal
 
 abbrev pub invariant-loop-have : goal.invariant-loop-have
@@ -11,6 +12,7 @@ invariant-loop-have g l = record {
   ends : l.source.ends ≡ l.initial.source.ends;
   failures : l.source.failures ≡ l.initial.source.failures;
   reads : l.source.reads + l.initial.have ≤ l.initial.source.reads + l.have;
+  each : EachReadCounts l.initial.source l.source;
 }
 
 abbrev pub decreases-loop-have : goal.decreases-loop-have

@@ -3,9 +3,9 @@ use Rattle.ts_core.specs.facts.Facts.{Text}
 use Rattle.ts_http.proofs.BodyLemmas.{taken_whole, written_back}
 use Rattle.ts_http.proofs.body.receive_body.Goals as goal
 
-pub returns-then-branch : goal.returns-then-branch
-returns-then-branch g c =
-    let r = c.in_ok-read_body.ensures in
+pub returns-then-branch-clause-taken : goal.returns-then-branch-clause-taken
+returns-then-branch-clause-taken g c =
+    let r = c.in_ok-read_body.ensures.read in
     let w = rw c.if-branch.true at r.whole in
     let b = c.in-Ok.ensures in
     let nb = c.read_body.new.body in

@@ -5,10 +5,10 @@ use Rattle.ts_http.proofs.ReadLemmas.{more_came, none_came}
 use Rattle.ts_http.proofs.HeadLemmas.{front_told, too_long_told, end_told, if_whole, end_whole}
 use Rattle.ts_http.proofs.head.read_head.Goals as goal
 
-pub returns-then-more-eq0 : goal.returns-then-more-eq0
-returns-then-more-eq0 g c =
+pub returns-then-more-eq0-clause-head : goal.returns-then-more-eq0-clause-head
+returns-then-more-eq0-clause-head g c =
     let i = c.loop-count.invariant in
-    let r = c.in_ok-more.ensures in
+    let r = c.in_ok-more.ensures.read in
     let count = c.loop-count.count in
     let none = c.if-more-eq0.true in
     let same : take count c.read_behind.new.buffer ≡ take count c.loop-count.buffer = r.kept in
@@ -21,10 +21,10 @@ returns-then-more-eq0 g c =
       reads = omega (arith, r.reads, i.reads, c.loop-count-test.true, i.buffer);
     }
 
-pub returns-in-Some : goal.returns-in-Some
-returns-in-Some g c =
+pub returns-in-Some-clause-head : goal.returns-in-Some-clause-head
+returns-in-Some-clause-head g c =
     let i = c.loop-count.invariant in
-    let r = c.in_ok-more.ensures in
+    let r = c.in_ok-more.ensures.read in
     let count = c.loop-count.count + c.in_ok-more.more in
     let came = take count c.read_behind.new.buffer in
     let some : 0 < c.in_ok-more.more = omega (arith, c.if-more-eq0.false) in
@@ -37,8 +37,8 @@ returns-in-Some g c =
       reads = omega (arith, r.reads, i.reads, r.within, i.buffer, some);
     }
 
-pub returns : goal.returns
-returns g c =
+pub returns-clause-head : goal.returns-clause-head
+returns-clause-head g c =
     let i = c.loop-count.invariant in
     let count = c.loop-count.count in
     let size : length (take count c.loop-count.buffer) ≡ head_limit = length-take-le count c.loop-count.buffer i.within ∙ omega (arith, i.buffer, c.loop-count-test.false, i.within) in

@@ -1,5 +1,6 @@
 use Rattle.std.proofs.Common.{length, take, ◌-◌, ◌≡◌, ◌+◌, ◌<◌, ◌≤◌}
 use Rattle.std.specs.Io.KnownBytes.{Consumes}
+use Rattle.ts_core.specs.io.Devices.{EachReadCounts}
 use Rattle.ts_http.specs.Heads.{head_limit, field_limit, IsUnfinishedHead}
 use Rattle.ts_http.proofs.head.read_head.Given as goal
 
@@ -13,6 +14,7 @@ invariant-loop-count g l = record {
   ends : l.source.ends ≡ l.initial.source.ends;
   failures : l.source.failures ≡ l.initial.source.failures;
   reads : l.source.reads ≤ l.initial.source.reads + l.count;
+  each : EachReadCounts l.initial.source l.source;
 }
 
 abbrev pub decreases-loop-count : goal.decreases-loop-count

@@ -4,8 +4,8 @@ use Rattle.std.proofs.lemmas.Slice.{take-put_mid_below}
 use Rattle.ts_http.proofs.ReadLemmas.{stands_behind, same_size, no_end}
 use Rattle.ts_http.proofs.reading.read_behind.Goals as goal
 
-pub returns-in-Ok : goal.returns-in-Ok
-returns-in-Ok g c =
+pub returns-in-Ok-clause-read : goal.returns-in-Ok-clause-read
+returns-in-Ok-clause-read g c =
     let buffer = c.args.buffer.now in
     let buf = c.read.new.buf in
     let count = c.args.count in

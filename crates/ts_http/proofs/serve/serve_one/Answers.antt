@@ -11,43 +11,43 @@ use Rattle.ts_http.specs.declared.route.Route.TheVariants as to
 use Rattle.ts_http.proofs.ServeLemmas.{spans_within, asks_refused, asks_taken, whole_more, read_failed, nothing_served, refusal_told, sent_told}
 use Rattle.ts_http.proofs.serve.serve_one.Goals as goal
 
-pub returns-in_err-count : goal.returns-in_err-count
-returns-in_err-count g c =
+pub returns-in_err-count-clause-served : goal.returns-in_err-count-clause-served
+returns-in_err-count-clause-served g c =
     let p = err_from_is_err_and c.from_residual.result c.from_residual.ensures.1 in
-    let r = c.in_err-count.ensures in
+    let r = c.in_err-count.ensures.head in
     read_failed c.args.now c.args.store.now c.args.store.now c.args.source.now c.read_head.new.source c.args.sink.now c.from_residual.result (p.1 ∙ ap Err p.2) refl r.failures (omega (arith, r.reads))
 
 pub body_len-requires : goal.body_len-requires
 body_len-requires g c =
     let came = take c.in_ok-count.count c.read_head.new.buffer in
-    let told = subst (TellsHead (request_of came c.read_head.new.source) came c.read_head.new.spans) c.in-Whole.is c.in_ok-count.ensures.head in
+    let told = subst (TellsHead (request_of came c.read_head.new.source) came c.read_head.new.spans) c.in-Whole.is c.in_ok-count.ensures.head.head in
     spans_within came c.read_head.new.spans c.in-Whole.found told.0
 
-pub returns-in_err-outcome-in-Ok : goal.returns-in_err-outcome-in-Ok
-returns-in_err-outcome-in-Ok g c =
+pub returns-in_err-outcome-in-Ok-clause-served : goal.returns-in_err-outcome-in-Ok-clause-served
+returns-in_err-outcome-in-Ok-clause-served g c =
     let p = err_from_is_err_and c.from_residual-in_err-outcome-in-Ok.result c.from_residual-in_err-outcome-in-Ok.ensures.1 in
-    let h = c.in_ok-count.ensures in
-    let a = c.in_err-outcome-in-Ok.ensures in
+    let h = c.in_ok-count.ensures.head in
+    let a = c.in_err-outcome-in-Ok.ensures.acted in
     read_failed c.args.now c.args.store.now c.act_on_body.new.store c.args.source.now c.act_on_body.new.source c.args.sink.now c.from_residual-in_err-outcome-in-Ok.result (p.1 ∙ ap Err p.2) a.unread (omega (arith, h.failures, a.failures)) (omega (arith, h.reads, a.reads, c.in-Ok.ensures.2))
 
-pub returns-in-Nothing : goal.returns-in-Nothing
-returns-in-Nothing g c =
-    let h = c.in_ok-count.ensures in
+pub returns-in-Nothing-clause-served : goal.returns-in-Nothing-clause-served
+returns-in-Nothing-clause-served g c =
+    let h = c.in_ok-count.ensures.head in
     let came = take c.in_ok-count.count c.read_head.new.buffer in
     let told = subst (TellsHead (request_of came c.read_head.new.source) came c.read_head.new.spans) c.in-Nothing.is h.head in
     nothing_served c.args.now c.args.store.now c.args.source.now c.read_head.new.source c.args.sink.now came h.bytes told (omega (arith, h.failures)) (omega (arith, h.reads))
 
-pub returns-in-Fault : goal.returns-in-Fault
-returns-in-Fault g c =
-    let h = c.in_ok-count.ensures in
+pub returns-in-Fault-clause-served : goal.returns-in-Fault-clause-served
+returns-in-Fault-clause-served g c =
+    let h = c.in_ok-count.ensures.head in
     let came = take c.in_ok-count.count c.read_head.new.buffer in
     let told = subst (TellsHead (request_of came c.read_head.new.source) came c.read_head.new.spans) c.in-Fault.is h.head in
     sent_told c.args.now c.args.store.now c.args.store.now c.args.source.now c.read_head.new.source c.args.sink.now c.reply.new.sink (outcomes.Refused (refusals.Head c.in-Fault.fault)) to.Other _ came c.reply.result c.reply.ensures h.bytes
     (refusal_told c.args.now (request_of came c.read_head.new.source) _ _ to.Other c.args.store.now (refusals.Head c.in-Fault.fault) (Asks.no_head c.in-Fault.fault told)) (omega (arith, h.failures)) (omega (arith, h.reads))
 
-pub returns-in-Err : goal.returns-in-Err
-returns-in-Err g c =
-    let h = c.in_ok-count.ensures in
+pub returns-in-Err-clause-served : goal.returns-in-Err-clause-served
+returns-in-Err-clause-served g c =
+    let h = c.in_ok-count.ensures.head in
     let came = take c.in_ok-count.count c.read_head.new.buffer in
     let spans = c.read_head.new.spans in
     let bytes = request_of came c.read_head.new.source in
@@ -58,10 +58,10 @@ returns-in-Err g c =
     sent_told c.args.now c.args.store.now c.args.store.now c.args.source.now c.read_head.new.source c.args.sink.now c.reply-in-Err.new.sink (outcomes.Refused c.in-Err.refusal) q.result.route c.is_head.result came c.reply-in-Err.result c.reply-in-Err.ensures h.bytes
     (refusal_told c.args.now bytes _ c.is_head.result q.result.route c.args.store.now c.in-Err.refusal (subst (λ b. Asks bytes (Refuses c.in-Err.refusal q.result.route b)) (sym c.is_head.ensures) asks)) (omega (arith, h.failures)) (omega (arith, h.reads))
 
-pub returns-in_ok-outcome-in-Ok : goal.returns-in_ok-outcome-in-Ok
-returns-in_ok-outcome-in-Ok g c =
-    let h = c.in_ok-count.ensures in
-    let a = c.in_ok-outcome-in-Ok.ensures in
+pub returns-in_ok-outcome-in-Ok-clause-served : goal.returns-in_ok-outcome-in-Ok-clause-served
+returns-in_ok-outcome-in-Ok-clause-served g c =
+    let h = c.in_ok-count.ensures.head in
+    let a = c.in_ok-outcome-in-Ok.ensures.acted in
     let came = take c.in_ok-count.count c.read_head.new.buffer in
     let spans = c.read_head.new.spans in
     let found = c.in-Whole.found in
