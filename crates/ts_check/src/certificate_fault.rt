@@ -10,7 +10,7 @@ use ts_core::{FaultCode, FaultDetail, push_all};
 
 /// Malformed certificate.
 #[derive(Clone, Copy, Debug, PartialEq, Eq, Error)]
-#[error("a syntax error in a certificate, at byte {at}")]
+#[error("{}, at byte {at}", self.code().message())]
 pub struct CertificateFault {
     /// Byte offset, from 0, of the first malformed line. If the text stops after whole lines but before `end`, its
     /// length.

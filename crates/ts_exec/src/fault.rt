@@ -13,7 +13,7 @@ use ts_core::{FaultCode, FaultDetail, Marks, Settings};
 #[derive(Drop, Error)]
 pub enum ExecFault<'a, A: Allocator> {
     /// Stale plan: the store has these settings and marks, not those that the plan was checked under.
-    #[error("a stale plan: the settings or marks are others than it was checked for")]
+    #[error("{}", FaultCode::StalePlan.message())]
     Stale(&'a Settings<A>, &'a Marks<A>),
     /// Out of memory.
     #[error("out of memory")]

@@ -52,7 +52,7 @@ never_read S x h = cc
 module _ (A : Type 0) (s : Input) (reads : ℕ) (t : Input) where
   -- an image that isn't read isn't loaded
   pub not_read : (e : LoadFault) → LoadsParts {A = A} s reads (Err e) t → LoadsImage {A = A} s reads (Err e) t
-  not_read e p = record { ok = tt; err = p.err; rest = p.rest; failures = p.failures; ends = tt; within = p.within; spent = λ z. p.spent (turns_again (LoadedImage A) (Version × ImageParts A) e z) }
+  not_read e p = record { ok = tt; err = p.err; rest = p.rest; failures = p.failures; ends = tt; within = p.within; each = p.each; spent = λ z. p.spent (turns_again (LoadedImage A) (Version × ImageParts A) e z) }
 
   module _ (v : Version) (parts : ImageParts A) (p : LoadsParts s reads (Ok (v, parts)) t) where
     pub is_loaded : (settings : Settings) → IsPossible v (image_of parts) → settings ≡ settings_of_image (settings_of_parts parts.settings)
@@ -64,6 +64,7 @@ module _ (A : Type 0) (s : Input) (reads : ℕ) (t : Input) where
       failures = p.failures;
       ends = p.ends;
       within = p.within;
+      each = p.each;
       spent = λ z. absurd (never_read (LoadedImage A) (record { version = v; settings = settings; parts = parts }) z);
     }
 
@@ -75,6 +76,7 @@ module _ (A : Type 0) (s : Input) (reads : ℕ) (t : Input) where
       failures = p.failures;
       ends = tt;
       within = p.within;
+      each = p.each;
       spent = λ z. absurd (never_turns (LoadedImage A) z);
     }
 
@@ -86,6 +88,7 @@ module _ (A : Type 0) (s : Input) (reads : ℕ) (t : Input) where
       failures = p.failures;
       ends = tt;
       within = p.within;
+      each = p.each;
       spent = λ z. absurd (no_memory_left (LoadedImage A) z);
     }
 
@@ -94,7 +97,7 @@ module _ (A : Type 0) (s : Input) (reads : ℕ) (t : Input) where
 module _ (s : Input) (reads : ℕ) (t : Input) where
   -- an image that isn't loaded gives no store
   pub no_store : (A : Type 0) (e : LoadFault) → LoadsImage {A = A} s reads (Err e) t → LoadsStore s reads (Err e) t
-  no_store A e p = record { ok = tt; err = p.err; rest = p.rest; failures = p.failures; ends = tt; within = p.within; spent = λ z. p.spent (turns_again StoreData (LoadedImage A) e z) }
+  no_store A e p = record { ok = tt; err = p.err; rest = p.rest; failures = p.failures; ends = tt; within = p.within; each = p.each; spent = λ z. p.spent (turns_again StoreData (LoadedImage A) e z) }
 
   module _ (A : Type 0) (image : LoadedImage A) (p : LoadsImage s reads (Ok image) t) where
     pub store_loaded : (k : StoreData) → IsStoreOf (image_of image.parts) k → LoadsStore s reads (Ok k) t
@@ -105,6 +108,7 @@ module _ (s : Input) (reads : ℕ) (t : Input) where
       failures = p.failures;
       ends = p.ends;
       within = p.within;
+      each = p.each;
       spent = λ z. absurd (never_read StoreData k z);
     }
 
@@ -116,6 +120,7 @@ module _ (s : Input) (reads : ℕ) (t : Input) where
       failures = p.failures;
       ends = tt;
       within = p.within;
+      each = p.each;
       spent = λ z. absurd (no_memory_left StoreData z);
     }
 

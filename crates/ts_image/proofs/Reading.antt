@@ -10,6 +10,7 @@ use Rattle.std.proofs.lemmas.List.{append-nil, take_at, drop_at}
 use Rattle.std.specs.Io.KnownBytes.{Consumes, Keeps, IsAtEnd}
 use Rattle.ts_core.specs.io.Devices.{Input}
 use Rattle.ts_core.specs.io.ReadingAhead.{Ahead, EndIsEnd}
+use Rattle.ts_core.proofs.io.ReadCounts.{no_read_counts, reads_count_on}
 use Rattle.ts_image.specs.declared.field_fault.FieldFault.{FieldFault}
 use Rattle.ts_image.specs.declared.field_fault.FieldFault.TheVariants.{Misshapen, Device, TooManyReads, OutOfMemory}
 use Rattle.ts_image.specs.Formats.{Cursor, Read, ◌>>=◌, read_number, number, signed_number, read_text, text}
@@ -69,7 +70,7 @@ abbrev pub nothing_yet : Result (Unit {0}) FieldFault
 nothing_yet = Ok tt
 
 pub calls_nothing : (a : Ahead) (s : Input) → EndIsEnd a s → CallsSource a s nothing_yet a s
-calls_nothing a s end = record { end = end; allowed = refl; within = λ h. h; spent = λ h. cc; failures = omega arith; reads = omega arith; ends = refl }
+calls_nothing a s end = record { end = end; allowed = refl; within = λ h. h; spent = λ h. cc; failures = omega arith; reads = omega arith; ends = refl; each = no_read_counts s }
 
 abbrev pub fine : {X : Type 0} → X → Result X FieldFault
 fine x = Ok x
@@ -87,6 +88,7 @@ module _ {X Y : Type 0} where
     failures = let f = p.failures in let g = q.failures in omega (arith, f, g);
     reads = let f = p.reads in let g = q.reads in omega (arith, f, g);
     ends = let f = p.ends in let g = q.ends in omega (arith, f, g);
+    each = reads_count_on s t u p.each q.each;
   }
 
 module _ (X Y : Type 0) where
@@ -109,6 +111,7 @@ module _ (X Y : Type 0) where
     failures = p.failures ∙ ap (λ n. s.failures + n) (failures_same e);
     reads = p.reads;
     ends = p.ends;
+    each = p.each;
   }
 
 not_turns : {X : Type 0} (n : ℕ) → faulty X (Misshapen n) ≡ Err TooManyReads → ⊥
@@ -122,13 +125,13 @@ fine_not x h = cc
 
 -- another end of a call that went well so far
 pub calls_as : {X : Type 0} (Y : Type 0) (a b : Ahead) (s t : Input) (x : X) (n : ℕ) → CallsSource a s (fine x) b t → CallsSource a s (faulty Y (Misshapen n)) b t
-calls_as Y a b s t x n p = record { end = p.end; allowed = p.allowed; within = p.within; spent = λ h. absurd (not_turns n h); failures = p.failures; reads = p.reads; ends = p.ends }
+calls_as Y a b s t x n p = record { end = p.end; allowed = p.allowed; within = p.within; spent = λ h. absurd (not_turns n h); failures = p.failures; reads = p.reads; ends = p.ends; each = p.each }
 
 pub calls_unless : {X : Type 0} (Y : Type 0) (a b : Ahead) (s t : Input) (x : X) → CallsSource a s (fine x) b t → CallsSource a s (faulty Y OutOfMemory) b t
-calls_unless Y a b s t x p = record { end = p.end; allowed = p.allowed; within = p.within; spent = λ h. absurd (no_memory_not_turns h); failures = p.failures; reads = p.reads; ends = p.ends }
+calls_unless Y a b s t x p = record { end = p.end; allowed = p.allowed; within = p.within; spent = λ h. absurd (no_memory_not_turns h); failures = p.failures; reads = p.reads; ends = p.ends; each = p.each }
 
 pub calls_ok : {X Y : Type 0} (a b : Ahead) (s t : Input) (x : X) (y : Y) → CallsSource a s (fine x) b t → CallsSource a s (fine y) b t
-calls_ok a b s t x y p = record { end = p.end; allowed = p.allowed; within = p.within; spent = λ h. absurd (fine_not y h); failures = p.failures; reads = p.reads; ends = p.ends }
+calls_ok a b s t x y p = record { end = p.end; allowed = p.allowed; within = p.within; spent = λ h. absurd (fine_not y h); failures = p.failures; reads = p.reads; ends = p.ends; each = p.each }
 
 -- ---- numbers
 

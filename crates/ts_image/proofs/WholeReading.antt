@@ -5,6 +5,7 @@ use Rattle.std.specs.Prelude.{IsSome, IfSome, IfOk, IfErr}
 use Rattle.std.specs.Io.KnownBytes.{prepend_known, IsAtEnd}
 use Rattle.ts_core.specs.io.Devices.{Input}
 use Rattle.ts_core.specs.io.ReadingAhead.{nothing_ahead, bit}
+use Rattle.ts_core.proofs.io.ReadCounts.{no_read_counts}
 use Rattle.ts_image.specs.declared.version.Version.{Version}
 use Rattle.ts_image.specs.declared.field_fault.FieldFault.{FieldFault}
 use Rattle.ts_image.specs.declared.field_fault.FieldFault.TheVariants as field
@@ -127,6 +128,7 @@ module _ (reads : ℕ) (s : Input) where
     failures = omega arith;
     ends = tt;
     within = omega arith;
+    each = no_read_counts s;
     spent = λ h. absurd (out_not_turns {T = Version × ImageParts A} h);
   }
 
@@ -139,6 +141,7 @@ module _ (reads : ℕ) (s : Input) where
       failures = q.failures ∙ ap (λ (n : ℕ). s.failures + n) (same_failures X (Version × ImageParts A) e);
       ends = tt;
       within = turns_within (faulty X e) b t q;
+      each = q.each;
       spent = λ h. all_spent (faulty X e) b t q (turns_alone X (Version × ImageParts A) e h);
     }
 
@@ -159,6 +162,7 @@ module _ (reads : ℕ) (s : Input) where
       failures = h.calls.failures;
       ends = tt;
       within = turns_within (fine head.None) b t h.calls;
+      each = h.calls.each;
       spent = λ z. absurd (none_not_turns {T = Version × ImageParts A} z);
     }
 
@@ -170,6 +174,7 @@ module _ (reads : ℕ) (s : Input) where
       failures = h.calls.failures;
       ends = tt;
       within = turns_within (fine head.Other) b t h.calls;
+      each = h.calls.each;
       spent = λ z. absurd (other_not_turns {T = Version × ImageParts A} z);
     }
 
@@ -214,6 +219,7 @@ module _ (reads : ℕ) (s : Input) where
             failures = q.failures;
             ends = let e = q.ends in let z : bit c.ahead.ended ≡ 1 = ap bit w.ended in omega (arith, e, z);
             within = turns_within (fine parts) c u q;
+            each = q.each;
             spent = λ z. absurd (fine_not_turns (v, parts) z);
           }
 

@@ -1,7 +1,7 @@
 -- A reader of fields, modelled by its read buffer and its offset; and the effect of its calls. (Own rules.)
 use Rattle.std.specs.Prelude.{◌≡◌, ℕ, ◌+◌, ◌<◌, ◌≤◌, Bool, true, false, nat_lt, List, [], ◌∷◌, ◌++◌, length, Option, Some, None, IsSome, Result, Ok, Err, MatchResult}
 use Rattle.std.specs.Io.KnownBytes.{Consumes, Keeps, IsAtEnd}
-use Rattle.ts_core.specs.io.Devices.{Input}
+use Rattle.ts_core.specs.io.Devices.{Input, EachReadCounts}
 use Rattle.ts_core.specs.io.ReadingAhead.{Ahead, pending, EndIsEnd, bit, weight}
 use Rattle.ts_image.specs.declared.field_fault.FieldFault.{FieldFault}
 use Rattle.ts_image.specs.declared.field_fault.FieldFault.TheVariants.{Misshapen, Device, TooManyReads, OutOfMemory}
@@ -43,6 +43,7 @@ pub record CallsSource {T : Type 0} (old : Ahead) (source : Input) (result : Res
   pub failures : source'.failures ≡ source.failures + one_if_failed result
   pub reads : source'.reads + old.reads ≡ source.reads + new.reads
   pub ends : source'.ends + bit old.ended ≡ source.ends + bit new.ended
+  pub each : EachReadCounts source source'
 
 -- these bytes were consumed
 pub record UsesBytes (old : FieldsRead) (source : Input) (bytes : List ℕ) (new : FieldsRead) (source' : Input) : Type 0 where

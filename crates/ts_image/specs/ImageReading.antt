@@ -1,7 +1,7 @@
 -- The value of an image that the code reads, and the effect of reading one. (Own rules.)
 use Rattle.std.specs.Prelude.{◌≡◌, ◌≢◌, ℕ, ◌+◌, ◌≤◌, true, Result, Ok, Err, IfOk, IfErr, IfSome}
 use Rattle.std.specs.Io.KnownBytes.{IsAtEnd}
-use Rattle.ts_core.specs.io.Devices.{Input}
+use Rattle.ts_core.specs.io.Devices.{Input, EachReadCounts}
 use Rattle.ts_image.specs.declared.version.Version.{Version}
 use Rattle.ts_image.specs.declared.field_fault.FieldFault.{FieldFault}
 use Rattle.ts_image.specs.declared.field_fault.FieldFault.TheVariants as field
@@ -56,6 +56,8 @@ pub record Loads {T : Type 0} (IsWanted : T → Type 0) (source : Input) (reads 
   -- the end was read
   pub ends : IfOk result (λ r. source'.ends ≡ source.ends + 1)
   pub within : source'.reads ≤ source.reads + reads
+  -- so the limit of reads is met only by as many bytes and failures
+  pub each : EachReadCounts source source'
   -- all allowed reads saw no end
   pub spent : result ≡ Err TooManyReads → (source'.reads ≡ source.reads + reads) × (source'.ends ≡ source.ends)
 

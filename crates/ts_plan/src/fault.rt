@@ -10,12 +10,11 @@ use ts_core::{FaultCode, FaultDetail, push_all};
 
 /// Reason why a query has no plan.
 #[derive(Clone, Copy, Debug, PartialEq, Eq, Error)]
+#[error("{}", self.code().message())]
 pub enum PlanFault {
     /// No pieces cover all points that the query asks for.
-    #[error("no plan: the query needs dropped points, and no cells fit it")]
     NoPlan,
     /// More than 1,000,000 buckets of rules to search.
-    #[error("too many buckets to search for a plan")]
     TooManyBuckets,
 }
 

@@ -14,28 +14,28 @@ use ts_core::{FaultCode, FaultDetail, push_all};
 pub enum QlFaultKind<'a> {
     /// Syntax error: no query continues with this token. `at` is its first byte, or 65,536 if the text is longer than
     /// that.
-    #[error("a syntax error")]
+    #[error("{}", FaultCode::Syntax.message())]
     Syntax,
     /// Unsupported InfluxQL, as written. `at` is its first byte, or the statement's if GROUP BY time is missing.
-    #[error("`{0}` isn't supported")]
+    #[error("{}: {}", FaultCode::OutOfProfile.message(), .0)]
     OutOfProfile(&'a str),
     /// Statement without a lower time bound. `at` is the statement's first byte.
-    #[error("no lower bound of time")]
+    #[error("{}", FaultCode::NoLowerBound.message())]
     NoLowerBound,
     /// Literal or time expression outside its range. `at` is its first byte.
-    #[error("a number or a moment out of its range")]
+    #[error("{}", FaultCode::OutOfRange.message())]
     OutOfRange,
     /// Column name that another column has too, or `time`. `at` is the statement's first byte.
-    #[error("two columns of one name, or one called time")]
+    #[error("{}", FaultCode::RepeatedColumn.message())]
     RepeatedColumn,
     /// More than 16 statements. `at` is the first byte of the 17th.
-    #[error("more than 16 statements")]
+    #[error("{}", FaultCode::TooManyStatements.message())]
     TooManyStatements,
     /// Range of more than 10,000 buckets. `at` is the statement's first byte.
-    #[error("more than 10,000 buckets")]
+    #[error("{}", FaultCode::TooManyBuckets.message())]
     TooManyBuckets,
     /// First bucket that starts before the least time. `at` is the statement's first byte.
-    #[error("a first bucket before the least time")]
+    #[error("{}", FaultCode::BucketBeforeLeastTime.message())]
     BucketBeforeLeastTime,
 }
 

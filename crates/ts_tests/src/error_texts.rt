@@ -117,23 +117,25 @@ const LINE_ERRORS: [Row<ReadLineError>; 2] = [
     (ReadLineError::OutOfMemory, "out of memory", "OutOfMemory"),
 ];
 
-/// Each fault of a block.
-const BLOCKS: [Row<BlockFault>; 4] = [
-    (BlockFault::Short, "the bytes end inside the block", "Short"),
+/// The first and the last fault of a block.
+const BLOCKS: [Row<BlockFault>; 2] = [
     (
-        BlockFault::LongNumber,
-        "a number has a longer form than it needs",
-        "LongNumber",
+        BlockFault::Short,
+        "a coded block ends within a number",
+        "Short",
     ),
-    (BlockFault::TimeRange, "a time isn't valid", "TimeRange"),
-    (BlockFault::LeftOver, "bytes follow the block", "LeftOver"),
+    (
+        BlockFault::LeftOver,
+        "bytes follow the end of a coded block",
+        "LeftOver",
+    ),
 ];
 
 /// Each fault of an index.
 const INDEXES: [Row<IndexFault>; 2] = [
     (
         IndexFault::TooManySeries,
-        "too many series",
+        "the series is new, and 1,000,000 are registered",
         "TooManySeries",
     ),
     (IndexFault::OutOfMemory, "out of memory", "OutOfMemory"),
@@ -143,63 +145,71 @@ const INDEXES: [Row<IndexFault>; 2] = [
 const WRITES: [Row<WriteFault>; 3] = [
     (
         WriteFault::TooManySeries,
-        "too many series",
+        "the series is new, and 1,000,000 are registered",
         "TooManySeries",
     ),
-    (WriteFault::TooManyFacts, "too many facts", "TooManyFacts"),
+    (
+        WriteFault::TooManyFacts,
+        "more than 2^62 values would be accepted",
+        "TooManyFacts",
+    ),
     (WriteFault::OutOfMemory, "out of memory", "OutOfMemory"),
 ];
 
 /// The texts of the fault of a write below the least time.
 const BELOW: (&str, &str) = (
-    "below the raw mark, -9223372036854775806",
+    "the line's time is below the raw mark: -9223372036854775806",
     "BelowRawMark(Time { nanos: -9223372036854775806 })",
 );
 
 /// The error of beginning a run.
-const RUNS: [Row<RunInProgress>; 1] = [(RunInProgress, "a run is in progress", "RunInProgress")];
+const RUNS: [Row<RunInProgress>; 1] = [(
+    RunInProgress,
+    "a retention run is in progress",
+    "RunInProgress",
+)];
 
 /// Each kind of fault in a query, with two texts that aren't supported: a quoted one, and one beyond ASCII.
 const QUERY_KINDS: [Row<QlFaultKind<'static>>; 9] = [
-    (QlFaultKind::Syntax, "a syntax error", "Syntax"),
+    (QlFaultKind::Syntax, "a syntax error in a query", "Syntax"),
     (
         QlFaultKind::OutOfProfile(r#""it's\n""#),
-        r#"`"it's\n"` isn't supported"#,
+        r#"this part of InfluxQL isn't supported: "it's\n""#,
         r#"OutOfProfile("\"it's\\n\"")"#,
     ),
     (
         QlFaultKind::OutOfProfile("é\n"),
-        "`é\n` isn't supported",
+        "this part of InfluxQL isn't supported: é\n",
         r#"OutOfProfile("é\n")"#,
     ),
     (
         QlFaultKind::NoLowerBound,
-        "no lower bound of time",
+        "the query has no lower time bound",
         "NoLowerBound",
     ),
     (
         QlFaultKind::OutOfRange,
-        "a number or a moment out of its range",
+        "a number, a duration or a time is out of range",
         "OutOfRange",
     ),
     (
         QlFaultKind::RepeatedColumn,
-        "two columns of one name, or one called time",
+        "two columns have the same name, or one is named time",
         "RepeatedColumn",
     ),
     (
         QlFaultKind::TooManyStatements,
-        "more than 16 statements",
+        "there are more than 16 statements",
         "TooManyStatements",
     ),
     (
         QlFaultKind::TooManyBuckets,
-        "more than 10,000 buckets",
+        "the range has more than 10,000 buckets",
         "TooManyBuckets",
     ),
     (
         QlFaultKind::BucketBeforeLeastTime,
-        "a first bucket before the least time",
+        "the first bucket starts before the least time",
         "BucketBeforeLeastTime",
     ),
 ];
@@ -211,7 +221,7 @@ const QUERIES: [Row<QlFault<'static>>; 2] = [
             kind: QlFaultKind::OutOfProfile("DROP"),
             at: 0,
         },
-        "`DROP` isn't supported, at byte 0",
+        "this part of InfluxQL isn't supported: DROP, at byte 0",
         r#"QlFault { kind: OutOfProfile("DROP"), at: 0 }"#,
     ),
     (
@@ -219,7 +229,7 @@ const QUERIES: [Row<QlFault<'static>>; 2] = [
             kind: QlFaultKind::Syntax,
             at: 65_536,
         },
-        "a syntax error, at byte 65536",
+        "a syntax error in a query, at byte 65536",
         "QlFault { kind: Syntax, at: 65536 }",
     ),
 ];
@@ -232,7 +242,7 @@ const QUERY_ERRORS: [Row<ParseError<'static>>; 2] = [
             kind: QlFaultKind::NoLowerBound,
             at: 12,
         }),
-        "no lower bound of time, at byte 12",
+        "the query has no lower time bound, at byte 12",
         "Fault(QlFault { kind: NoLowerBound, at: 12 })",
     ),
 ];
@@ -287,7 +297,7 @@ const CHECK_ERRORS: [Row<CheckError>; 2] = [
 /// The fault of a certificate.
 const CERTIFICATES: [Row<CertificateFault>; 1] = [(
     CertificateFault { at: 40 },
-    "a syntax error in a certificate, at byte 40",
+    "the text isn't a certificate, at byte 40",
     "CertificateFault { at: 40 }",
 )];
 
@@ -295,7 +305,7 @@ const CERTIFICATES: [Row<CertificateFault>; 1] = [(
 const CERTIFICATE_ERRORS: [Row<ReadCertificateError>; 2] = [
     (
         ReadCertificateError::Fault(CertificateFault { at: 0 }),
-        "a syntax error in a certificate, at byte 0",
+        "the text isn't a certificate, at byte 0",
         "Fault(CertificateFault { at: 0 })",
     ),
     (
@@ -305,25 +315,18 @@ const CERTIFICATE_ERRORS: [Row<ReadCertificateError>; 2] = [
     ),
 ];
 
-/// Each reason why a query has no plan.
-const PLANS: [Row<PlanFault>; 2] = [
-    (
-        PlanFault::NoPlan,
-        "no plan: the query needs dropped points, and no cells fit it",
-        "NoPlan",
-    ),
-    (
-        PlanFault::TooManyBuckets,
-        "too many buckets to search for a plan",
-        "TooManyBuckets",
-    ),
-];
+/// The reason why a query has no plan.
+const PLANS: [Row<PlanFault>; 1] = [(
+    PlanFault::NoPlan,
+    "the query needs dropped points, and no cells fit it",
+    "NoPlan",
+)];
 
 /// Each error of planning.
 const PLAN_ERRORS: [Row<PlanError>; 2] = [
     (
         PlanError::Fault(PlanFault::TooManyBuckets),
-        "too many buckets to search for a plan",
+        "more than 1,000,000 buckets of rules would have to be searched for a plan",
         "Fault(TooManyBuckets)",
     ),
     (PlanError::OutOfMemory, "out of memory", "OutOfMemory"),
@@ -331,7 +334,7 @@ const PLAN_ERRORS: [Row<PlanError>; 2] = [
 
 /// The `Display` texts of each error of an execution.
 const EXECUTIONS: (&str, &str) = (
-    "a stale plan: the settings or marks are others than it was checked for",
+    "the settings or marks have changed since the plan was checked",
     "out of memory",
 );
 

@@ -12,7 +12,7 @@ use ts_core::{FaultCode, FaultDetail};
 #[derive(Clone, Copy, Debug, PartialEq, Eq, Error)]
 pub enum IndexFault {
     /// As many series are registered as the limit allows.
-    #[error("too many series")]
+    #[error("{}", FaultCode::TooManySeries.message())]
     TooManySeries,
     /// Out of memory.
     #[error("out of memory")]

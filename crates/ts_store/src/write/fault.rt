@@ -11,13 +11,13 @@ use ts_core::{FaultCode, FaultDetail, Time};
 #[derive(Clone, Copy, Debug, PartialEq, Eq, Error)]
 pub enum WriteFault {
     /// Line with a time below the raw mark, which is attached.
-    #[error("below the raw mark, {}", .0.nanos())]
+    #[error("{}: {}", FaultCode::BelowRawMark.message(), .0.nanos())]
     BelowRawMark(Time),
     /// New series while 1,000,000 are registered.
-    #[error("too many series")]
+    #[error("{}", FaultCode::TooManySeries.message())]
     TooManySeries,
     /// More than 2^62 accepted facts, including repeats.
-    #[error("too many facts")]
+    #[error("{}", FaultCode::TooManyFacts.message())]
     TooManyFacts,
     /// Out of memory.
     #[error("out of memory")]
@@ -56,7 +56,7 @@ impl From<AllocError> for WriteFault {
 
 /// Error: a retention run is in progress.
 #[derive(Clone, Copy, Debug, PartialEq, Eq, Error)]
-#[error("a run is in progress")]
+#[error("{}", FaultCode::RunInProgress.message())]
 pub struct RunInProgress;
 
 impl RunInProgress {
