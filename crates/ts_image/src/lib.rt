@@ -7,6 +7,20 @@
 //! data of its image, and represents each history that the saved store represented.
 //!
 //! ```text
+//! TSIM version
+//! raw_duration count { rule }                      rule: name measurement interval offset duration count { tag }
+//! raw_mark { low_index }                           one per rule
+//! run_is_open                                      one byte, from version 2 on
+//! accepted                                         number of accepted values
+//! count { series }                                 series: measurement count { tag value } count { column }
+//!                                                  column: field waits count { time value }; `waits` from version 2 on
+//! { count { cell } }                               per rule; cell: index field { value } count sum
+//!                                                  min max first_time first last_time last
+//! ```
+//!
+//! Numbers are big-endian, of 1, 4, 8 or 16 bytes; a text is its length and its bytes (specs/Images).
+//!
+//! ```text
 //! save(alloc, &store, &mut sink)?;            // the store's image is written; or a SaveFault
 //! let store = load(alloc, &mut source)?;      // a Store; or a LoadFault
 //! ```
