@@ -7,7 +7,7 @@ use Rattle.std.proofs.lemmas.Bool.{cases_lt}
 use Rattle.std.proofs.Math.Seq.{get_or-append_seam}
 use Rattle.ts_core.specs.lists.Changes.{or_else}
 use Rattle.ts_cells.specs.Grids.{held, HasLost}
-use Rattle.ts_cells.specs.Rows.{no_slot, slot_of, width, by_series, IsSlotMap}
+use Rattle.ts_cells.specs.Rows.{no_slot, slot_of, slots_width, by_series, IsSlotMap}
 use Rattle.ts_cells.proofs.SlotLemmas.{length-table, table_at, table_past, slot_past}
 
 pub same_number : (j k : ℕ) → (j == k) ≡ true → j ≡ k
@@ -58,12 +58,12 @@ module _ {P : Type 0} where
   pub held_at : (parts : List P) (slots : List (ℕ × ℕ)) (j : ℕ) → length parts ≤ no_slot → held (by_series parts slots) j ≡ slice_get parts (slot_of slots j)
   held_at parts slots j h =
       ⊎_elim {C = held (by_series parts slots) j ≡ slice_get parts (slot_of slots j)}
-      (λ (l : j < width slots). table_at (λ i. slice_get parts (slot_of slots i)) (width slots) j None l)
-      (λ (g : width slots ≤ j). table_past (λ i. slice_get parts (slot_of slots i)) (width slots) j None g ∙ sym (ap (slice_get parts) (slot_past slots j g) ∙ slice_get_past parts no_slot h))
-      (cases_lt j (width slots))
+      (λ (l : j < slots_width slots). table_at (λ i. slice_get parts (slot_of slots i)) (slots_width slots) j None l)
+      (λ (g : slots_width slots ≤ j). table_past (λ i. slice_get parts (slot_of slots i)) (slots_width slots) j None g ∙ sym (ap (slice_get parts) (slot_past slots j g) ∙ slice_get_past parts no_slot h))
+      (cases_lt j (slots_width slots))
 
-  pub length-by_series : (parts : List P) (slots : List (ℕ × ℕ)) → length (by_series parts slots) ≡ width slots
-  length-by_series parts slots = length-table (λ i. slice_get parts (slot_of slots i)) (width slots)
+  pub length-by_series : (parts : List P) (slots : List (ℕ × ℕ)) → length (by_series parts slots) ≡ slots_width slots
+  length-by_series parts slots = length-table (λ i. slice_get parts (slot_of slots i)) (slots_width slots)
 
 -- ---- slots
 

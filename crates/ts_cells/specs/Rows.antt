@@ -9,17 +9,17 @@ abbrev pub no_slot : ℕ
 no_slot = 4294967295
 
 -- rollup series with the positions of their cells, sorted by the rollup series' indices
-abbrev pub AreSlots : List (ℕ × ℕ) → Type 0
-AreSlots slots = T (is_sorted nat_cmp slots)
+abbrev pub AreSortedSlots : List (ℕ × ℕ) → Type 0
+AreSortedSlots slots = T (is_sorted nat_cmp slots)
 
 -- the position of a rollup series' cell
 abbrev pub slot_of : List (ℕ × ℕ) → ℕ → ℕ
 slot_of slots series = or_else no_slot (find nat_cmp series slots)
 
 -- the first index after those of the rollup series
-abbrev pub width : List (ℕ × ℕ) → ℕ
-width [] = 0
-width (e ∷ es) = max (e.0 + 1) (width es)
+abbrev pub slots_width : List (ℕ × ℕ) → ℕ
+slots_width [] = 0
+slots_width (e ∷ es) = max (e.0 + 1) (slots_width es)
 
 -- the values of a function from 0 on
 abbrev pub table : {X : Type 0} → (ℕ → X) → ℕ → List X
@@ -28,7 +28,7 @@ table f (suc n) = f 0 ∷ table (λ j. f (suc j)) n
 
 -- the part of each rollup series
 abbrev pub by_series : {P : Type 0} → List P → List (ℕ × ℕ) → List (Option P)
-by_series parts slots = table (λ j. slice_get parts (slot_of slots j)) (width slots)
+by_series parts slots = table (λ j. slice_get parts (slot_of slots j)) (slots_width slots)
 
 -- each cell is at the position of its rollup series, and at no other's
 pub record IsSlotMap (slots : List (ℕ × ℕ)) (series_list : List ℕ) (count : ℕ) : Type 0 where

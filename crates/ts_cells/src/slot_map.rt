@@ -4,7 +4,7 @@ ghost use Rattle.std.specs.declared.cmp.Ordering.{Ordering};
 ghost use Rattle.std.specs.Ordering.{nat_cmp};
 ghost use Rattle.std.specs.List.{HoldsAt};
 ghost use Rattle.std.specs.List.Sorted.{IsPartitionPoint, IsSearchInRange};
-ghost use Rattle.ts_cells.specs.Rows.{AreSlots, no_slot, slot_of, width};
+ghost use Rattle.ts_cells.specs.Rows.{AreSortedSlots, no_slot, slot_of, slots_width};
 
 use std::alloc::{AllocError, Allocator};
 use std::marker::Model;
@@ -23,7 +23,7 @@ pub(crate) struct SlotMap<A: Allocator> {
 impl<A: Allocator> Model for SlotMap<A> {
     ghost use Rattle.std.specs.Prelude.{List, ℕ};
     ghost use Rattle.std.specs.Coded.{coded_list, coded×, coded_ℕ};
-    ghost use Rattle.ts_cells.specs.Rows.{AreSlots};
+    ghost use Rattle.ts_cells.specs.Rows.{AreSortedSlots};
 
     ghost Value = { List (ℕ × ℕ) };
 
@@ -31,13 +31,13 @@ impl<A: Allocator> Model for SlotMap<A> {
 
     ghost view = { λ p. p.slots.items };
 
-    ghost invariant = { λ p. AreSlots p.slots.items };
+    ghost invariant = { λ p. AreSortedSlots p.slots.items };
 }
 
 /// Finds a rollup series by binary search. Returns `Ok` with its index, or `Err` with the index to insert it at.
 #[cold]
 fn search(slots: &[(u32, u32)], series: u32) -> Result<usize, usize>
-    requires { AreSlots slots.now }
+    requires { AreSortedSlots slots.now }
     ensures bound { IsSearchInRange result (length slots.now) }
     ensures slot { MatchResult result (HoldsAt (λ e. nat_cmp e.0 series ≡ Ordering.Equal) slots.now) (IsPartitionPoint (λ e. nat_cmp e.0 series ≡ Ordering.Less) (λ e. nat_cmp e.0 series ≡ Ordering.Greater) slots.now) }
 {
@@ -46,7 +46,7 @@ fn search(slots: &[(u32, u32)], series: u32) -> Result<usize, usize>
 
 /// Searches the same way, but tries the end first: cells mostly arrive in the order of their rollup series.
 fn find(slots: &[(u32, u32)], series: u32) -> Result<usize, usize>
-    requires { AreSlots slots.now }
+    requires { AreSortedSlots slots.now }
     ensures bound { IsSearchInRange result (length slots.now) }
     ensures slot { MatchResult result (HoldsAt (λ e. nat_cmp e.0 series ≡ Ordering.Equal) slots.now) (IsPartitionPoint (λ e. nat_cmp e.0 series ≡ Ordering.Less) (λ e. nat_cmp e.0 series ≡ Ordering.Greater) slots.now) }
 {
@@ -80,7 +80,7 @@ impl<A: Allocator> SlotMap<A> {
     pub(crate) fn insert(&mut self, series: u32, slot: u32) -> Result<(), AllocError>
         ensures ok { OnOk result ((j : ℕ) → slot_of self.new j ≡ (if j == series then slot else slot_of self.old j)) }
         ensures err { OnErr result (self.new ≡ self.old) }
-        ensures len { width self.new ≤ max (width self.old) (series + 1) }
+        ensures len { slots_width self.new ≤ max (slots_width self.old) (series + 1) }
     {
         match find(self.slots.as_slice(), series) {
             Ok(at) => self.slots[at].1 = slot,
@@ -95,7 +95,7 @@ impl<A: Allocator> SlotMap<A> {
     /// Removes the position of a rollup series' cell. Does not free memory.
     pub(crate) fn remove(&mut self, series: u32)
         ensures slots { (j : ℕ) → slot_of self.new j ≡ (if j == series then no_slot else slot_of self.old j) }
-        ensures len { width self.new ≤ width self.old }
+        ensures len { slots_width self.new ≤ slots_width self.old }
     {
         if let Ok(at) = find(self.slots.as_slice(), series) {
             self.slots[at].1 = NO_SLOT;

@@ -13,7 +13,7 @@ use Rattle.ts_http.specs.OutcomeReplies.{AddsAs, DropsAs, DropsNamed, reply_of}
 use Rattle.ts_http.specs.declared.outcome.Outcome.{Outcome}
 use Rattle.ts_http.specs.declared.outcome.Outcome.TheVariants as outcomes
 use Rattle.ts_http.specs.declared.refusal.Refusal.TheVariants as refusals
-use Rattle.ts_store.specs.store.WholeStates.{IsWholeStateOf, without_rule}
+use Rattle.ts_store.specs.store.WholeStates.{IsWholeStateOf, state_without_rule}
 use Rattle.ts_store.specs.rules.RuleTexts.{rule_for, settings_in, low_in, TextComes}
 use Rattle.ts_store.specs.rules.RulesChanged.{RuleGoes}
 use Rattle.ts_store.specs.declared.rules.rule_text.AddedRule.{AddedRule}
@@ -68,8 +68,8 @@ drop_refused name k new o none same told = λ query n. (
 pub was_dropped : (name : Text) (k new : StoreData) (o : Outcome) → IsTrue (is_named k.settings.rules name) → RuleGoes k new name → reply_of false o ≡ answer_reply true (dropped_body name) → DropsNamed name k o new
 was_dropped name k new o named goes told = λ query n. (
   λ s i. (
-    without_rule name s,
-    subst (λ (r : Replied). DeletesRule s query r (without_rule name s)) (sym told) (DeletesRule.drops name n (subst (λ (z : Settings). IsTrue (is_named z.rules name)) i.store.stands.settings named)),
+    state_without_rule name s,
+    subst (λ (r : Replied). DeletesRule s query r (state_without_rule name s)) (sym told) (DeletesRule.drops name n (subst (λ (z : Settings). IsTrue (is_named z.rules name)) i.store.stands.settings named)),
     rule_dropped s k new name i goes,
   ),
   inl (ap (λ (r : Replied). r.0) told),

@@ -16,7 +16,7 @@ use Rattle.ts_reply.specs.Explaining.{IsExplanation}
 use Rattle.ts_reply.specs.Epochs.{epoch_of}
 use Rattle.ts_reply.specs.declared.epoch.Epoch.{Epoch}
 use Rattle.ts_reply.specs.declared.epoch.Epoch.TheVariants as epochs
-use Rattle.ts_store.specs.store.WholeStates.{WholeState, AddsRuleTo, left_in, without_rule}
+use Rattle.ts_store.specs.store.WholeStates.{WholeState, AddsRuleTo, left_in, state_without_rule}
 use Rattle.ts_store.specs.rules.RuleTexts.{rule_for, settings_in, low_in}
 use Rattle.ts_store.specs.declared.write.write_text.LineOutcome.{LineOutcome}
 use Rattle.ts_http.specs.Batches.{TakesLines, StopsAtLine, body_lines, refusals_of, partial_text}
@@ -143,7 +143,7 @@ pub data DeletesRule (old : WholeState) (query : Text) : Replied → WholeState 
   missing : name_in query ≡ None → DeletesRule old query (refusing MissingName) old
   wants_memory : DeletesRule old query (refusing OutOfMemory) old
   refuses : (name : Text) → name_in query ≡ Some name → is_named (settings_in old.store).rules name ≡ false → DeletesRule old query (bad_reply (error_json unknown_rule_text)) old
-  drops : (name : Text) → name_in query ≡ Some name → IsTrue (is_named (settings_in old.store).rules name) → DeletesRule old query (answer_reply true (dropped_body name)) (without_rule name old)
+  drops : (name : Text) → name_in query ≡ Some name → IsTrue (is_named (settings_in old.store).rules name) → DeletesRule old query (answer_reply true (dropped_body name)) (state_without_rule name old)
 
 -- The effect of a request that isn't refused by its head, after its body was read.
 pub data Acts (now : ℤ) (old : WholeState) (query body : Text) : Route → Method → Replied → WholeState → Type 0 where

@@ -86,16 +86,16 @@ Fields = List (Text × Text)
 abbrev pub same_ignoring_case : Text → Text → Bool
 same_ignoring_case a b = same_text (map to_ascii_lowercase a) (map to_ascii_lowercase b)
 
-abbrev pub is_parameter_named : Text → Text × Text → Bool
-is_parameter_named name field = same_ignoring_case field.0 name
+abbrev pub is_field_named : Text → Text × Text → Bool
+is_field_named name field = same_ignoring_case field.0 name
 
 abbrev pub has_field : Text → Fields → Bool
-has_field name fields = list_any (is_parameter_named name) fields
+has_field name fields = list_any (is_field_named name) fields
 
 -- the values of the fields with a name
 abbrev pub parameter_values : Text → Fields → List Text
 parameter_values name [] = []
-parameter_values name (field ∷ fields) = if is_parameter_named name field then field.1 ∷ parameter_values name fields else parameter_values name fields
+parameter_values name (field ∷ fields) = if is_field_named name field then field.1 ∷ parameter_values name fields else parameter_values name fields
 
 -- ---- the length of the body
 
@@ -126,7 +126,7 @@ is_given (value ∷ values) = true
 
 -- a Content-Encoding other than identity
 abbrev pub is_coded : Text × Text → Bool
-is_coded field = is_parameter_named (codes "content-encoding") field && not (same_ignoring_case field.1 (codes "identity"))
+is_coded field = is_field_named (codes "content-encoding") field && not (same_ignoring_case field.1 (codes "identity"))
 
 -- the reason why the body of a POST isn't read
 abbrev pub body_refused : Route → Fields → Option Refusal

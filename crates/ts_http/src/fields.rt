@@ -3,7 +3,7 @@ ghost use Rattle.std.specs.Prelude.{◌≡◌, length, map, false, IsTrue};
 ghost use Rattle.std.specs.List.{AllByRecursion, list_any};
 ghost use Rattle.std.specs.Str.Parse.{digits_value};
 ghost use Rattle.httparse.specs.Spans.{IsHeaderWithin, IsWithin, header_bytes, span_bytes};
-ghost use Rattle.ts_http.specs.Requests.{same_ignoring_case, is_parameter_named, has_field, is_coded, is_short_number, lengths_of, body_refused, refused, body_length};
+ghost use Rattle.ts_http.specs.Requests.{same_ignoring_case, is_field_named, has_field, is_coded, is_short_number, lengths_of, body_refused, refused, body_length};
 ghost use Rattle.ts_http.specs.FieldValues.{LengthsAre, IsBodyAnswer};
 
 use crate::refusal::Refusal;
@@ -34,9 +34,9 @@ fn is_same(text: &[u8], other: &[u8]) -> bool
 }
 
 /// Returns true if a field has that name.
-fn is_parameter_named(came: &[u8], span: &HeaderSpan, name: &[u8]) -> bool
+fn is_field_named(came: &[u8], span: &HeaderSpan, name: &[u8]) -> bool
     requires { IsHeaderWithin (length came.now) span.now }
-    ensures { result ≡ is_parameter_named name.now (header_bytes came.now span.now) }
+    ensures { result ≡ is_field_named name.now (header_bytes came.now span.now) }
 {
     is_same(span.name.of(came), name)
 }
@@ -48,8 +48,7 @@ fn has_field(came: &[u8], spans: &[HeaderSpan], name: &[u8]) -> bool
 {
     match spans.split_first() {
         None => false,
-        Some((span, others)) => is_parameter_named(came, span, name)
-            || has_field(came, others, name),
+        Some((span, others)) => is_field_named(came, span, name) || has_field(came, others, name),
     }
 }
 
@@ -58,8 +57,7 @@ fn is_coded(came: &[u8], span: &HeaderSpan) -> bool
     requires { IsHeaderWithin (length came.now) span.now }
     ensures { result ≡ is_coded (header_bytes came.now span.now) }
 {
-    is_parameter_named(came, span, b"content-encoding")
-        && !is_same(span.value.of(came), b"identity")
+    is_field_named(came, span, b"content-encoding") && !is_same(span.value.of(came), b"identity")
 }
 
 /// Returns true if some field is a Content-Encoding other than `identity`.
@@ -82,7 +80,7 @@ fn lengths<'a>(came: &'a [u8], spans: &[HeaderSpan]) -> ContentLengths<'a>
         None => ContentLengths::Absent,
         Some((span, others)) => {
             let rest = lengths(came, others);
-            if !is_parameter_named(came, span, b"content-length") {
+            if !is_field_named(came, span, b"content-length") {
                 return rest;
             }
             match rest {

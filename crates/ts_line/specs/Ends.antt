@@ -33,6 +33,6 @@ time_only (Ok p) = Ok p.time
 time_only (Err fault) = Err fault
 
 -- the error of a line, if it has one
-abbrev pub fault_of : {X : Type 0} → Result X LineFault → Option LineFault
-fault_of (Ok x) = None
-fault_of (Err fault) = Some fault
+abbrev pub fault_if_any : {X : Type 0} → Result X LineFault → Option LineFault
+fault_if_any (Ok x) = None
+fault_if_any (Err fault) = Some fault

@@ -5,7 +5,7 @@ ghost use Rattle.std.specs.Str.{IsCharBoundary};
 ghost use Rattle.ts_core.specs.facts.TimeUnits.{nanoseconds_of};
 ghost use Rattle.ts_core.specs.text.Cursors.{IsOffsetFrom};
 ghost use Rattle.ts_line.specs.declared.scan.Stops.TheVariants.{Equals};
-ghost use Rattle.ts_line.specs.Ends.{EndsAs, EndsAsPair, pairs_at, time_only, fault_of};
+ghost use Rattle.ts_line.specs.Ends.{EndsAs, EndsAsPair, pairs_at, time_only, fault_if_any};
 ghost use Rattle.ts_line.specs.Fields.{next_field, fields_at};
 ghost use Rattle.ts_line.specs.Lines.{measurement_at, parts_at, line_of};
 ghost use Rattle.ts_line.specs.PartTexts.{unescaped};
@@ -23,7 +23,7 @@ use ts_core::{Time, TimeUnit, after, byte_at};
 #[cold]
 #[tactic(auto, unfolding(crate::specs::Lines::line_of, crate::specs::Lines::content))]
 pub fn first_fault(text: &str, precision: TimeUnit, now: Time) -> Option<LineFault>
-    ensures { result ≡ fault_of (line_of (nanoseconds_of precision) now text.now) }
+    ensures { result ≡ fault_if_any (line_of (nanoseconds_of precision) now text.now) }
 {
     if text.len() > LINE_LIMIT {
         return Some(LineFaultKind::OverLimit.at(LINE_LIMIT));

@@ -61,7 +61,7 @@ fn next<'a, A: Allocator + Copy>(
 }
 
 /// Returns the index of the field with this name (linear search).
-fn offset_of<A: Allocator>(fields: &[Field<'_, A>], name: &str) -> Option<usize>
+fn index_of<A: Allocator>(fields: &[Field<'_, A>], name: &str) -> Option<usize>
     ensures value { result ≡ offset_from 0 name.now fields.now }
     ensures bound { IfSome result (λ at. at < length fields.now) }
 {
@@ -80,7 +80,7 @@ fn insert<'a, A: Allocator>(
 ) -> Result<(), AllocError>
     ensures { OnOk result (fields.new.items ≡ with_field fields.old.items field.entry) }
 {
-    match offset_of(fields, field.name().text()) {
+    match index_of(fields, field.name().text()) {
         Some(at) => {
             let older = &mut fields[at];
             older.replace_value(&field);

@@ -286,7 +286,7 @@ fn push_all<'a, A: Allocator, const N: usize>(
 
 /// Searches pairs sorted by key (linear search). Returns `Ok` with the key's index, or `Err` with the index to insert
 /// it at.
-fn offset_of(pairs: &[(&str, &str)], key: &str) -> Result<usize, usize>
+fn index_of(pairs: &[(&str, &str)], key: &str) -> Result<usize, usize>
     ensures value { result ≡ key_offset_from 0 key.now (borrowed_pairs pairs.now) }
     ensures bound { MatchResult result (λ at. at < length pairs.now) (λ at. at ≤ length pairs.now) }
 {
@@ -310,7 +310,7 @@ fn insert<'a, const N: usize>(
     ensures pairs { borrowed_pairs pairs.new.items ≡ put text_cmp key.now value.now (borrowed_pairs pairs.old.items) }
     ensures few { array_vec_len pairs.new ≤ array_vec_len pairs.old + 1 }
 {
-    match offset_of(pairs, key) {
+    match index_of(pairs, key) {
         Ok(at) => pairs[at] = (key, value),
         Err(at) => pairs.insert(at, (key, value)),
     }

@@ -9,7 +9,7 @@ use Rattle.ts_core.specs.settings.Settings.{Rule}
 use Rattle.ts_core.specs.plans.Pieces.{MarkedRule, QueryContext, IsBoundary, RuleServes}
 use Rattle.ts_core.proofs.plans.GoodPlaces.{rule_wide, to_next, next_boundary}
 use Rattle.ts_plan.specs.declared.steps.Step.{Step}
-use Rattle.ts_plan.specs.Steps.{IsPlannable, IsStep, Upto, Ascends, matches_query, is_usable, IsFirstStart, IsNextInstant, step_of, with_step, Adds}
+use Rattle.ts_plan.specs.Steps.{IsPlannable, IsStep, Upto, Ascends, matches_query, is_usable, IsFirstStart, IsNextInstant, step_of, with_usable_step, Adds}
 use Rattle.ts_plan.proofs.WalkSteps.{in_range}
 use Rattle.ts_core.proofs.lists.ListSteps.{all_push}
 use Rattle.ts_plan.proofs.ListLemmas.{among_push, among_last}
@@ -54,7 +54,7 @@ step_place t n r x g i e =
     let q : i.rule ≡ r = same_rule t.rules n x.rule r i.rule (sym e) g i.there in
     record { one = i.one ∙ ap (λ (z : MarkedRule). x.from +ℤ z.rule.interval) q; inside = i.inside; serves = subst (λ z. RuleServes t.query z x.from x.to) q i.serves }
 
-pub scan_more : (t : QueryContext) (n : ℕ) (r : MarkedRule) (p : ℤ) (q : Option ℤ) (old ss new : List Step) → IsPlannable t → slice_get t.rules n ≡ Some r → matches_query t.query r.rule ≡ true → p <ℤ t.mark → IsNextInstant t r p q → new ≡ with_step t r n p q ss → Scanned t n r (Some p) old ss → Scanned t n r q old new
+pub scan_more : (t : QueryContext) (n : ℕ) (r : MarkedRule) (p : ℤ) (q : Option ℤ) (old ss new : List Step) → IsPlannable t → slice_get t.rules n ≡ Some r → matches_query t.query r.rule ≡ true → p <ℤ t.mark → IsNextInstant t r p q → new ≡ with_usable_step t r n p q ss → Scanned t n r (Some p) old ss → Scanned t n r q old new
 scan_more t n r p None old ss new s g c m nx e k =
     let wide = rule_wide t.rules n r s.wide.rules g in
     subst (Scanned t n r None old) (sym e) (record {

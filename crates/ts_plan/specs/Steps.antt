@@ -73,9 +73,9 @@ abbrev pub step_of : ℤ → ℕ → ℤ → Step
 step_of p n e = record { from = p; rule = n; to = e }
 
 -- appends the step of rule n from p to e, if it is a valid piece
-abbrev pub with_step : QueryContext → MarkedRule → ℕ → ℤ → Option ℤ → List Step → List Step
-with_step t r n p None ss = ss
-with_step t r n p (Some e) ss = if is_usable t.query r p e then (ss ++ step_of p n e ∷ []) else ss
+abbrev pub with_usable_step : QueryContext → MarkedRule → ℕ → ℤ → Option ℤ → List Step → List Step
+with_usable_step t r n p None ss = ss
+with_usable_step t r n p (Some e) ss = if is_usable t.query r p e then (ss ++ step_of p n e ∷ []) else ss
 
 -- adds all steps of rule n, and nothing else
 pub record Adds (t : QueryContext) (n : ℕ) (old new : List Step) : Type 0 where

@@ -6,7 +6,7 @@ ghost use Rattle.ts_core.specs.plans.Faults.{is_aligned, is_in_one_bucket};
 ghost use Rattle.ts_core.specs.store.Marks.{index_of};
 ghost use Rattle.ts_core.specs.lists.Members.{Among};
 ghost use Rattle.ts_plan.specs.declared.steps.Step.{Step};
-ghost use Rattle.ts_plan.specs.Steps.{IsPlannable, IsStep, Ascends, IsFirstStart, IsNextInstant, with_step, Adds};
+ghost use Rattle.ts_plan.specs.Steps.{IsPlannable, IsStep, Ascends, IsFirstStart, IsNextInstant, with_usable_step, Adds};
 
 use crate::context::PlanContext;
 use crate::instant::Instant;
@@ -77,7 +77,7 @@ fn push_step<A: Allocator>(
     requires rule { pos 1 ≤ℤ marked.now.rule.interval }
     requires aligned { aligned ≡ is_aligned marked.now.rule context.now.query }
     ensures next { IfOk result (λ next. IsNextInstant context.now marked.now from next) }
-    ensures steps { IfOk result (λ next. steps.new.items ≡ with_step context.now marked.now number from next steps.old.items) }
+    ensures steps { IfOk result (λ next. steps.new.items ≡ with_usable_step context.now marked.now number from next steps.old.items) }
 {
     let width = i128::from(marked.rule.interval());
     match from.checked_add(width, context.end()) {

@@ -263,7 +263,7 @@ impl<A: Allocator + Copy> Index<A> {
         ensures series { self.new.series ≡ self.old.series }
         ensures sound { IsSoundIndex self.new }
     {
-        self.columns.reserve_bytes(self.fields.len())?;
+        self.columns.add_missing_field(self.fields.len())?;
         let measurement = self.series.key(series).measurement();
         let field = self.fields.register(measurement, field)?;
         self.columns.push(series.number, field)

@@ -33,7 +33,7 @@ use Rattle.ts_script.specs.MarksTexts.{marks_text}
 use Rattle.ts_script.specs.ScriptReplies.{line, text_of, step_text, written_text, unknown_text, bad_range_text}
 use Rattle.ts_script.specs.declared.reply.Reply.{Reply}
 use Rattle.ts_script.specs.declared.reply.Reply.TheVariants.{OutOfMemory}
-use Rattle.ts_script.specs.Machine.{State, no_longer_fresh, with_certificate, with_store, opened_with, whole_of, with_whole, with_open_run, with_run, RunsWhole, current_marks_text, at_moment, in_precision, in_epoch, Counts, Transition, Step, opens, refuses_settings, opens_no_memory, opens_late, moves, sets, shows, writes, writes_no_memory, retains, refuses_retain, retains_no_memory, begins, refuses_begin, begins_no_memory, steps, steps_idle, sets_certificate, sets_certificate_no_memory, replies, replies_no_memory, explains, explains_no_memory, tells_live, counts, counts_nothing, refuses_count, refuses_unknown, too_long, no_text, skips, does}
+use Rattle.ts_script.specs.Machine.{State, no_longer_fresh, with_certificate, with_store, opened_with, whole_state, with_whole, with_open_run, with_run, RunsWhole, current_marks_text, at_moment, in_precision, in_epoch, Counts, Transition, Step, opens, refuses_settings, opens_no_memory, opens_late, moves, sets, shows, writes, writes_no_memory, retains, refuses_retain, retains_no_memory, begins, refuses_begin, begins_no_memory, steps, steps_idle, sets_certificate, sets_certificate_no_memory, replies, replies_no_memory, explains, explains_no_memory, tells_live, counts, counts_nothing, refuses_count, refuses_unknown, too_long, no_text, skips, does}
 use Rattle.ts_script.specs.MachineState.{MachineState, keeping, IsMachineIn, HasReply, HasExplanation, TransitionTo, Refused, StepTo}
 
 -- ---- writing
@@ -50,10 +50,10 @@ storing s m new k i is = record { moment = i.moment; precision = i.precision; ep
 pub storing_whole : (s : State) (m : MachineState) (new : WholeState) (k : StoreData) → IsMachineIn s m → IsWholeStateOf new k → IsMachineIn (with_whole new s) (keeping k m)
 storing_whole s m new k i is = record { moment = i.moment; precision = i.precision; epoch = i.epoch; fresh = i.fresh; certificate = i.certificate; store = is.store; inventory = is.inventory }
 
-pub whole_in : (s : State) (m : MachineState) → IsMachineIn s m → IsWholeStateOf (whole_of s) m.kept
+pub whole_in : (s : State) (m : MachineState) → IsMachineIn s m → IsWholeStateOf (whole_state s) m.kept
 whole_in s m i = record { store = i.store; inventory = i.inventory }
 
-wrote_as : {E : Type 0} (text : Text) (r : Result LineOutcome E) (s : State) (m : MachineState) (k : StoreData) → IsMachineIn s m → LineWrites s.precision s.moment (whole_of s) text r k → TransitionTo (Write text) s (written_text r) (keeping k m)
+wrote_as : {E : Type 0} (text : Text) (r : Result LineOutcome E) (s : State) (m : MachineState) (k : StoreData) → IsMachineIn s m → LineWrites s.precision s.moment (whole_state s) text r k → TransitionTo (Write text) s (written_text r) (keeping k m)
 wrote_as text (Ok outcome) s m k i w = (with_whole w.0 s, writes text outcome w.0 w.1, storing_whole s m w.0 k i w.2)
 wrote_as text (Err e) s m k i w = (with_whole w.0 s, writes_no_memory text w.0 w.1, storing_whole s m w.0 k i w.2)
 
@@ -61,8 +61,8 @@ wrote_as text (Err e) s m k i w = (with_whole w.0 s, writes_no_memory text w.0 w
 pub wrote : {E : Type 0} (text : Text) (r : Result LineOutcome E) (s : State) (m : MachineState) (k : StoreData) → IsMachineIn s m → ((t : StoreState) → IsStoreIn t m.kept → WritesFrom m.precision m.moment t text r k)
     → GrowsAfter m.kept.settings.rules m.kept.marks.lows (facts_of_text (parts_in m.precision m.moment text)) r (inventory_of m.kept) (inventory_of k) → TransitionTo (Write text) s (written_text r) (keeping k m)
 wrote {E} text r s m k i each grows =
-    let w = line_written {E = E} m.precision m.moment text r m.kept k each grows (whole_of s) (whole_in s m i) in
-    wrote_as {E = E} text r s m k i (subst (λ (t : ℤ). LineWrites s.precision t (whole_of s) text {E = E} r k) i.moment (subst (λ (p : TimeUnit). LineWrites p m.moment (whole_of s) text {E = E} r k) i.precision w))
+    let w = line_written {E = E} m.precision m.moment text r m.kept k each grows (whole_state s) (whole_in s m i) in
+    wrote_as {E = E} text r s m k i (subst (λ (t : ℤ). LineWrites s.precision t (whole_state s) text {E = E} r k) i.moment (subst (λ (p : TimeUnit). LineWrites p m.moment (whole_state s) text {E = E} r k) i.precision w))
 
 -- ---- the other commands
 
@@ -132,11 +132,11 @@ retained answer s m k i idle r told =
     let stands : StandsFor s.store.opening (whole_run s.moment r.steps s.store.history) (state_of k) = subst (λ (t : ℤ). StandsFor s.store.opening (whole_run t r.steps s.store.history) (state_of k)) i.moment (r.history s.store.opening s.store.history i.store.stands) in
     let new : State = with_run r.steps (inventory_of k) s in
     let marks : answer ≡ line (current_marks_text new) = told ∙ (λ j. line (marks_text (stands.settings j) (stands.marks j))) in
-    let lows : k.marks.lows ≡ lows_in (with_begin s.moment (whole_of s)) = ap (λ (z : Marks). z.lows) (stands.marks ∙ steps_marks s.store.opening r.steps (Begin s.moment ∷ s.store.history)) in
+    let lows : k.marks.lows ≡ lows_in (with_begin s.moment (whole_state s)) = ap (λ (z : Marks). z.lows) (stands.marks ∙ steps_marks s.store.opening r.steps (Begin s.moment ∷ s.store.history)) in
     let whole : RunsWhole s r.steps (inventory_of k) = record {
       count = r.inventory_steps ∙ (λ j. steps_in (lows j) (all_waiting (i.inventory j)));
-      left = subst (λ (z : Inventory). LeavesRecent (rules_in (whole_of s)) (lows_in (with_begin s.moment (whole_of s))) z (inventory_of k)) i.inventory
-          (subst (λ (ls : List ℤ). LeavesRecent (rules_in (whole_of s)) ls (inventory_of m.kept) (inventory_of k)) lows
+      left = subst (λ (z : Inventory). LeavesRecent (rules_in (whole_state s)) (lows_in (with_begin s.moment (whole_state s))) z (inventory_of k)) i.inventory
+          (subst (λ (ls : List ℤ). LeavesRecent (rules_in (whole_state s)) ls (inventory_of m.kept) (inventory_of k)) lows
           (subst (λ (z : Settings). LeavesRecent z.rules k.marks.lows (inventory_of m.kept) (inventory_of k)) i.store.stands.settings r.inventory));
     } in (
       new,
@@ -190,7 +190,7 @@ begin_refused r s m k i refused same some = (s, refuses_begin (i.store.stands.ru
 
 stepped_by : (running : Bool) (answer : StepAnswer) (s : State) (m : MachineState) (k : StoreData) → m.kept.running ≡ running → IsMachineIn s m → TakesStep m.kept k answer → TransitionTo StepRun s (step_text answer) (keeping k m)
 stepped_by true answer s m k e i t =
-    let d = step_taken answer (whole_of s) m.kept k e t (whole_in s m i) in
+    let d = step_taken answer (whole_state s) m.kept k e t (whole_in s m i) in
     (with_whole d.0 s, steps answer d.0 (i.store.stands.running.0 e) d.1, storing_whole s m d.0 k i d.2)
 stepped_by false answer s m k e i t =
     let none : IsRunOpen s.store.history → ⊥ = λ runs. true≢false (sym (i.store.stands.running.1 runs) ∙ e) in

@@ -27,7 +27,7 @@ use Rattle.ts_image.proofs.Unambiguous.{are_unambiguous}
 use Rattle.ts_image.proofs.WrittenPictures.{written_picture}
 use Rattle.ts_store.specs.store.WholeStates.{rules_in, lows_in}
 use Rattle.ts_script.specs.Commands.{Reload}
-use Rattle.ts_script.specs.Machine.{with_store, whole_of, IsReload, reloads, reloads_no_memory}
+use Rattle.ts_script.specs.Machine.{with_store, whole_state, IsReload, reloads, reloads_no_memory}
 use Rattle.ts_script.specs.ReloadResults.{IsImageIn, IsReloadOf}
 use Rattle.ts_script.specs.Reloads.{Reloaded, saved_columns}
 use Rattle.ts_script.specs.ScriptReplies.{line, reloaded_text}
@@ -63,9 +63,9 @@ pub was_reloaded : (s : State) (m : MachineState) (k : StoreData) → IsMachineI
 was_reloaded s m k i r =
     let now = reloaded_as s.store.opening s.store.history m.kept k i.store.stands r in
     let is : IsReload s k.series (inventory_of k) =
-    subst (λ (z : Inventory). Reloaded s.store.history (rules_in (whole_of s)) (lows_in (whole_of s)) s.store.series z k.series (inventory_of k)) i.inventory
-    (subst (λ (z : List Series). Reloaded s.store.history (rules_in (whole_of s)) (lows_in (whole_of s)) z (inventory_of m.kept) k.series (inventory_of k)) i.store.series
-    (subst (λ (z : Marks). Reloaded s.store.history (rules_in (whole_of s)) z.lows m.kept.series (inventory_of m.kept) k.series (inventory_of k)) i.store.stands.marks
+    subst (λ (z : Inventory). Reloaded s.store.history (rules_in (whole_state s)) (lows_in (whole_state s)) s.store.series z k.series (inventory_of k)) i.inventory
+    (subst (λ (z : List Series). Reloaded s.store.history (rules_in (whole_state s)) (lows_in (whole_state s)) z (inventory_of m.kept) k.series (inventory_of k)) i.store.series
+    (subst (λ (z : Marks). Reloaded s.store.history (rules_in (whole_state s)) z.lows m.kept.series (inventory_of m.kept) k.series (inventory_of k)) i.store.stands.marks
     (subst (λ (z : Settings). Reloaded s.store.history z.rules m.kept.marks.lows m.kept.series (inventory_of m.kept) k.series (inventory_of k)) i.store.stands.settings now))) in (
       with_store (with_series k.series s.store) (inventory_of k) s,
       reloads k.series (inventory_of k) is,

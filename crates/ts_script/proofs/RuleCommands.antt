@@ -6,13 +6,13 @@ use Rattle.ts_core.specs.settings.Settings.{Settings}
 use Rattle.ts_core.specs.settings.SettingsFaults.{is_named, settings_fault_text, unknown_rule_text}
 use Rattle.ts_core.specs.declared.settings.settings_fault.SettingsFault.{SettingsFault}
 use Rattle.ts_core.specs.store.StoreData.{StoreData}
-use Rattle.ts_store.specs.store.WholeStates.{without_rule}
+use Rattle.ts_store.specs.store.WholeStates.{state_without_rule}
 use Rattle.ts_store.specs.rules.RulesChanged.{RuleGoes, DropsRule}
 use Rattle.ts_store.specs.rules.RuleTexts.{rule_for, settings_in, low_in, TextComes}
 use Rattle.ts_store.specs.declared.rules.rule_text.AddedRule.{AddedRule}
 use Rattle.ts_store.proofs.store.WholeStatesKept.{rule_added, rule_dropped}
 use Rattle.ts_script.specs.Commands.{AddRule, DropRule}
-use Rattle.ts_script.specs.Machine.{State, whole_of, with_whole, Transition, adds, refuses_rule, adds_no_memory, drops, refuses_drop}
+use Rattle.ts_script.specs.Machine.{State, whole_state, with_whole, Transition, adds, refuses_rule, adds_no_memory, drops, refuses_drop}
 use Rattle.ts_script.specs.MarksTexts.{rule_text}
 use Rattle.ts_script.specs.ScriptReplies.{line, text_of, dropped_text}
 use Rattle.ts_script.specs.MachineState.{MachineState, keeping, IsMachineIn, TransitionTo}
@@ -27,7 +27,7 @@ stays_in s m k i same = subst (λ (z : StoreData). IsMachineIn s (keeping z m)) 
 module _ (text : Text) (s : State) (m : MachineState) (k : StoreData) (i : IsMachineIn s m) where
   pub rule_told : (added : AddedRule) (answer : Text) → TextComes m.kept k text added → answer ≡ line (rule_text added.name.bytes added.low) → TransitionTo (AddRule text) s answer (keeping k m)
   rule_told added answer t told =
-      let came = rule_added (whole_of s) m.kept k t.rule added.low (whole_in s m i) t.comes in
+      let came = rule_added (whole_state s) m.kept k t.rule added.low (whole_in s m i) t.comes in
       let new = came.1 in
       let read : rule_for (settings_in s.store) text ≡ Ok t.rule = subst (λ (z : Settings). rule_for z text ≡ Ok t.rule) i.store.stands.settings t.read in
       let printed : answer ≡ line (rule_text t.rule.name (low_in s.store t.rule)) = told ∙ (λ j. line (rule_text (t.name j) (came.0 j))) in
@@ -54,9 +54,9 @@ pub rule_forgotten : {E : Type 0} (r : Result (Unit {0}) E) (name : Text) (s : S
 rule_forgotten r name s m k i drops_rule none =
     let named : is_named m.kept.settings.rules name ≡ true = found_name (is_named m.kept.settings.rules name) r drops_rule.unknown none in
     let goes : RuleGoes m.kept k name = when_ok r (RuleGoes m.kept k name) drops_rule.ok none in (
-      with_whole (without_rule name (whole_of s)) s,
+      with_whole (state_without_rule name (whole_state s)) s,
       drops name (subst (λ (z : Settings). is_named z.rules name ≡ true) i.store.stands.settings named),
-      storing_whole s m (without_rule name (whole_of s)) k i (rule_dropped (whole_of s) m.kept k name (whole_in s m i) goes),
+      storing_whole s m (state_without_rule name (whole_state s)) k i (rule_dropped (whole_state s) m.kept k name (whole_in s m i) goes),
     )
 
 pub drop_refused : {E : Type 0} (r : Result (Unit {0}) E) (name : Text) (s : State) (m : MachineState) (k : StoreData) → IsMachineIn s m → DropsRule m.kept k name r → is_err r ≡ true → TransitionTo (DropRule name) s (line unknown_rule_text) (keeping k m)

@@ -26,7 +26,7 @@ use Rattle.ts_reply.specs.declared.epoch.Epoch.{Epoch}
 use Rattle.ts_reply.specs.declared.epoch.Epoch.TheVariants as epochs
 use Rattle.ts_store.specs.write.LineTexts.{LineState as StoreState, opened as opened_store, with_series}
 use Rattle.ts_store.specs.store.Inventories.{Inventory, new_inventory, LeavesRecent}
-use Rattle.ts_store.specs.store.WholeStates.{WholeState, rules_in, lows_in, left_in, TakesText, StopsInText, with_begin, StepsOnce, AddsRuleTo, without_rule}
+use Rattle.ts_store.specs.store.WholeStates.{WholeState, rules_in, lows_in, left_in, TakesText, StopsInText, with_begin, StepsOnce, AddsRuleTo, state_without_rule}
 use Rattle.ts_store.specs.read.PointsRead.{all_raw}
 use Rattle.ts_store.specs.rules.RuleTexts.{rule_for, settings_in, low_in}
 use Rattle.ts_store.specs.write.StoreFaultTexts.{run_in_progress_text}
@@ -91,15 +91,15 @@ abbrev pub opened_with : Settings → State → State
 opened_with settings = with_store (opened_store settings) (new_inventory settings)
 
 -- the store of the state with its inventory, and the state with another such store
-abbrev pub whole_of : State → WholeState
-whole_of s = record { store = s.store; inventory = s.inventory }
+abbrev pub whole_state : State → WholeState
+whole_state s = record { store = s.store; inventory = s.inventory }
 
 abbrev pub with_whole : WholeState → State → State
 with_whole w s = with_store w.store w.inventory s
 
 -- a run of retention begins at the script's time
 abbrev pub with_open_run : State → State
-with_open_run s = with_whole (with_begin s.moment (whole_of s)) s
+with_open_run s = with_whole (with_begin s.moment (whole_state s)) s
 
 -- a whole retention run, of `steps` steps and a last one
 abbrev pub with_run : ℕ → Inventory → State → State
@@ -108,12 +108,12 @@ with_run steps inventory s = with_store (record s.store { history = whole_run s.
 -- A whole run takes this number of steps before the last one, and leaves this inventory. Of each rule it has the cells
 -- from its new low index on.
 pub record RunsWhole (old : State) (steps : ℕ) (new : Inventory) : Type 0 where
-  pub count : steps + 1 ≡ left_in (with_begin old.moment (whole_of old))
-  pub left : LeavesRecent (rules_in (whole_of old)) (lows_in (with_begin old.moment (whole_of old))) old.inventory new
+  pub count : steps + 1 ≡ left_in (with_begin old.moment (whole_state old))
+  pub left : LeavesRecent (rules_in (whole_state old)) (lows_in (with_begin old.moment (whole_state old))) old.inventory new
 
 -- the store of the state was saved and loaded back
 abbrev pub IsReload : State → List Series → Inventory → Type 0
-IsReload old series new = Reloaded old.store.history (rules_in (whole_of old)) (lows_in (whole_of old)) old.store.series old.inventory series new
+IsReload old series new = Reloaded old.store.history (rules_in (whole_state old)) (lows_in (whole_state old)) old.store.series old.inventory series new
 
 -- the marks of the state, as text
 abbrev pub current_marks_text : State → Text
@@ -143,8 +143,8 @@ pub data Transition (old : State) : Command → Text → State → Type 0 where
   moves : (t : ℤ) → Transition old (At t) [] (at_moment t old)
   sets : (p : TimeUnit) → Transition old (SetPrecision p) [] (in_precision p old)
   -- a line is written with the script's precision; without a timestamp, it has the script's time
-  writes : (text : Text) (outcome : LineOutcome) (new : WholeState) → TakesText old.precision old.moment (whole_of old) text outcome new → Transition old (Write text) (outcome_text outcome) (with_whole new old)
-  writes_no_memory : (text : Text) (new : WholeState) → StopsInText old.precision old.moment (whole_of old) text new → Transition old (Write text) (line memory_text) (with_whole new old)
+  writes : (text : Text) (outcome : LineOutcome) (new : WholeState) → TakesText old.precision old.moment (whole_state old) text outcome new → Transition old (Write text) (outcome_text outcome) (with_whole new old)
+  writes_no_memory : (text : Text) (new : WholeState) → StopsInText old.precision old.moment (whole_state old) text new → Transition old (Write text) (line memory_text) (with_whole new old)
   shows : (e : Epoch) → Transition old (SetEpoch e) [] (in_epoch e old)
   -- unless a run is open, retention runs at the script's time, and the new marks are printed
   retains : (steps : ℕ) (inventory : Inventory) → (IsRunOpen old.store.history → ⊥) → RunsWhole old steps inventory → Transition old Retain (line (current_marks_text (with_run steps inventory old))) (with_run steps inventory old)
@@ -155,18 +155,18 @@ pub data Transition (old : State) : Command → Text → State → Type 0 where
   refuses_begin : IsRunOpen old.store.history → Transition old BeginRun (line run_in_progress_text) old
   begins_no_memory : Transition old BeginRun (line memory_text) old
   -- a step of the open run; without one, nothing changes
-  steps : (answer : StepAnswer) (new : WholeState) → IsRunOpen old.store.history → StepsOnce (whole_of old) answer new → Transition old StepRun (step_text answer) (with_whole new old)
+  steps : (answer : StepAnswer) (new : WholeState) → IsRunOpen old.store.history → StepsOnce (whole_state old) answer new → Transition old StepRun (step_text answer) (with_whole new old)
   steps_idle : (IsRunOpen old.store.history → ⊥) → Transition old StepRun (step_text Done) old
   -- the store is saved to memory and loaded back: its history stays, and so does an open run
   reloads : (series : List Series) (inventory : Inventory) → IsReload old series inventory → Transition old Reload reloaded_text (with_store (with_series series old.store) inventory old)
   reloads_no_memory : Transition old Reload (line memory_text) old
   -- a rule is added, and its name and low index are printed; with a fault, or out of memory, nothing changes
-  adds : (text : Text) (r : Rule) (new : WholeState) → rule_for (settings_in old.store) text ≡ Ok r → AddsRuleTo (whole_of old) r new → Transition old (AddRule text) (line (rule_text r.name (low_in old.store r))) (with_whole new old)
+  adds : (text : Text) (r : Rule) (new : WholeState) → rule_for (settings_in old.store) text ≡ Ok r → AddsRuleTo (whole_state old) r new → Transition old (AddRule text) (line (rule_text r.name (low_in old.store r))) (with_whole new old)
   refuses_rule : (text : Text) (fault : SettingsFault) → rule_for (settings_in old.store) text ≡ Err fault → Transition old (AddRule text) (line (settings_fault_text fault)) old
   adds_no_memory : (text : Text) → Transition old (AddRule text) (line memory_text) old
   -- the rule with the name is dropped, if there is one
-  drops : (name : Text) → is_named (rules_in (whole_of old)) name ≡ true → Transition old (DropRule name) dropped_text (with_whole (without_rule name (whole_of old)) old)
-  refuses_drop : (name : Text) → is_named (rules_in (whole_of old)) name ≡ false → Transition old (DropRule name) (line unknown_rule_text) old
+  drops : (name : Text) → is_named (rules_in (whole_state old)) name ≡ true → Transition old (DropRule name) dropped_text (with_whole (state_without_rule name (whole_state old)) old)
+  refuses_drop : (name : Text) → is_named (rules_in (whole_state old)) name ≡ false → Transition old (DropRule name) (line unknown_rule_text) old
   -- the certificate is set for the next query, replacing an earlier one
   sets_certificate : (text : Text) → Transition old (SetCertificate text) [] (with_certificate (Some (with_line_feeds text)) old)
   sets_certificate_no_memory : (text : Text) → Transition old (SetCertificate text) (line memory_text) old

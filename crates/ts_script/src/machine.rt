@@ -25,7 +25,7 @@ use ts_reply::{Epoch, answer, explain};
 use ts_store::{LineOutcome, Store, View};
 
 /// State of a script: the settings of its commands, and its store. A command `settings` may still come until the first
-/// line that isn't skipped. `line_capacity` is an arena for the tags and fields of a line.
+/// line that isn't skipped. `arena` holds the tags and fields of a line.
 #[derive(Drop)]
 pub struct Machine {
     alloc: Global,
@@ -35,7 +35,7 @@ pub struct Machine {
     fresh: bool,
     certificate: Option<String>,
     store: Store<Global>,
-    line_capacity: Bump<Global>,
+    arena: Bump<Global>,
 }
 
 impl Model for Machine {
@@ -62,7 +62,7 @@ impl Machine {
             fresh: true,
             certificate: None,
             store: Store::new(alloc, Settings::open(alloc))?,
-            line_capacity: Bump::new(alloc),
+            arena: Bump::new(alloc),
         })
     }
 
@@ -335,9 +335,9 @@ impl Machine {
     {
         let written = self
             .store
-            .write_text(&self.line_capacity, text, self.precision, self.moment);
+            .write_text(&self.arena, text, self.precision, self.moment);
         // no borrow of the arena is left
-        let _ = self.line_capacity.reset();
+        let _ = self.arena.reset();
         written_reply(written)
     }
 }

@@ -11,7 +11,7 @@ ghost use Rattle.ts_core.specs.lists.Numbered.{IsAt};
 ghost use Rattle.ts_cells.specs.Grids.{rollup_series_of, rollup_series_named, borrowed_texts, cell_at, cell_in};
 ghost use Rattle.ts_cells.specs.Walks.{entry_of, entries_within};
 ghost use Rattle.ts_store.specs.rollup.ColumnLists.{HasCapacityAt};
-ghost use Rattle.ts_store.specs.rollup.Rollups.{new_rollup, Extends, KeepsLists, KeepsCells, HasNext, with_next, with_frozen, cell_created_in, frozen_in, added_in, corrected_in, live_part, rollup_series_at, columns_of_rollup_series};
+ghost use Rattle.ts_store.specs.rollup.Rollups.{new_rollup, Extends, KeepsLists, KeepsCells, HasNext, with_next, with_grid_cells, cell_created_in, frozen_in, added_in, corrected_in, live_part, rollup_series_at, columns_of_rollup_series};
 
 use series_columns::SeriesColumns;
 use std::alloc::{AllocError, Allocator};
@@ -168,7 +168,7 @@ impl<A: Allocator + Copy> Rollup<A> {
     /// Creates the cell of a column in a bucket unless it exists. Does nothing if the column is of another measurement.
     pub(crate) fn make_room(&mut self, column: ColumnId, index: &i128) -> Result<(), AllocError>
         requires { column < length self.old.series_list }
-        ensures ok { OnOk result (self.new ≡ with_frozen (cell_created_in self.old (rollup_series_at self.old column) index.now) self.old) }
+        ensures ok { OnOk result (self.new ≡ with_grid_cells (cell_created_in self.old (rollup_series_at self.old column) index.now) self.old) }
         ensures err { OnErr result (self.new ≡ self.old) }
     {
         match self.series_list[column.number()] {
@@ -184,7 +184,7 @@ impl<A: Allocator + Copy> Rollup<A> {
         index: &i128,
     ) -> Result<(), AllocError>
         requires { series < length self.old.grid.series_list }
-        ensures ok { OnOk result (self.new ≡ with_frozen (cell_created_in self.old (Some series) index.now) self.old) }
+        ensures ok { OnOk result (self.new ≡ with_grid_cells (cell_created_in self.old (Some series) index.now) self.old) }
         ensures err { OnErr result (self.new ≡ self.old) }
     {
         self.cells.make_room(index, series)
@@ -218,7 +218,7 @@ impl<A: Allocator + Copy> Rollup<A> {
     /// or if the counts add up to more than 2^62. Does not allocate.
     pub(crate) fn freeze(&mut self, column: usize, index: &i128, part: Agg)
         requires { column < length self.old.series_list }
-        ensures { self.new ≡ with_frozen (frozen_in self.old (rollup_series_at self.old column) index.now part) self.old }
+        ensures { self.new ≡ with_grid_cells (frozen_in self.old (rollup_series_at self.old column) index.now part) self.old }
     {
         if let Some(series) = self.series_list[column] {
             self.cells.freeze(index, series, part);
@@ -229,7 +229,7 @@ impl<A: Allocator + Copy> Rollup<A> {
     /// exist, or if the counts add up to more than 2^62. Does not allocate.
     pub(crate) fn add(&mut self, index: &i128, series: RollupSeriesId, part: Agg)
         requires { series < length self.old.grid.series_list }
-        ensures { self.new ≡ with_frozen (added_in self.old series index.now part) self.old }
+        ensures { self.new ≡ with_grid_cells (added_in self.old series index.now part) self.old }
     {
         self.cells.add(index, series, part);
     }
@@ -237,7 +237,7 @@ impl<A: Allocator + Copy> Rollup<A> {
     /// Replaces the live part of the cell of a bucket in a rollup series, if the cell exists. Does not allocate.
     pub(crate) fn correct(&mut self, index: &i128, series: RollupSeriesId, live: Agg)
         requires { series < length self.old.grid.series_list }
-        ensures { self.new ≡ with_frozen (corrected_in self.old series index.now live) self.old }
+        ensures { self.new ≡ with_grid_cells (corrected_in self.old series index.now live) self.old }
     {
         self.cells.correct(index, series, live);
     }
@@ -270,7 +270,7 @@ impl<A: Allocator + Copy> Rollup<A> {
 
     /// Removes up to 256 cells below an index, and returns the number of removed cells.
     pub(crate) fn expire(&mut self, low: &i128) -> usize
-        ensures cells { self.new ≡ with_frozen self.new.grid.cells self.old }
+        ensures cells { self.new ≡ with_grid_cells self.new.grid.cells self.old }
         ensures below { LosesBelow low.now result self.old.grid.cells self.new.grid.cells }
     {
         self.cells.expire(low)

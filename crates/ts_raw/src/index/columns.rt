@@ -112,7 +112,7 @@ impl<A: Allocator + Copy> ColumnTable<A> {
     }
 
     /// Ensures that more than `fields` fields have a list of columns: adds an empty one if exactly `fields` have one.
-    pub(crate) fn reserve_bytes(&mut self, fields: usize) -> Result<(), AllocError>
+    pub(crate) fn add_missing_field(&mut self, fields: usize) -> Result<(), AllocError>
         requires { fields ≤ self.old.fields }
         ensures columns { self.new.columns ≡ self.old.columns }
         ensures more { self.old.fields ≤ self.new.fields }

@@ -24,7 +24,7 @@ use Rattle.ts_store.specs.image.BuildingParts.{IsIdle, AreIdle}
 use Rattle.ts_raw.specs.Indexed.{Indexed, IsSoundIndex, no_series, column_in}
 use Rattle.ts_raw.specs.Registering.{IsRegistered}
 use Rattle.ts_store.specs.store.ColumnStates.{no_column, with_points, point_maps, columns_in, content_of, StoreContent, IsSoundContent, IsColumnFor}
-use Rattle.ts_store.specs.rollup.Rollups.{RollupState, AreRollups, Extends, cells_of, with_frozen}
+use Rattle.ts_store.specs.rollup.Rollups.{RollupState, AreRollups, Extends, cells_of, with_grid_cells}
 use Rattle.ts_store.proofs.store.ColumnsLemmas.{names_held}
 use Rattle.ts_store.proofs.rollup.RollupsGrow.{rollups_kept, made_behind}
 
@@ -73,8 +73,8 @@ rollups-set [] cs [] n s t e more same h = tt
 rollups-set [] cs (x ∷ ss) n s t e more same h = absurd h
 rollups-set (r ∷ rs) cs [] n s t e more same h = absurd h
 rollups-set (r ∷ rs) cs (x ∷ ss) zero s t e more same h =
-    let one : AreRollups (r ∷ []) cs (with_frozen s.grid.cells t ∷ []) =
-    rollups_kept (r ∷ []) cs (s ∷ []) (with_frozen s.grid.cells t ∷ []) (subst (λ (z : RollupState). AreRollups (r ∷ []) cs (z ∷ [])) (sym e) (h.0, tt)) (record { made = more; cells = refl; series_list = same }, tt) in
+    let one : AreRollups (r ∷ []) cs (with_grid_cells s.grid.cells t ∷ []) =
+    rollups_kept (r ∷ []) cs (s ∷ []) (with_grid_cells s.grid.cells t ∷ []) (subst (λ (z : RollupState). AreRollups (r ∷ []) cs (z ∷ [])) (sym e) (h.0, tt)) (record { made = more; cells = refl; series_list = same }, tt) in
     (one.0, h.1)
 rollups-set (r ∷ rs) cs (x ∷ ss) (suc n) s t e more same h = (h.0, rollups-set rs cs ss n s t e more same h.1)
 

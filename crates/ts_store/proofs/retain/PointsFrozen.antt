@@ -19,7 +19,7 @@ use Rattle.ts_core.proofs.lists.Comparisons.{same_bool}
 use Rattle.ts_cells.proofs.GridMoves.{get-changed}
 use Rattle.ts_cells.specs.Grids.{no_rollup_series, cell_at}
 use Rattle.ts_store.specs.store.CellCounts.{frozen_count}
-use Rattle.ts_store.specs.rollup.Rollups.{RollupState, IsRollupSeriesOf, rollup_series_under, rollup_series_at, with_frozen, frozen_in}
+use Rattle.ts_store.specs.rollup.Rollups.{RollupState, IsRollupSeriesOf, rollup_series_under, rollup_series_at, with_grid_cells, frozen_in}
 use Rattle.ts_store.specs.retain.RollupSteps.{points_in_cell, FreezesFit}
 
 -- ---- a part frozen
@@ -92,10 +92,10 @@ frozen_most m q part k =
 
 -- ---- under the rollup series of a rule, which stay
 
-pub series_list_stay : (before s t : RollupState) (m : CellMap) → s ≡ with_frozen s.grid.cells before → t ≡ with_frozen m s → t ≡ with_frozen t.grid.cells before
-series_list_stay before s t m e f = f ∙ ap (with_frozen m) e ∙ ap (λ (x : CellMap). with_frozen x before) (sym (ap (λ (x : RollupState). x.grid.cells) f))
+pub series_list_stay : (before s t : RollupState) (m : CellMap) → s ≡ with_grid_cells s.grid.cells before → t ≡ with_grid_cells m s → t ≡ with_grid_cells t.grid.cells before
+series_list_stay before s t m e f = f ∙ ap (with_grid_cells m) e ∙ ap (λ (x : CellMap). with_grid_cells x before) (sym (ap (λ (x : RollupState). x.grid.cells) f))
 
-pub frozen_in-series : (before s : RollupState) (column n : ℕ) (r : Rule) (c : Column) (index : ℤ) (part : Aggregate) → s ≡ with_frozen s.grid.cells before → rollup_series_at before column ≡ Some n → IsRollupSeriesOf r c before.grid.series_list (Some n)
+pub frozen_in-series : (before s : RollupState) (column n : ℕ) (r : Rule) (c : Column) (index : ℤ) (part : Aggregate) → s ≡ with_grid_cells s.grid.cells before → rollup_series_at before column ≡ Some n → IsRollupSeriesOf r c before.grid.series_list (Some n)
     → frozen_in s (rollup_series_at s column) index part ≡ changed s.grid.cells (cell_at index (rollup_series_under r c)) (in_frozen (merged_within part))
 frozen_in-series before s column n r c index part e at is =
     let series : rollup_series_at s column ≡ Some n = ap (λ (x : RollupState). rollup_series_at x column) e ∙ at in

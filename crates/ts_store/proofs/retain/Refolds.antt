@@ -24,7 +24,7 @@ use Rattle.ts_raw.specs.Columns.{PointMap, ColumnState, points_from}
 use Rattle.ts_store.specs.store.ColumnStates.{with_points, point_maps, no_column}
 use Rattle.ts_store.specs.rollup.LivePoints.{rollup_series_total, left_state, left_states}
 use Rattle.ts_store.specs.write.LivePuts.{IsOver}
-use Rattle.ts_store.specs.rollup.Rollups.{RollupState, IsRollupSeriesOf, rollup_series_under, rollup_series_at, with_frozen, corrected_in}
+use Rattle.ts_store.specs.rollup.Rollups.{RollupState, IsRollupSeriesOf, rollup_series_under, rollup_series_at, with_grid_cells, corrected_in}
 use Rattle.ts_store.specs.retain.RollupSteps.{facts_left}
 use Rattle.ts_store.proofs.write.StagedColumns.{points_at}
 use Rattle.ts_store.proofs.rollup.RollupSeriesPoints.{left-length}
@@ -88,7 +88,7 @@ maps_left mark n ss =
     map-set (λ (s : ColumnState). s.points) ss n (left_state mark (get_or ss n no_column))
     ∙ ap (λ (m : PointMap). set (point_maps ss) n (points_from m mark)) (sym (points_at ss n))
 
-pub left_total : (r : Rule) (mark : ℤ) (cs : List Column) (c : Column) (ss : List ColumnState) (s t : RollupState) (n l : ℕ) (index : ℤ) (new : Aggregate) → IsOver r cs ss s → slice_get cs n ≡ Some c → rollup_series_at s n ≡ Some l → t ≡ with_frozen t.grid.cells s
+pub left_total : (r : Rule) (mark : ℤ) (cs : List Column) (c : Column) (ss : List ColumnState) (s t : RollupState) (n l : ℕ) (index : ℤ) (new : Aggregate) → IsOver r cs ss s → slice_get cs n ≡ Some c → rollup_series_at s n ≡ Some l → t ≡ with_grid_cells t.grid.cells s
     → AllDistinct t.grid.series_list → new ≡ rollup_series_total r t (left_states mark n ss) l index → corrected_in t l index new ≡ refolded r (cell_at index (rollup_series_under r c)) (facts_left mark c cs ss) t.grid.cells
 left_total r mark cs c ss s t n l index new over at series kept once made =
     let k : Cell = cell_at index (rollup_series_under r c) in

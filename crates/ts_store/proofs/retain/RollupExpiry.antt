@@ -2,11 +2,11 @@
 use Rattle.std.proofs.Common.{◌≡◌, ℕ, ℤ, ◌<◌, List, [], ◌∷◌, length, refl, sym, ◌∙◌, ap, ap₂, subst, inl, inr, arith}
 use Rattle.ts_core.specs.store.StoreData.{CellMap}
 use Rattle.ts_cells.specs.Expiry.{Removes, IsAbove, LosesBelow}
-use Rattle.ts_store.specs.rollup.Rollups.{RollupState, with_frozen, cells_of}
-use Rattle.ts_store.specs.retain.RollupSteps.{with_frozen_all}
+use Rattle.ts_store.specs.rollup.Rollups.{RollupState, with_grid_cells, cells_of}
+use Rattle.ts_store.specs.retain.RollupSteps.{with_all_grid_cells}
 use Rattle.ts_store.specs.retain.WholeRuns.{AreAbove, FirstLoses}
 
-pub same_series_list : (ss : List RollupState) → ss ≡ with_frozen_all (cells_of ss) ss
+pub same_series_list : (ss : List RollupState) → ss ≡ with_all_grid_cells (cells_of ss) ss
 same_series_list [] = refl
 same_series_list (s ∷ ss) = ap (λ ts. s ∷ ts) (same_series_list ss)
 
@@ -18,17 +18,17 @@ none_above (low ∷ lows) (s ∷ ss) none = absurd (omega (arith, none))
 
 -- the result of the call for the first rule
 pub record IsExpired (low : ℤ) (n : ℕ) (s t : RollupState) : Type 0 where
-  pub cells : t ≡ with_frozen t.grid.cells s
+  pub cells : t ≡ with_grid_cells t.grid.cells s
   pub below : LosesBelow low n s.grid.cells t.grid.cells
 
 none_gone : (low : ℤ) (n : ℕ) (m after : CellMap) → n ≡ 0 → Removes low n m after → after ≡ m
 none_gone low n m after e r = let none : Removes low 0 m after = subst (λ k. Removes low k m after) e r in none
 
 same_state : (low : ℤ) (n : ℕ) (s t : RollupState) → n ≡ 0 → IsExpired low n s t → t ≡ s
-same_state low n s t e x = x.cells ∙ ap (λ (m : CellMap). with_frozen m s) (none_gone low n s.grid.cells t.grid.cells e x.below.removed)
+same_state low n s t e x = x.cells ∙ ap (λ (m : CellMap). with_grid_cells m s) (none_gone low n s.grid.cells t.grid.cells e x.below.removed)
 
-pub series_list_first : (low : ℤ) (n : ℕ) (s t : RollupState) (ss all : List RollupState) → all ≡ s ∷ ss → IsExpired low n s t → t ∷ ss ≡ with_frozen_all (t.grid.cells ∷ cells_of ss) all
-series_list_first low n s t ss all e x = ap₂ (λ u us. u ∷ us) x.cells (same_series_list ss) ∙ sym (ap (with_frozen_all (t.grid.cells ∷ cells_of ss)) e)
+pub series_list_first : (low : ℤ) (n : ℕ) (s t : RollupState) (ss all : List RollupState) → all ≡ s ∷ ss → IsExpired low n s t → t ∷ ss ≡ with_all_grid_cells (t.grid.cells ∷ cells_of ss) all
+series_list_first low n s t ss all e x = ap₂ (λ u us. u ∷ us) x.cells (same_series_list ss) ∙ sym (ap (with_all_grid_cells (t.grid.cells ∷ cells_of ss)) e)
 
 pub first_loses : (low : ℤ) (lows lows' : List ℤ) (n : ℕ) (s t : RollupState) (ss all : List RollupState) → lows' ≡ low ∷ lows → all ≡ s ∷ ss → 0 < n → IsExpired low n s t
     → FirstLoses lows' (cells_of all) (t.grid.cells ∷ cells_of ss)

@@ -22,8 +22,8 @@ use Rattle.ts_raw.specs.Indexed.{Indexed}
 use Rattle.ts_core.proofs.lists.NumberedLemmas.{at_among}
 use Rattle.ts_store.specs.store.ColumnStates.{point_maps, with_points, columns_in, no_column, content_of, IsSoundContent}
 use Rattle.ts_store.specs.read.PointsRead.{number_of_points}
-use Rattle.ts_store.specs.rollup.Rollups.{RollupState, IsRollupSeriesOf, AreRollups, rollup_series_at, with_frozen, cells_of}
-use Rattle.ts_store.specs.retain.RollupSteps.{with_frozen_all, FreezesFit, FreezeFit, facts_left, content_moved}
+use Rattle.ts_store.specs.rollup.Rollups.{RollupState, IsRollupSeriesOf, AreRollups, rollup_series_at, with_grid_cells, cells_of}
+use Rattle.ts_store.specs.retain.RollupSteps.{with_all_grid_cells, FreezesFit, FreezeFit, facts_left, content_moved}
 use Rattle.ts_store.specs.write.LivePuts.{IsOver}
 use Rattle.ts_store.proofs.store.ColumnsLemmas.{names_held}
 use Rattle.ts_store.proofs.write.StagedColumns.{points_at}
@@ -32,13 +32,13 @@ use Rattle.ts_store.proofs.retain.RollupExpiry.{same_series_list}
 
 -- ---- other cells under the same rollup series
 
-pub cells_with : (ms : List CellMap) (ss : List RollupState) → length ms ≡ length ss → cells_of (with_frozen_all ms ss) ≡ ms
+pub cells_with : (ms : List CellMap) (ss : List RollupState) → length ms ≡ length ss → cells_of (with_all_grid_cells ms ss) ≡ ms
 cells_with [] [] l = refl
 cells_with (m ∷ ms) [] l = absurd (omega arith)
 cells_with [] (s ∷ ss) l = absurd (omega arith)
 cells_with (m ∷ ms) (s ∷ ss) l = ap (λ ns. m ∷ ns) (cells_with ms ss (omega arith))
 
-pub rollups_with : (rs : List Rule) (cs : List Column) (ms : List CellMap) (ss : List RollupState) → AreRollups rs cs ss → AreRollups rs cs (with_frozen_all ms ss)
+pub rollups_with : (rs : List Rule) (cs : List Column) (ms : List CellMap) (ss : List RollupState) → AreRollups rs cs ss → AreRollups rs cs (with_all_grid_cells ms ss)
 rollups_with [] cs ms [] a = tt
 rollups_with [] cs ms (s ∷ ss) a = absurd a
 rollups_with (r ∷ rs) cs ms [] a = absurd a
@@ -53,24 +53,24 @@ moved-length (r ∷ rs) c ps facts (m ∷ ms) = let e = moved-length rs c ps fac
 -- ---- a column is moved under a rule
 
 -- a rule that has a rollup series for it
-pub moved_rolled : (r : Rule) (c : Column) (ps : List (ℤ × ℤ)) (facts : List Fact) (n : ℕ) (s t u : RollupState) → is_some (rollup_series_at s n) ≡ true → IsRollupSeriesOf r c s.grid.series_list (rollup_series_at s n) → t ≡ with_frozen t.grid.cells s → u ≡ with_frozen u.grid.cells t
+pub moved_rolled : (r : Rule) (c : Column) (ps : List (ℤ × ℤ)) (facts : List Fact) (n : ℕ) (s t u : RollupState) → is_some (rollup_series_at s n) ≡ true → IsRollupSeriesOf r c s.grid.series_list (rollup_series_at s n) → t ≡ with_grid_cells t.grid.cells s → u ≡ with_grid_cells u.grid.cells t
     → ((l : ℕ) → rollup_series_at s n ≡ Some l → IsRollupSeriesOf r c s.grid.series_list (Some l) → t.grid.cells ≡ frozen_points r c ps s.grid.cells)
-    → ((l : ℕ) → rollup_series_at t n ≡ Some l → u.grid.cells ≡ refolded_points r c ps facts t.grid.cells) → u ≡ with_frozen (moved_cells r c ps facts s.grid.cells) s
+    → ((l : ℕ) → rollup_series_at t n ≡ Some l → u.grid.cells ≡ refolded_points r c ps facts t.grid.cells) → u ≡ with_grid_cells (moved_cells r c ps facts s.grid.cells) s
 moved_rolled r c ps facts n s t u rolled is kept still frozen refold =
-    elim (rollup_series_at s n) as (λ o. rollup_series_at s n ≡ o → is_some o ≡ true → IsRollupSeriesOf r c s.grid.series_list o → u ≡ with_frozen (moved_cells r c ps facts s.grid.cells) s) [
+    elim (rollup_series_at s n) as (λ o. rollup_series_at s n ≡ o → is_some o ≡ true → IsRollupSeriesOf r c s.grid.series_list o → u ≡ with_grid_cells (moved_cells r c ps facts s.grid.cells) s) [
       | None ↦ λ e k h. absurd (true≢false (sym k))
       | Some l ↦ λ e k h.
           let cells : u.grid.cells ≡ moved_cells r c ps facts s.grid.cells =
           refold l (ap (λ (x : RollupState). rollup_series_at x n) kept ∙ e) ∙ ap (refolded_points r c ps facts) (frozen l e h)
           ∙ sym (ap (λ b. cond b (refolded_points r c ps facts (frozen_points r c ps s.grid.cells)) s.grid.cells) h.0) in
-          still ∙ ap (with_frozen u.grid.cells) kept ∙ ap (λ (m : CellMap). with_frozen m s) cells
+          still ∙ ap (with_grid_cells u.grid.cells) kept ∙ ap (λ (m : CellMap). with_grid_cells m s) cells
     ] refl rolled is
 
 -- and one that has none
-pub moved_passed : (r : Rule) (c : Column) (ps : List (ℤ × ℤ)) (facts : List Fact) (n : ℕ) (s : RollupState) → is_some (rollup_series_at s n) ≡ false → IsRollupSeriesOf r c s.grid.series_list (rollup_series_at s n) → s ≡ with_frozen (moved_cells r c ps facts s.grid.cells) s
+pub moved_passed : (r : Rule) (c : Column) (ps : List (ℤ × ℤ)) (facts : List Fact) (n : ℕ) (s : RollupState) → is_some (rollup_series_at s n) ≡ false → IsRollupSeriesOf r c s.grid.series_list (rollup_series_at s n) → s ≡ with_grid_cells (moved_cells r c ps facts s.grid.cells) s
 moved_passed r c ps facts n s passed is =
-    elim (rollup_series_at s n) as (λ o. is_some o ≡ false → IsRollupSeriesOf r c s.grid.series_list o → s ≡ with_frozen (moved_cells r c ps facts s.grid.cells) s) [
-      | None ↦ λ k h. ap (λ (m : CellMap). with_frozen m s) (sym (ap (λ b. cond b (refolded_points r c ps facts (frozen_points r c ps s.grid.cells)) s.grid.cells) h))
+    elim (rollup_series_at s n) as (λ o. is_some o ≡ false → IsRollupSeriesOf r c s.grid.series_list o → s ≡ with_grid_cells (moved_cells r c ps facts s.grid.cells) s) [
+      | None ↦ λ k h. ap (λ (m : CellMap). with_grid_cells m s) (sym (ap (λ b. cond b (refolded_points r c ps facts (frozen_points r c ps s.grid.cells)) s.grid.cells) h))
       | Some l ↦ λ k h. absurd (true≢false k)
     ] passed is
 
@@ -118,25 +118,25 @@ series_list_within (r ∷ rs) cs [] n a l = tt
 series_list_within (r ∷ rs) cs (s ∷ ss) n a l = (let e = series_list-length r s.grid.series_list cs s.series_list a.0 in omega arith, series_list_within rs cs ss n a.1 l)
 
 -- without rules
-pub none_frozen : (ms : List CellMap) (ss : List RollupState) → length ss ≡ 0 → ss ≡ with_frozen_all ms ss
+pub none_frozen : (ms : List CellMap) (ss : List RollupState) → length ss ≡ 0 → ss ≡ with_all_grid_cells ms ss
 none_frozen ms [] e = refl
 none_frozen ms (s ∷ ss) e = absurd (omega arith)
 
-pub all_moved-none : (rs : List Rule) (cs : List Column) (ss : List RollupState) (c : Column) (ps : List (ℤ × ℤ)) (facts : List Fact) → length rs ≡ 0 → AreRollups rs cs ss → ss ≡ with_frozen_all (all_moved rs c ps facts (cells_of ss)) ss
+pub all_moved-none : (rs : List Rule) (cs : List Column) (ss : List RollupState) (c : Column) (ps : List (ℤ × ℤ)) (facts : List Fact) → length rs ≡ 0 → AreRollups rs cs ss → ss ≡ with_all_grid_cells (all_moved rs c ps facts (cells_of ss)) ss
 all_moved-none [] cs ss c ps facts e a = same_series_list ss
 all_moved-none (r ∷ rs) cs ss c ps facts e a = absurd (let n : ⊥ = omega arith in n)
 
 -- the first rule, and the others
 pub all_moved-more : (r : Rule) (rs rs' : List Rule) (cs : List Column) (states : List ColumnState) (n : ℕ) (c : Column) (ps : List (ℤ × ℤ)) (facts : List Fact) (s t : RollupState) (ss ts ss' : List RollupState) → rs' ≡ r ∷ rs → ss' ≡ s ∷ ss
     → length states ≡ length cs → AllDistinct cs → AreRollups rs' cs ss' → FreezeFit rs' c ps (cells_of ss')
-    → (IsOver r cs states s → FreezesFit r c ps s.grid.cells → t ≡ with_frozen (moved_cells r c ps facts s.grid.cells) s)
-    → (AreRollups rs cs ss → FreezeFit rs c ps (cells_of ss) → ts ≡ with_frozen_all (all_moved rs c ps facts (cells_of ss)) ss)
-    → t ∷ ts ≡ with_frozen_all (all_moved rs' c ps facts (cells_of ss')) ss'
+    → (IsOver r cs states s → FreezesFit r c ps s.grid.cells → t ≡ with_grid_cells (moved_cells r c ps facts s.grid.cells) s)
+    → (AreRollups rs cs ss → FreezeFit rs c ps (cells_of ss) → ts ≡ with_all_grid_cells (all_moved rs c ps facts (cells_of ss)) ss)
+    → t ∷ ts ≡ with_all_grid_cells (all_moved rs' c ps facts (cells_of ss')) ss'
 all_moved-more r rs rs' cs states n c ps facts s t ss ts ss' d e each once a fit one others =
     let a' : AreRollups (r ∷ rs) cs (s ∷ ss) = subst (λ (us : List RollupState). AreRollups (r ∷ rs) cs us) e (subst (λ (qs : List Rule). AreRollups qs cs ss') d a) in
     let fit' : FreezeFit (r ∷ rs) c ps (cells_of (s ∷ ss)) = subst (λ (us : List RollupState). FreezeFit (r ∷ rs) c ps (cells_of us)) e (subst (λ (qs : List Rule). FreezeFit qs c ps (cells_of ss')) d fit) in
     ap₂ (λ u us. u ∷ us) (one (record { each = each; once = once; series_list = a'.0 }) fit'.0) (others a'.1 fit'.1)
-    ∙ sym (ap₂ (λ (qs : List Rule) (us : List RollupState). with_frozen_all (all_moved qs c ps facts (cells_of us)) us) d e)
+    ∙ sym (ap₂ (λ (qs : List Rule) (us : List RollupState). with_all_grid_cells (all_moved qs c ps facts (cells_of us)) us) d e)
 
 -- ---- a column of the content
 
@@ -155,7 +155,7 @@ with_points-at (c ∷ cs) (m ∷ ms) (suc n) s e = with_points-at cs ms n s e
 pub held_moves : (index : Indexed) (ss : List ColumnState) (us vs : List RollupState) (rs : List Rule) (mark : ℤ) (n : ℕ) (x y : ColumnState) → IsSoundContent index ss → n < length ss → x ≡ get_or ss n x → y.points ≡ points_from x.points mark
     → AreRollups rs (map column_of (columns_in index ss)) us
     → ((cs : List Column) (c : Column) → length ss ≡ length cs → AllDistinct cs → AreRollups rs cs us → slice_get cs n ≡ Some c → FreezeFit rs c (points_below mark (entries (get_or ss n no_column).points)) (cells_of us)
-    → vs ≡ with_frozen_all (all_moved rs c (points_below mark (entries (get_or ss n no_column).points)) (facts_left mark c cs ss) (cells_of us)) us)
+    → vs ≡ with_all_grid_cells (all_moved rs c (points_below mark (entries (get_or ss n no_column).points)) (facts_left mark c cs ss) (cells_of us)) us)
     → (s : ColumnPoints) → slice_get (columns_in index ss) n ≡ Some s → FreezeFit rs s.column (points_below mark s.points) (cells_of us) → content_of index (set ss n y) vs ≡ content_moved rs s mark (content_of index ss us)
 held_moves index ss us vs rs mark n x y held within is left a moved s at fit =
     let cs : List Column = index.columns in
@@ -169,7 +169,7 @@ held_moves index ss us vs rs mark n x y held within is left a moved s at fit =
     map-set (λ (t : ColumnState). t.points) ss n y ∙ ap (set ms n) (left ∙ ap (λ (m : PointMap). points_from m mark) (sym its)) in
     let columns : columns_in index (set ss n y) ≡ map (kept_points s.column mark) (columns_in index ss) = ap (with_points cs) rest ∙ columns_left s.column mark cs ms n held.sound.columns_once each index_is.0 in
     let have : AreRollups rs cs us = subst (λ (names : List Column). AreRollups rs names us) (names_held index ss held.each) a in
-    let rollups : vs ≡ with_frozen_all (all_moved rs s.column (points_below mark s.points) (facts_left mark s.column cs ss) (cells_of us)) us =
+    let rollups : vs ≡ with_all_grid_cells (all_moved rs s.column (points_below mark s.points) (facts_left mark s.column cs ss) (cells_of us)) us =
     moved cs s.column held.each held.sound.columns_once have index_is.0 (subst (λ (ps : List (ℤ × ℤ)). FreezeFit rs s.column (points_below mark ps) (cells_of us)) points fit)
-    ∙ ap (λ (ps : List (ℤ × ℤ)). with_frozen_all (all_moved rs s.column (points_below mark ps) (facts_left mark s.column cs ss) (cells_of us)) us) (sym points) in
+    ∙ ap (λ (ps : List (ℤ × ℤ)). with_all_grid_cells (all_moved rs s.column (points_below mark ps) (facts_left mark s.column cs ss) (cells_of us)) us) (sym points) in
     λ i. record { series = index.series; columns = columns i; rollups = rollups i }

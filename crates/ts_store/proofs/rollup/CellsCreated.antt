@@ -22,7 +22,7 @@ use Rattle.ts_cells.proofs.GridMoves.{get-inserted_if_absent}
 use Rattle.ts_store.specs.image.BuildingParts.{MakesCells}
 use Rattle.ts_store.specs.store.CellIndices.{IsBucketIndex, HasIndices}
 use Rattle.ts_store.specs.write.LinesPut.{OfEachRule, IsOfFacts, GainsCells}
-use Rattle.ts_store.specs.rollup.Rollups.{RollupState, IsRollupSeriesOf, rollup_series_under, cells_of, with_frozen, cell_created_in}
+use Rattle.ts_store.specs.rollup.Rollups.{RollupState, IsRollupSeriesOf, rollup_series_under, cells_of, with_grid_cells, cell_created_in}
 use Rattle.ts_store.proofs.write.CellsMade.{each_same, each_more, gains_nothing}
 use Rattle.ts_store.proofs.store.ColumnsLemmas.{in_column}
 use Rattle.ts_store.proofs.write.CellsCreatedLemmas.{roomy_there}
@@ -216,7 +216,7 @@ each_made-more P (Ok x) r rs rs' low lows lows' s t ss ts ss' d e f one others =
 
 -- ---- under the rollup series of a rule, which stay
 
-pub cell_created_in-series : (before s : RollupState) (l : ℕ) (r : Rule) (c : Column) (index : ℤ) → s ≡ with_frozen s.grid.cells before → IsRollupSeriesOf r c before.grid.series_list (Some l)
+pub cell_created_in-series : (before s : RollupState) (l : ℕ) (r : Rule) (c : Column) (index : ℤ) → s ≡ with_grid_cells s.grid.cells before → IsRollupSeriesOf r c before.grid.series_list (Some l)
     → cell_created_in s (Some l) index ≡ inserted_if_absent s.grid.cells (cell_at index (rollup_series_under r c)) no_parts
 cell_created_in-series before s l r c index e is =
     let key : get_or s.grid.series_list l no_rollup_series ≡ rollup_series_under r c = ap (λ (x : RollupState). get_or x.grid.series_list l no_rollup_series) e ∙ get_or_from_slice_get before.grid.series_list l (rollup_series_under r c) no_rollup_series is.1 in

@@ -24,7 +24,7 @@ use Rattle.ts_store.specs.store.CellIndices.{HaveIndices}
 use Rattle.ts_store.specs.store.ColumnStates.{IsSoundContent, content_of, columns_in, with_points, point_maps}
 use Rattle.ts_store.specs.write.LinesPut.{OfEachRule, IsOfFacts, PutsCells}
 use Rattle.ts_store.specs.rollup.Rollups.{RollupState, AreRollups, HaveRollupSeries, IsRollupSeriesOf, rollup_series_at, cells_of}
-use Rattle.ts_store.specs.retain.RollupSteps.{with_frozen_all}
+use Rattle.ts_store.specs.retain.RollupSteps.{with_all_grid_cells}
 use Rattle.ts_store.proofs.store.ColumnsLemmas.{known_of, names_held, facts-distinct}
 use Rattle.ts_store.proofs.write.PointsPut.{series_list_then}
 use Rattle.ts_store.proofs.retain.RollupMoves.{rollups_with}
@@ -289,7 +289,7 @@ module _ (rs : List Rule) (lows : List ℤ) (index : Indexed) (ss : List ColumnS
   names : AreRollups rs index.columns us
   names = subst (λ (cs : List Column). AreRollups rs cs us) (names_held index ss held.each) rollups
 
-  pub all_fill : vs ≡ with_frozen_all (cells_of vs) us → ws ≡ with_frozen_all (cells_of ws) vs → Makes rs lows vs ss us → KeepFrozen (cells_of vs) (cells_of ws) → Adds rs ws ss vs
+  pub all_fill : vs ≡ with_all_grid_cells (cells_of vs) us → ws ≡ with_all_grid_cells (cells_of ws) vs → Makes rs lows vs ss us → KeepFrozen (cells_of vs) (cells_of ws) → Adds rs ws ss vs
       → FillsCells rs lows (content_of index ss us) (content_of index ss ws)
   all_fill one two make frozen add =
       let facts : List Fact = facts_of (columns_in index ss) in

@@ -26,8 +26,8 @@ use Rattle.ts_store.specs.store.ColumnStates.{IsSoundContent, content_of, column
 use Rattle.ts_store.specs.store.Inventories.{AreFilled}
 use Rattle.ts_store.specs.write.LinesPut.{IsOfFacts, PutsCells}
 use Rattle.ts_store.specs.rules.RuleRollups.{HasFirstRollupSeries, IsRollupOf}
-use Rattle.ts_store.specs.rollup.Rollups.{RollupState, HaveRollupSeries, KeepsCells, HasNext, cells_of, new_rollup, joined_rollup_series, with_next, with_frozen}
-use Rattle.ts_store.specs.retain.RollupSteps.{with_frozen_all}
+use Rattle.ts_store.specs.rollup.Rollups.{RollupState, HaveRollupSeries, KeepsCells, HasNext, cells_of, new_rollup, joined_rollup_series, with_next, with_grid_cells}
+use Rattle.ts_store.specs.retain.RollupSteps.{with_all_grid_cells}
 use Rattle.ts_store.proofs.store.ColumnsLemmas.{names_held}
 use Rattle.ts_store.proofs.write.PointsPut.{series_list_then}
 use Rattle.ts_store.proofs.rollup.RollupsGrow.{series_list_kept, series_list_push}
@@ -80,7 +80,7 @@ no_indices : (r : Rule) → HasIndices r finmap.empty
 no_indices r = λ k a. absurd (key_not finmap.empty k a (get-empty cell_cmp k))
 
 pub rollup_made : (index : Indexed) (ss : List ColumnState) (us : List RollupState) (r : Rule) (low : ℤ) (s t : RollupState) → IsSoundContent index ss → HasFirstRollupSeries r index.columns (length index.columns) s
-    → t ≡ with_frozen t.grid.cells s → FillsCells (r ∷ []) (low ∷ []) (content_of index ss (s ∷ [])) (content_of index ss (t ∷ [])) → IsRollupOf (content_of index ss us) r low t
+    → t ≡ with_grid_cells t.grid.cells s → FillsCells (r ∷ []) (low ∷ []) (content_of index ss (s ∷ [])) (content_of index ss (t ∷ [])) → IsRollupOf (content_of index ss us) r low t
 rollup_made index ss us r low s t held first same fills =
     let facts : List Fact = facts_of (content_of index ss us).columns in
     let puts : PutsCells facts r low finmap.empty t.grid.cells = subst (λ (m : CellMap). PutsCells facts r low m t.grid.cells) first.cells (fills.cells.1 0 r low s.grid.cells t.grid.cells refl refl refl refl) in
@@ -103,12 +103,12 @@ pub alone_wide : (n : ℕ) (s : RollupState) (us : List RollupState) → us ≡ 
 alone_wide n s us e wide = subst (AllByRecursion (λ (u : RollupState). length u.series_list ≡ n)) (sym e) (wide, tt)
 
 pub alone_made : (index : Indexed) (ss : List ColumnState) (us : List RollupState) (r : Rule) (low : ℤ) (s t : RollupState) (vs ws : List RollupState) → IsSoundContent index ss → HasFirstRollupSeries r index.columns (length index.columns) s
-    → vs ≡ with_frozen_all (cells_of vs) (s ∷ []) → ws ≡ with_frozen_all (cells_of ws) vs → Makes (r ∷ []) (low ∷ []) vs ss (s ∷ []) → KeepFrozen (cells_of vs) (cells_of ws) → Adds (r ∷ []) ws ss vs → ws ≡ t ∷ [] → IsRollupOf (content_of index ss us) r low t
+    → vs ≡ with_all_grid_cells (cells_of vs) (s ∷ []) → ws ≡ with_all_grid_cells (cells_of ws) vs → Makes (r ∷ []) (low ∷ []) vs ss (s ∷ []) → KeepFrozen (cells_of vs) (cells_of ws) → Adds (r ∷ []) ws ss vs → ws ≡ t ∷ [] → IsRollupOf (content_of index ss us) r low t
 alone_made index ss us r low s t vs ws held first one two make frozen add only =
     let series_list : HaveRollupSeries r s.grid.series_list index.columns s.series_list = subst (λ (cs : List Column). HaveRollupSeries r s.grid.series_list cs s.series_list) (take-length index.columns) first.series_list in
     let named : HaveRollupSeries r s.grid.series_list (map column_of (columns_in index ss)) s.series_list = subst (λ (cs : List Column). HaveRollupSeries r s.grid.series_list cs s.series_list) (sym (names_held index ss held.each)) series_list in
     let idle : AreIdle (cells_of (s ∷ [])) = (λ k p e. absurd (none-some p (sym (ap (λ (m : CellMap). finmap.get m k) first.cells ∙ get-empty cell_cmp k) ∙ e)), tt) in
     let fills : FillsCells (r ∷ []) (low ∷ []) (content_of index ss (s ∷ [])) (content_of index ss ws) = all_fill (r ∷ []) (low ∷ []) index ss (s ∷ []) vs ws held refl (named, tt) idle one two make frozen add in
-    let same : t ≡ with_frozen t.grid.cells s =
-    same_head t (with_frozen t.grid.cells s) [] [] (sym only ∙ series_list_then (s ∷ []) vs ws one two ∙ ap (λ (xs : List RollupState). with_frozen_all (cells_of xs) (s ∷ [])) only) in
+    let same : t ≡ with_grid_cells t.grid.cells s =
+    same_head t (with_grid_cells t.grid.cells s) [] [] (sym only ∙ series_list_then (s ∷ []) vs ws one two ∙ ap (λ (xs : List RollupState). with_all_grid_cells (cells_of xs) (s ∷ [])) only) in
     rollup_made index ss us r low s t held first same (subst (λ (xs : List RollupState). FillsCells (r ∷ []) (low ∷ []) (content_of index ss (s ∷ [])) (content_of index ss xs)) only fills)

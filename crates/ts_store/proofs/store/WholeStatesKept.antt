@@ -8,7 +8,7 @@ use Rattle.ts_core.specs.store.StoreData.{StoreData, GoesOn}
 use Rattle.ts_core.specs.moves.RuleMoves.{kept_beside}
 use Rattle.ts_core.specs.declared.facts.time_unit.TimeUnit.{TimeUnit}
 use Rattle.ts_store.specs.store.Inventories.{Inventory, inventory_of, facts_of_text, GrowsAfter, steps_in, StepsTo}
-use Rattle.ts_store.specs.store.WholeStates.{WholeState, IsWholeStateOf, rules_in, lows_in, left_in, is_last, with_step, StepsOnce, TakesSteps, AddsRuleTo, without_rule, LineWrites}
+use Rattle.ts_store.specs.store.WholeStates.{WholeState, IsWholeStateOf, rules_in, lows_in, left_in, is_last, with_step, StepsOnce, TakesSteps, AddsRuleTo, state_without_rule, LineWrites}
 use Rattle.ts_store.specs.write.LineTexts.{LineState, IsStateOf, parts_in, WritesFrom}
 use Rattle.ts_store.specs.retain.WholeRuns.{TakesStep}
 use Rattle.ts_store.specs.read.PointsRead.{all_raw}
@@ -98,7 +98,7 @@ rule_added s old new r low i c =
     (subst (λ (l : ℤ). GainsRule (all_raw old.waiting s.store.opening s.store.history) r l (inventory_of old) (inventory_of new)) came.0 (rule_gained s.store old new r low i.store c)) in
     (came.0, (record { store = with_rule_added r s.store; inventory = inventory_of new }, record { store = refl; cells = gains }, record { store = came.1; inventory = refl }))
 
-pub rule_dropped : (s : WholeState) (old new : StoreData) (name : Text) → IsWholeStateOf s old → RuleGoes old new name → IsWholeStateOf (without_rule name s) new
+pub rule_dropped : (s : WholeState) (old new : StoreData) (name : Text) → IsWholeStateOf s old → RuleGoes old new name → IsWholeStateOf (state_without_rule name s) new
 rule_dropped s old new name i c =
     let left : inventory_of new ≡ record { columns = (inventory_of old).columns; waiting = (inventory_of old).waiting; cells = kept_beside (is_unnamed name) old.settings.rules (inventory_of old).cells } =
     λ j. record { columns = c.columns j; waiting = c.waiting j; cells = c.cells j } in

@@ -18,7 +18,7 @@ use Rattle.ts_core.proofs.plans.PieceCells.{same_cell-eq, same_cell-refl}
 use Rattle.ts_cells.specs.CellChanges.{inserted_if_absent}
 use Rattle.ts_cells.specs.Grids.{RollupSeries, no_rollup_series, cell_at, cell_in}
 use Rattle.ts_cells.proofs.GridMoves.{get-inserted_if_absent}
-use Rattle.ts_store.specs.rollup.Rollups.{RollupState, cells_of, rollup_series_under, IsRollupSeriesOf, HaveRollupSeries, AreRollups, with_frozen, cell_created_in, rollup_series_at}
+use Rattle.ts_store.specs.rollup.Rollups.{RollupState, cells_of, rollup_series_under, IsRollupSeriesOf, HaveRollupSeries, AreRollups, with_grid_cells, cell_created_in, rollup_series_at}
 use Rattle.ts_store.specs.write.CellsCreated.{cells_created_for, cells_created_from, cells_created_under, IsCreatedInPart, AreCreatedInPart, KeepRollupSeries}
 
 -- the facts are of the columns of these numbers, and of one time
@@ -108,7 +108,7 @@ all_roomed r low cs time [] [] s above h a = room_same r low s.grid.cells
 all_roomed r low cs time [] (f ∷ fs) s above h a = absurd a
 all_roomed r low cs time (n ∷ ns) [] s above h a = absurd a
 all_roomed r low cs time (n ∷ ns) (f ∷ fs) s above h a =
-    let t : RollupState = with_frozen (cell_created_in s (rollup_series_at s n) (index_of r time)) s in
+    let t : RollupState = with_grid_cells (cell_created_in s (rollup_series_at s n) (index_of r time)) s in
     let its : low ≤ℤ index_of r f.time = subst (λ (z : ℤ). low ≤ℤ index_of r z) (sym a.1) above in
     let one : GainsEmptyCells r low (f ∷ []) s.grid.cells t.grid.cells =
     subst (λ (z : ℤ). GainsEmptyCells r low (f ∷ []) s.grid.cells (cell_created_in s (rollup_series_at s n) (index_of r z))) a.1 (rollup_series_capacity r low s (rollup_series_at s n) f its (rollup_series_known r s.grid.series_list cs s.series_list n f.column h a.0)) in
@@ -192,14 +192,14 @@ rollups_stay (r ∷ rs) cs (s ∷ ss) (t ∷ ts) h k = (
 -- first some columns, then others
 roomed_more : (index : ℤ) (ns ms : List ℕ) (s : RollupState) → cells_created_for index (ns ++ ms) s ≡ cells_created_for index ms (cells_created_for index ns s)
 roomed_more index [] ms s = refl
-roomed_more index (n ∷ ns) ms s = roomed_more index ns ms (with_frozen (cell_created_in s (rollup_series_at s n) index) s)
+roomed_more index (n ∷ ns) ms s = roomed_more index ns ms (with_grid_cells (cell_created_in s (rollup_series_at s n) index) s)
 
 -- room for one column more
-pub next_roomed : (s t u : RollupState) (index : ℤ) (ns : List ℕ) (i n : ℕ) → i < length ns → n ≡ get_or ns i 0 → u ≡ with_frozen (cell_created_in t (rollup_series_at t n) index) t → t ≡ with_frozen t.grid.cells s → t ≡ cells_created_for index (take i ns) s
-    → (u ≡ with_frozen u.grid.cells s) × (u ≡ cells_created_for index (take (i + 1) ns) s)
+pub next_roomed : (s t u : RollupState) (index : ℤ) (ns : List ℕ) (i n : ℕ) → i < length ns → n ≡ get_or ns i 0 → u ≡ with_grid_cells (cell_created_in t (rollup_series_at t n) index) t → t ≡ with_grid_cells t.grid.cells s → t ≡ cells_created_for index (take i ns) s
+    → (u ≡ with_grid_cells u.grid.cells s) × (u ≡ cells_created_for index (take (i + 1) ns) s)
 next_roomed s t u index ns i n within at made kept before =
     let cells : u.grid.cells ≡ cell_created_in t (rollup_series_at t n) index = ap (λ (x : RollupState). x.grid.cells) made in (
-      made ∙ ap (with_frozen (cell_created_in t (rollup_series_at t n) index)) kept ∙ ap (λ m. with_frozen m s) (sym cells),
+      made ∙ ap (with_grid_cells (cell_created_in t (rollup_series_at t n) index)) kept ∙ ap (λ m. with_grid_cells m s) (sym cells),
       made ∙ ap (cells_created_for index (n ∷ [])) before ∙ sym (roomed_more index (take i ns) (n ∷ []) s)
           ∙ ap (λ ms. cells_created_for index ms s) (ap (λ m. take i ns ++ m ∷ []) at ∙ sym (take_more ns i 0 within)),
     )
@@ -262,7 +262,7 @@ room_stays (Err x) r low rs rs' lows lows' time ns s t ss ss' ts e d f made has_
 kept_rooms : (r : Rule) (low index : ℤ) (ns : List ℕ) (s : RollupState) → low ≤ℤ index → GainsEmptyCells r low [] s.grid.cells (cells_created_for index ns s).grid.cells
 kept_rooms r low index [] s above = room_same r low s.grid.cells
 kept_rooms r low index (n ∷ ns) s above =
-    room_then r low [] s.grid.cells (cell_created_in s (rollup_series_at s n) index) (cells_created_for index (n ∷ ns) s).grid.cells (roomed_room r low s (rollup_series_at s n) index above) (kept_rooms r low index ns (with_frozen (cell_created_in s (rollup_series_at s n) index) s) above)
+    room_then r low [] s.grid.cells (cell_created_in s (rollup_series_at s n) index) (cells_created_for index (n ∷ ns) s).grid.cells (roomed_room r low s (rollup_series_at s n) index above) (kept_rooms r low index ns (with_grid_cells (cell_created_in s (rollup_series_at s n) index) s) above)
 
 kept_from : (r : Rule) (low index : ℤ) (ns : List ℕ) (s : RollupState) → GainsEmptyCells r low [] s.grid.cells (cells_created_from low index ns s).grid.cells
 kept_from r low index ns s =

@@ -20,7 +20,7 @@ use Rattle.ts_core.proofs.plans.PieceCells.{same_cell-eq, same_cell-refl}
 use Rattle.ts_cells.specs.Grids.{no_rollup_series, cell_at, cell_in}
 use Rattle.ts_cells.proofs.GridMoves.{get-inserted_if_absent}
 use Rattle.ts_store.specs.write.LinesPut.{OfEachRule, IsOfFacts, PutsCells, GainsCells}
-use Rattle.ts_store.specs.rollup.Rollups.{RollupState, cells_of, rollup_series_under, IsRollupSeriesOf, HaveRollupSeries, AreRollups, with_frozen, cell_created_in, rollup_series_at}
+use Rattle.ts_store.specs.rollup.Rollups.{RollupState, cells_of, rollup_series_under, IsRollupSeriesOf, HaveRollupSeries, AreRollups, with_grid_cells, cell_created_in, rollup_series_at}
 use Rattle.ts_store.specs.write.CellsCreated.{cells_created_for, cells_created_from, AreCreatedInPart}
 use Rattle.ts_store.proofs.write.CellsCreatedLemmas.{AreAt, rollup_series_known}
 
@@ -71,12 +71,12 @@ one_made s (Some l) index k p none some =
 
 all_kept : (index : ℤ) (ns : List ℕ) (s : RollupState) (k : Cell) (p : CellParts) → finmap.get s.grid.cells k ≡ Some p → finmap.get (cells_created_for index ns s).grid.cells k ≡ Some p
 all_kept index [] s k p e = e
-all_kept index (n ∷ ns) s k p e = all_kept index ns (with_frozen (cell_created_in s (rollup_series_at s n) index) s) k p (one_kept s (rollup_series_at s n) index k p e)
+all_kept index (n ∷ ns) s k p e = all_kept index ns (with_grid_cells (cell_created_in s (rollup_series_at s n) index) s) k p (one_kept s (rollup_series_at s n) index k p e)
 
 all_made : (index : ℤ) (ns : List ℕ) (s : RollupState) (k : Cell) (p : CellParts) → finmap.get s.grid.cells k ≡ None → finmap.get (cells_created_for index ns s).grid.cells k ≡ Some p → (p ≡ no_parts) × IsCellAt s index ns k
 all_made index [] s k p none some = absurd (none-some p (sym none ∙ some))
 all_made index (n ∷ ns) s k p none some =
-    let t : RollupState = with_frozen (cell_created_in s (rollup_series_at s n) index) s in
+    let t : RollupState = with_grid_cells (cell_created_in s (rollup_series_at s n) index) s in
     elim (finmap.get t.grid.cells k) as (λ o. finmap.get t.grid.cells k ≡ o → (p ≡ no_parts) × IsCellAt s index (n ∷ ns) k) [
       | None ↦ λ e. let later = all_made index ns t k p e some in (later.0, (later.1.0, inr later.1.1, later.1.2, later.1.3, later.1.4))
       | Some x ↦ λ e.

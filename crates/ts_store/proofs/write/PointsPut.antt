@@ -26,8 +26,8 @@ use Rattle.ts_raw.specs.Columns.{PointMap, ColumnState}
 use Rattle.ts_store.specs.store.ColumnStates.{facts_in, facts_of_columns, with_points, point_maps, no_column, with_staged, committed, all_committed, AreReady, AreStaged}
 use Rattle.ts_store.specs.write.LivePuts.{IsOver, WasThere, IsLivePut, AreOfFields}
 use Rattle.ts_store.specs.read.PointsRead.{number_of_points}
-use Rattle.ts_store.specs.rollup.Rollups.{RollupState, IsRollupSeriesOf, AreRollups, rollup_series_at, with_frozen, cells_of}
-use Rattle.ts_store.specs.retain.RollupSteps.{with_frozen_all}
+use Rattle.ts_store.specs.rollup.Rollups.{RollupState, IsRollupSeriesOf, AreRollups, rollup_series_at, with_grid_cells, cells_of}
+use Rattle.ts_store.specs.retain.RollupSteps.{with_all_grid_cells}
 use Rattle.ts_store.proofs.write.StagedColumns.{points_at, one_committed, staged_others, same_names, ready_others, committed_is}
 use Rattle.ts_store.proofs.store.ColumnsLemmas.{in_column, column_among, to_column, facts-distinct}
 use Rattle.ts_store.proofs.read.ColumnsReads.{facts-length}
@@ -186,26 +186,26 @@ all_put-more r rs rs' cs states before f facts s t ss ts ss' d e a live each onc
     ap₂ (λ (m : CellMap) (ms : List CellMap). m ∷ ms) (one (record { each = each; once = once; series_list = a'.0 }) (live'.0, tt)) (others a'.1 live'.1)
     ∙ sym (ap₂ (λ (qs : List Rule) (us : List RollupState). put_cells qs f facts (cells_of us)) d e)
 
-pub series_list_more : (s t : RollupState) (ss ts ss' : List RollupState) → ss' ≡ s ∷ ss → t ≡ with_frozen t.grid.cells s → ts ≡ with_frozen_all (cells_of ts) ss → t ∷ ts ≡ with_frozen_all (cells_of (t ∷ ts)) ss'
-series_list_more s t ss ts ss' e one others = ap₂ (λ (u : RollupState) (us : List RollupState). u ∷ us) one others ∙ sym (ap (with_frozen_all (cells_of (t ∷ ts))) e)
+pub series_list_more : (s t : RollupState) (ss ts ss' : List RollupState) → ss' ≡ s ∷ ss → t ≡ with_grid_cells t.grid.cells s → ts ≡ with_all_grid_cells (cells_of ts) ss → t ∷ ts ≡ with_all_grid_cells (cells_of (t ∷ ts)) ss'
+series_list_more s t ss ts ss' e one others = ap₂ (λ (u : RollupState) (us : List RollupState). u ∷ us) one others ∙ sym (ap (with_all_grid_cells (cells_of (t ∷ ts))) e)
 
-pub series_list_then : (ss ts us : List RollupState) → ts ≡ with_frozen_all (cells_of ts) ss → us ≡ with_frozen_all (cells_of us) ts → us ≡ with_frozen_all (cells_of us) ss
-series_list_then [] ts us e f = f ∙ ap (with_frozen_all (cells_of us)) e
+pub series_list_then : (ss ts us : List RollupState) → ts ≡ with_all_grid_cells (cells_of ts) ss → us ≡ with_all_grid_cells (cells_of us) ts → us ≡ with_all_grid_cells (cells_of us) ss
+series_list_then [] ts us e f = f ∙ ap (with_all_grid_cells (cells_of us)) e
 series_list_then (s ∷ ss) [] us e f = absurd (let n : 0 ≡ length (s ∷ ss) = ap (λ (xs : List RollupState). length xs) e in omega (arith, n))
 series_list_then (s ∷ ss) (t ∷ ts) [] e f = absurd (let n : 0 ≡ length (t ∷ ts) = ap (λ (xs : List RollupState). length xs) f in omega (arith, n))
 series_list_then (s ∷ ss) (t ∷ ts) (u ∷ us) e f =
     let head : (xs : List RollupState) → RollupState = λ xs. get_or xs 0 s in
-    let one : t ≡ with_frozen t.grid.cells s = ap head e in
-    let two : u ≡ with_frozen u.grid.cells t = ap head f in
-    ap₂ (λ (x : RollupState) (xs : List RollupState). x ∷ xs) (two ∙ ap (with_frozen u.grid.cells) one) (series_list_then ss ts us (ap (λ (xs : List RollupState). drop 1 xs) e) (ap (λ (xs : List RollupState). drop 1 xs) f))
+    let one : t ≡ with_grid_cells t.grid.cells s = ap head e in
+    let two : u ≡ with_grid_cells u.grid.cells t = ap head f in
+    ap₂ (λ (x : RollupState) (xs : List RollupState). x ∷ xs) (two ∙ ap (with_grid_cells u.grid.cells) one) (series_list_then ss ts us (ap (λ (xs : List RollupState). drop 1 xs) e) (ap (λ (xs : List RollupState). drop 1 xs) f))
 
-wide_with : (n : ℕ) (ms : List CellMap) (ss : List RollupState) → AllByRecursion (λ (s : RollupState). length s.series_list ≡ n) ss → AllByRecursion (λ (s : RollupState). length s.series_list ≡ n) (with_frozen_all ms ss)
+wide_with : (n : ℕ) (ms : List CellMap) (ss : List RollupState) → AllByRecursion (λ (s : RollupState). length s.series_list ≡ n) ss → AllByRecursion (λ (s : RollupState). length s.series_list ≡ n) (with_all_grid_cells ms ss)
 wide_with n ms [] all = tt
 wide_with n [] (s ∷ ss) all = all
 wide_with n (m ∷ ms) (s ∷ ss) all = (all.0, wide_with n ms ss all.1)
 
 -- each has as many columns as before
-pub wide_still : (n : ℕ) (ss ts : List RollupState) → ts ≡ with_frozen_all (cells_of ts) ss → AllByRecursion (λ (s : RollupState). length s.series_list ≡ n) ss → AllByRecursion (λ (s : RollupState). length s.series_list ≡ n) ts
+pub wide_still : (n : ℕ) (ss ts : List RollupState) → ts ≡ with_all_grid_cells (cells_of ts) ss → AllByRecursion (λ (s : RollupState). length s.series_list ≡ n) ss → AllByRecursion (λ (s : RollupState). length s.series_list ≡ n) ts
 wide_still n ss ts e all = subst (AllByRecursion (λ (s : RollupState). length s.series_list ≡ n)) (sym e) (wide_with n (cells_of ts) ss all)
 
 -- ---- one after another
@@ -236,7 +236,7 @@ next_ready ss ss' n ns ns' e is ready few =
     )
 
 line_puts : (rs : List Rule) (cs : List Column) (ss ss' : List ColumnState) (n : ℕ) (ns ns' : List ℕ) (x : LinePart × ℤ) (xs xs' : List (LinePart × ℤ)) (time value : ℤ) (after : List ColumnPoints) (us us' : List RollupState) (ends : List CellMap) (fs : List Fact)
-    → ns' ≡ n ∷ ns → xs' ≡ x ∷ xs → value ≡ x.1 → ss' ≡ set ss n (committed (get_or ss n no_column)) → us' ≡ with_frozen_all (cells_of us') us → (Among n ns → ⊥)
+    → ns' ≡ n ∷ ns → xs' ≡ x ∷ xs → value ≡ x.1 → ss' ≡ set ss n (committed (get_or ss n no_column)) → us' ≡ with_all_grid_cells (cells_of us') us → (Among n ns → ⊥)
     → AreOfFields time xs' fs → length ss ≡ length cs → AllDistinct cs → AreRollups rs cs us → AreStaged cs ss ns' fs → AreLive (with_points cs (point_maps ss)) rs (cells_of us)
     → ((f : Fact) → f.time ≡ time → f.value ≡ value → AreStaged cs ss (n ∷ []) (f ∷ []) → cells_of us' ≡ put_cells rs f (facts_of (with_points cs (point_maps ss'))) (cells_of us))
     → ((gs : List Fact) → AreOfFields time xs gs → length ss' ≡ length cs → AreRollups rs cs us' → AreStaged cs ss' ns gs → AreLive (with_points cs (point_maps ss')) rs (cells_of us') → PutsFacts rs (with_points cs (point_maps ss')) (cells_of us') after ends gs)
@@ -264,7 +264,7 @@ none_puts rs cs ss (n ∷ ns) columns ms fs e a = absurd (let z : ⊥ = omega ar
 
 -- the next of them is put, and then the others
 pub rest_put : (rs : List Rule) (time : ℤ) (cs : List Column) (ss ss' : List ColumnState) (us us' : List RollupState) (n : ℕ) (ns ns' : List ℕ) (x : LinePart × ℤ) (xs xs' : List (LinePart × ℤ)) (value : ℤ) (after : List ColumnPoints) (ends : List CellMap)
-    → ns' ≡ n ∷ ns → xs' ≡ x ∷ xs → value ≡ x.1 → ss' ≡ set ss n (committed (get_or ss n no_column)) → us' ≡ with_frozen_all (cells_of us') us → (Among n ns → ⊥) → AllDistinct cs
+    → ns' ≡ n ∷ ns → xs' ≡ x ∷ xs → value ≡ x.1 → ss' ≡ set ss n (committed (get_or ss n no_column)) → us' ≡ with_all_grid_cells (cells_of us') us → (Among n ns → ⊥) → AllDistinct cs
     → ((f : Fact) → f.time ≡ time → f.value ≡ value → length ss ≡ length cs → AreRollups rs cs us → AreStaged cs ss (n ∷ []) (f ∷ []) → AreLive (with_points cs (point_maps ss)) rs (cells_of us) → cells_of us' ≡ put_cells rs f (facts_of (with_points cs (point_maps ss'))) (cells_of us))
     → PutsRest rs time ns xs cs ss' us' after ends → PutsRest rs time ns' xs' cs ss us after ends
 rest_put rs time cs ss ss' us us' n ns ns' x xs xs' value after ends e d v is series_list away once one others = λ gs fields each have staged live.

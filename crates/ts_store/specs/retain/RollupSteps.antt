@@ -9,16 +9,16 @@ use Rattle.ts_core.specs.moves.StoreMoves.{all_moved, points_below, kept_points}
 use Rattle.ts_store.specs.store.CellCounts.{frozen_count}
 use Rattle.ts_raw.specs.Columns.{ColumnState}
 use Rattle.ts_store.specs.store.ColumnStates.{StoreContent, with_points, point_maps}
-use Rattle.ts_store.specs.rollup.Rollups.{RollupState, with_frozen, cells_of}
+use Rattle.ts_store.specs.rollup.Rollups.{RollupState, with_grid_cells, cells_of}
 
 -- other cells for each rule, under the same rollup series
-abbrev pub with_frozen_all : List CellMap → List RollupState → List RollupState
-with_frozen_all ms [] = []
-with_frozen_all [] (s ∷ ss) = s ∷ ss
-with_frozen_all (m ∷ ms) (s ∷ ss) = with_frozen m s ∷ with_frozen_all ms ss
+abbrev pub with_all_grid_cells : List CellMap → List RollupState → List RollupState
+with_all_grid_cells ms [] = []
+with_all_grid_cells [] (s ∷ ss) = s ∷ ss
+with_all_grid_cells (m ∷ ms) (s ∷ ss) = with_grid_cells m s ∷ with_all_grid_cells ms ss
 
 abbrev pub content_with_cells : List CellMap → StoreContent → StoreContent
-content_with_cells ms held = record { series = held.series; columns = held.columns; rollups = with_frozen_all ms held.rollups }
+content_with_cells ms held = record { series = held.series; columns = held.columns; rollups = with_all_grid_cells ms held.rollups }
 
 -- ---- a column is moved
 
@@ -46,5 +46,5 @@ abbrev pub content_moved : List Rule → ColumnPoints → ℤ → StoreContent �
 content_moved rs s mark held = record {
   series = held.series;
   columns = map (kept_points s.column mark) held.columns;
-  rollups = with_frozen_all (all_moved rs s.column (points_below mark s.points) (facts_of (map (kept_points s.column mark) held.columns)) (cells_of held.rollups)) held.rollups;
+  rollups = with_all_grid_cells (all_moved rs s.column (points_below mark s.points) (facts_of (map (kept_points s.column mark) held.columns)) (cells_of held.rollups)) held.rollups;
 }

@@ -136,8 +136,8 @@ with_next s = record { grid = s.grid; series_list = joined_rollup_series s.serie
 -- ---- cells
 
 -- replaces the cells; the rollup series stay
-abbrev pub with_frozen : CellMap → RollupState → RollupState
-with_frozen m s = record { grid = record { series_list = s.grid.series_list; cells = m }; series_list = s.series_list; next = s.next }
+abbrev pub with_grid_cells : CellMap → RollupState → RollupState
+with_grid_cells m s = record { grid = record { series_list = s.grid.series_list; cells = m }; series_list = s.series_list; next = s.next }
 
 -- creates the cell of a bucket in a rollup series unless it exists; does nothing without a rollup series
 abbrev pub cell_created_in : RollupState → Option ℕ → ℤ → CellMap

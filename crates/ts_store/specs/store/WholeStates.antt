@@ -88,5 +88,5 @@ pub record AddsRuleTo (old : WholeState) (r : Rule) (new : WholeState) : Type 0 
   pub cells : GainsRule (all_raw old.inventory.waiting old.store.opening old.store.history) r (low_in old.store r) old.inventory new.inventory
 
 -- the rule with this name is dropped with its cells, and no other cell goes
-abbrev pub without_rule : Text → WholeState → WholeState
-without_rule name s = record { store = with_rule_dropped name s.store; inventory = record s.inventory { cells = kept_beside (is_unnamed name) (rules_in s) s.inventory.cells } }
+abbrev pub state_without_rule : Text → WholeState → WholeState
+state_without_rule name s = record { store = with_rule_dropped name s.store; inventory = record s.inventory { cells = kept_beside (is_unnamed name) (rules_in s) s.inventory.cells } }

@@ -2,12 +2,12 @@
 use Rattle.std.specs.Prelude.{◌≡◌, ℕ, ℤ, int_lt, List, [], ◌∷◌, take, if◌then◌else◌}
 use Rattle.ts_core.specs.settings.Settings.{Rule}
 use Rattle.ts_core.specs.store.Marks.{index_of}
-use Rattle.ts_store.specs.rollup.Rollups.{RollupState, with_frozen, cell_created_in, rollup_series_at}
+use Rattle.ts_store.specs.rollup.Rollups.{RollupState, with_grid_cells, cell_created_in, rollup_series_at}
 
 -- with the cells of a bucket, column after column
 abbrev pub cells_created_for : ℤ → List ℕ → RollupState → RollupState
 cells_created_for index [] s = s
-cells_created_for index (n ∷ ns) s = cells_created_for index ns (with_frozen (cell_created_in s (rollup_series_at s n) index) s)
+cells_created_for index (n ∷ ns) s = cells_created_for index ns (with_grid_cells (cell_created_in s (rollup_series_at s n) index) s)
 
 -- from a low index on
 abbrev pub cells_created_from : ℤ → ℤ → List ℕ → RollupState → RollupState
@@ -37,4 +37,4 @@ abbrev pub KeepRollupSeries : List RollupState → List RollupState → Type 0
 KeepRollupSeries [] [] = Unit {0}
 KeepRollupSeries [] (t ∷ ts) = ⊥
 KeepRollupSeries (s ∷ ss) [] = ⊥
-KeepRollupSeries (s ∷ ss) (t ∷ ts) = (t ≡ with_frozen t.grid.cells s) × KeepRollupSeries ss ts
+KeepRollupSeries (s ∷ ss) (t ∷ ts) = (t ≡ with_grid_cells t.grid.cells s) × KeepRollupSeries ss ts

@@ -7,7 +7,7 @@ ghost use Rattle.ts_core.specs.moves.StoreMoves.{points_below};
 ghost use Rattle.ts_core.specs.lists.Numbered.{IsAt};
 ghost use Rattle.ts_store.specs.read.PointsRead.{HasRisingPoints};
 ghost use Rattle.ts_store.specs.rollup.Rollups.{AreRollups, cells_of};
-ghost use Rattle.ts_store.specs.retain.RollupSteps.{with_frozen_all, content_with_cells, FreezeFit, content_moved};
+ghost use Rattle.ts_store.specs.retain.RollupSteps.{with_all_grid_cells, content_with_cells, FreezeFit, content_moved};
 ghost use Rattle.ts_store.specs.retain.WholeRuns.{AreAbove, FirstLoses};
 
 use crate::retain::freezing::move_all;
@@ -19,7 +19,7 @@ use ts_raw::Column as _;
 
 /// Removes up to 256 cells below the low index of the first rule that has such cells. Returns true if there were any.
 fn expire_first<A: Allocator + Copy>(rollups: &mut [Rollup<A>], lows: &[i128]) -> bool
-    ensures series_list { rollups.new ≡ with_frozen_all (cells_of rollups.new) rollups.old }
+    ensures series_list { rollups.new ≡ with_all_grid_cells (cells_of rollups.new) rollups.old }
     ensures some { OnTrue result (FirstLoses lows.now (cells_of rollups.old) (cells_of rollups.new)) }
     ensures none { OnFalse result ((rollups.new ≡ rollups.old) × AreAbove lows.now (cells_of rollups.old)) }
 {

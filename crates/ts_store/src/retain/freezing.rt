@@ -5,12 +5,12 @@ ghost use Rattle.std.specs.List.{AllByRecursion};
 ghost use Rattle.ts_core.specs.facts.Facts.{Column};
 ghost use Rattle.ts_core.specs.moves.StoreMoves.{frozen_points, refolded_points, moved_cells, all_moved, points_below};
 ghost use Rattle.ts_core.specs.lists.Numbered.{IsAt};
-ghost use Rattle.ts_store.specs.rollup.Rollups.{IsRollupSeriesOf, AreRollups, rollup_series_at, with_frozen, cells_of};
+ghost use Rattle.ts_store.specs.rollup.Rollups.{IsRollupSeriesOf, AreRollups, rollup_series_at, with_grid_cells, cells_of};
 ghost use Rattle.ts_core.specs.lists.Members.{AllDistinct};
 ghost use Rattle.ts_store.specs.store.ColumnStates.{no_column};
 ghost use Rattle.ts_store.specs.write.LivePuts.{IsOver};
 ghost use Rattle.ts_store.specs.read.PointsRead.{number_of_points};
-ghost use Rattle.ts_store.specs.retain.RollupSteps.{FreezesFit, FreezeFit, facts_left, with_frozen_all};
+ghost use Rattle.ts_store.specs.retain.RollupSteps.{FreezesFit, FreezeFit, facts_left, with_all_grid_cells};
 
 use crate::retain::points_below::PointsBelow;
 use crate::rollup::Rollup;
@@ -30,7 +30,7 @@ fn freeze_points<A: Allocator + Copy>(
     requires interval { pos 1 ≤ℤ rule.now.interval }
     requires column { column < length rollup.old.series_list }
     requires few { length points ≤ 2 ^ 62 }
-    ensures series_list { rollup.new ≡ with_frozen rollup.new.grid.cells rollup.old }
+    ensures series_list { rollup.new ≡ with_grid_cells rollup.new.grid.cells rollup.old }
     ensures cells { (c : Column) (l : ℕ) → rollup_series_at rollup.old column ≡ Some l → IsRollupSeriesOf rule.now c rollup.old.grid.series_list (Some l) → FreezesFit rule.now c points.entry rollup.old.grid.cells → rollup.new.grid.cells ≡ frozen_points rule.now c points.entry rollup.old.grid.cells }
 {
     let mut bucket = 0;
@@ -69,7 +69,7 @@ fn refold_points<A: Allocator + Copy>(
     requires column { column < length columns.now }
     requires each { length rollup.old.series_list ≡ length columns.now }
     requires few { number_of_points columns.now ≤ 2 ^ 62 }
-    ensures series_list { rollup.new ≡ with_frozen rollup.new.grid.cells rollup.old }
+    ensures series_list { rollup.new ≡ with_grid_cells rollup.new.grid.cells rollup.old }
     ensures cells { (cs : List Column) (c : Column) (l : ℕ) → rollup_series_at rollup.old column ≡ Some l → IsOver rule.now cs columns.now rollup.old → IsAt cs column c → rollup.new.grid.cells ≡ refolded_points rule.now c (points_below mark (finmap.entries (get_or columns.now column no_column).points)) (facts_left mark c cs columns.now) rollup.old.grid.cells }
 {
     let Some(series) = rollup.rollup_series_of(column) else {
@@ -99,7 +99,7 @@ fn move_points<A: Allocator + Copy>(
     requires column { column < length columns.now }
     requires each { length rollup.old.series_list ≡ length columns.now }
     requires few { number_of_points columns.now ≤ 2 ^ 62 }
-    ensures { (cs : List Column) (c : Column) → IsOver rule.now cs columns.now rollup.old → IsAt cs column c → FreezesFit rule.now c (points_below mark (finmap.entries (get_or columns.now column no_column).points)) rollup.old.grid.cells → rollup.new ≡ with_frozen (moved_cells rule.now c (points_below mark (finmap.entries (get_or columns.now column no_column).points)) (facts_left mark c cs columns.now) rollup.old.grid.cells) rollup.old }
+    ensures { (cs : List Column) (c : Column) → IsOver rule.now cs columns.now rollup.old → IsAt cs column c → FreezesFit rule.now c (points_below mark (finmap.entries (get_or columns.now column no_column).points)) rollup.old.grid.cells → rollup.new ≡ with_grid_cells (moved_cells rule.now c (points_below mark (finmap.entries (get_or columns.now column no_column).points)) (facts_left mark c cs columns.now) rollup.old.grid.cells) rollup.old }
 {
     if rollup.rolls(column) {
         freeze_points(
@@ -125,7 +125,7 @@ pub(crate) fn move_all<A: Allocator + Copy>(
     requires column { column < length columns.now }
     requires each { AllByRecursion (λ s. length s.series_list ≡ length columns.now) rollups.old }
     requires few { number_of_points columns.now ≤ 2 ^ 62 }
-    ensures { (cs : List Column) (c : Column) → length columns.now ≡ length cs → AllDistinct cs → AreRollups rules.now cs rollups.old → IsAt cs column c → FreezeFit rules.now c (points_below mark (finmap.entries (get_or columns.now column no_column).points)) (cells_of rollups.old) → rollups.new ≡ with_frozen_all (all_moved rules.now c (points_below mark (finmap.entries (get_or columns.now column no_column).points)) (facts_left mark c cs columns.now) (cells_of rollups.old)) rollups.old }
+    ensures { (cs : List Column) (c : Column) → length columns.now ≡ length cs → AllDistinct cs → AreRollups rules.now cs rollups.old → IsAt cs column c → FreezeFit rules.now c (points_below mark (finmap.entries (get_or columns.now column no_column).points)) (cells_of rollups.old) → rollups.new ≡ with_all_grid_cells (all_moved rules.now c (points_below mark (finmap.entries (get_or columns.now column no_column).points)) (facts_left mark c cs columns.now) (cells_of rollups.old)) rollups.old }
 {
     if let Some((rule, rules)) = rules.split_first() {
         if let Some((rollup, rollups)) = rollups.split_first_mut() {

@@ -10,8 +10,8 @@ ghost use Rattle.ts_core.specs.store.StoreStates.{ColumnPoints, facts_of};
 ghost use Rattle.ts_store.specs.store.ColumnStates.{no_column, with_points, point_maps, committed, all_committed, AreReady, AreStaged};
 ghost use Rattle.ts_store.specs.write.LivePuts.{IsOver, IsLivePut, AreOfFields};
 ghost use Rattle.ts_store.specs.read.PointsRead.{number_of_points};
-ghost use Rattle.ts_store.specs.rollup.Rollups.{AreRollups, rollup_series_at, with_frozen, cells_of};
-ghost use Rattle.ts_store.specs.retain.RollupSteps.{with_frozen_all};
+ghost use Rattle.ts_store.specs.rollup.Rollups.{AreRollups, rollup_series_at, with_grid_cells, cells_of};
+ghost use Rattle.ts_store.specs.retain.RollupSteps.{with_all_grid_cells};
 
 use crate::rollup::Rollup;
 use crate::rollup::live_parts::rollup_series_total;
@@ -47,7 +47,7 @@ fn update_cell<A: Allocator + Copy>(
     requires column { column < length columns.now }
     requires each { length rollup.old.series_list ≡ length columns.now }
     requires few { number_of_points columns.now ≤ 2 ^ 62 }
-    ensures series_list { rollup.new ≡ with_frozen rollup.new.grid.cells rollup.old }
+    ensures series_list { rollup.new ≡ with_grid_cells rollup.new.grid.cells rollup.old }
     ensures cells { (cs : List Column) (before : List ColumnPoints) (f : Fact) → f.time ≡ time → f.value ≡ value → IsOver rule.now cs columns.now rollup.old → IsLivePut cs columns.now before column f old → IsLive before rule.now rollup.old.grid.cells → rollup.new.grid.cells ≡ put_cell rule.now f (facts_of (with_points cs (point_maps columns.now))) rollup.old.grid.cells }
 {
     let Some(series) = rollup.rollup_series_of(column.number()) else {
@@ -82,7 +82,7 @@ fn update_cells<A: Allocator + Copy>(
     requires column { column < length columns.now }
     requires each { AllByRecursion (λ s. length s.series_list ≡ length columns.now) rollups.old }
     requires few { number_of_points columns.now ≤ 2 ^ 62 }
-    ensures series_list { rollups.new ≡ with_frozen_all (cells_of rollups.new) rollups.old }
+    ensures series_list { rollups.new ≡ with_all_grid_cells (cells_of rollups.new) rollups.old }
     ensures cells { (cs : List Column) (before : List ColumnPoints) (f : Fact) → f.time ≡ time → f.value ≡ value → length columns.now ≡ length cs → AllDistinct cs → AreRollups rules.now cs rollups.old → IsLivePut cs columns.now before column f old → AreLive before rules.now (cells_of rollups.old) → cells_of rollups.new ≡ put_cells rules.now f (facts_of (with_points cs (point_maps columns.now))) (cells_of rollups.old) }
 {
     if let Some((rule, rules)) = rules.split_first() {
@@ -107,7 +107,7 @@ fn commit_rolled<A: Allocator + Copy>(
     requires each { AllByRecursion (λ s. length s.series_list ≡ length columns.old.items) rollups.old }
     requires few { number_of_points columns.old.items + 1 ≤ 2 ^ 62 }
     ensures columns { columns.new.items ≡ set columns.old.items column (committed (get_or columns.old.items column no_column)) }
-    ensures series_list { rollups.new ≡ with_frozen_all (cells_of rollups.new) rollups.old }
+    ensures series_list { rollups.new ≡ with_all_grid_cells (cells_of rollups.new) rollups.old }
     ensures cells { (cs : List Column) (f : Fact) → f.time ≡ time → f.value ≡ value → length columns.old.items ≡ length cs → AllDistinct cs → AreRollups rules.now cs rollups.old → AreStaged cs columns.old.items (column ∷ []) (f ∷ []) → AreLive (with_points cs (point_maps columns.old.items)) rules.now (cells_of rollups.old) → cells_of rollups.new ≡ put_cells rules.now f (facts_of (with_points cs (point_maps columns.new.items))) (cells_of rollups.old) }
 {
     let old = columns[column.number()].value_at(time);
@@ -130,7 +130,7 @@ fn commit_point<A: Allocator + Copy>(
     requires each { AllByRecursion (λ s. length s.series_list ≡ length columns.old.items) rollups.old }
     requires few { number_of_points columns.old.items + 1 ≤ 2 ^ 62 }
     ensures columns { columns.new.items ≡ set columns.old.items column (committed (get_or columns.old.items column no_column)) }
-    ensures series_list { rollups.new ≡ with_frozen_all (cells_of rollups.new) rollups.old }
+    ensures series_list { rollups.new ≡ with_all_grid_cells (cells_of rollups.new) rollups.old }
     ensures cells { (cs : List Column) (f : Fact) → f.time ≡ time → f.value ≡ value → length columns.old.items ≡ length cs → AllDistinct cs → AreRollups rules.now cs rollups.old → AreStaged cs columns.old.items (column ∷ []) (f ∷ []) → AreLive (with_points cs (point_maps columns.old.items)) rules.now (cells_of rollups.old) → cells_of rollups.new ≡ put_cells rules.now f (facts_of (with_points cs (point_maps columns.new.items))) (cells_of rollups.old) }
 {
     if is_rolled(rollups, column.number()) {
@@ -156,7 +156,7 @@ pub(crate) fn commit_points<A: Allocator + Copy, L: Allocator>(
     requires each { AllByRecursion (λ s. length s.series_list ≡ length columns.old.items) rollups.old }
     requires few { number_of_points columns.old.items + length numbers.now ≤ 2 ^ 62 }
     ensures columns { columns.new.items ≡ all_committed columns.old.items numbers.now }
-    ensures series_list { rollups.new ≡ with_frozen_all (cells_of rollups.new) rollups.old }
+    ensures series_list { rollups.new ≡ with_all_grid_cells (cells_of rollups.new) rollups.old }
     ensures cells { (cs : List Column) (fs : List Fact) → AreOfFields time fields.now fs → length columns.old.items ≡ length cs → AllDistinct cs → AreRollups rules.now cs rollups.old → AreStaged cs columns.old.items numbers.now fs → AreLive (with_points cs (point_maps columns.old.items)) rules.now (cells_of rollups.old) → PutsFacts rules.now (with_points cs (point_maps columns.old.items)) (cells_of rollups.old) (with_points cs (point_maps columns.new.items)) (cells_of rollups.new) fs }
 {
     for (number, field) in numbers.iter().zip(fields) {

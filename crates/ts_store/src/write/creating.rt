@@ -2,7 +2,7 @@
 ghost use Rattle.std.specs.Prelude.{◌≡◌, ◌<◌, ◌≤ℤ◌, pos, length, OnOk, OnErr};
 ghost use Rattle.std.specs.List.{AllByRecursion};
 ghost use Rattle.ts_core.specs.store.Marks.{index_of};
-ghost use Rattle.ts_store.specs.rollup.Rollups.{with_frozen};
+ghost use Rattle.ts_store.specs.rollup.Rollups.{with_grid_cells};
 ghost use Rattle.ts_store.specs.write.CellsCreated.{cells_created_from, cells_created_under, IsCreatedInPart, AreCreatedInPart, KeepRollupSeries};
 
 use crate::rollup::Rollup;
@@ -21,7 +21,7 @@ fn create_cells_under<A: Allocator + Copy>(
 ) -> Result<(), AllocError>
     requires interval { pos 1 ≤ℤ rule.now.interval }
     requires inside { AllByRecursion (λ n. n < length rollup.old.series_list) touched.now }
-    ensures series_list { rollup.new ≡ with_frozen rollup.new.grid.cells rollup.old }
+    ensures series_list { rollup.new ≡ with_grid_cells rollup.new.grid.cells rollup.old }
     ensures ok { OnOk result (rollup.new ≡ cells_created_from low.now (index_of rule.now time) touched.now rollup.old) }
     ensures err { OnErr result (IsCreatedInPart rule.now low.now time touched.now rollup.old rollup.new) }
 {

@@ -1,5 +1,5 @@
 use Rattle.std.proofs.Common.{◌≡◌, ◌≤◌, ◌+◌, ◌==◌, max, ℕ, List, cond, set, insert, sym, ◌∙◌, ap, subst}
-use Rattle.ts_cells.specs.Rows.{slot_of, width}
+use Rattle.ts_cells.specs.Rows.{slot_of, slots_width}
 use Rattle.ts_cells.proofs.SlotLemmas.{SlotPut, slots_set, slots_new}
 use Rattle.ts_cells.proofs.slot_map.SlotMap.insert.Given.{Over}
 use Rattle.ts_cells.proofs.slot_map.SlotMap.insert.Goals as goal
@@ -34,10 +34,10 @@ returns-in-Ok-clause-ok g c = λ j. (changed g c).put j ∙ ap (λ (s : List (�
 
 pub returns-in-Ok-clause-len : goal.returns-in-Ok-clause-len
 returns-in-Ok-clause-len g c =
-    subst (λ (s : List (ℕ × ℕ)). width (set c.self.inside.slots.items c.in-Ok.at (c.index_mut.result.now.0, c.args.slot)) ≤ max (width s) (c.args.series + 1)) c.self.view_is (changed g c).narrow
+    subst (λ (s : List (ℕ × ℕ)). slots_width (set c.self.inside.slots.items c.in-Ok.at (c.index_mut.result.now.0, c.args.slot)) ≤ max (slots_width s) (c.args.series + 1)) c.self.view_is (changed g c).narrow
 
 pub returns-in_ok-insert-in-Err-clause-ok : goal.returns-in_ok-insert-in-Err-clause-ok
 returns-in_ok-insert-in-Err-clause-ok g c = λ j. (made g c).put j ∙ ap (λ (s : List (ℕ × ℕ)). cond (j == c.args.series) c.args.slot (slot_of s j)) c.self.view_is
 
 pub returns-in_ok-insert-in-Err-clause-len : goal.returns-in_ok-insert-in-Err-clause-len
-returns-in_ok-insert-in-Err-clause-len g c = subst (λ (s : List (ℕ × ℕ)). width c.insert.new.self.items ≤ max (width s) (c.args.series + 1)) c.self.view_is (made g c).narrow
+returns-in_ok-insert-in-Err-clause-len g c = subst (λ (s : List (ℕ × ℕ)). slots_width c.insert.new.self.items ≤ max (slots_width s) (c.args.series + 1)) c.self.view_is (made g c).narrow

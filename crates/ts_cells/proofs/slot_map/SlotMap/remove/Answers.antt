@@ -1,5 +1,5 @@
 use Rattle.std.proofs.Common.{◌≡◌, ◌≤◌, ◌==◌, ℕ, List, cond, set, true, false, sym, ◌∙◌, ap, subst, refl}
-use Rattle.ts_cells.specs.Rows.{no_slot, slot_of, width}
+use Rattle.ts_cells.specs.Rows.{no_slot, slot_of, slots_width}
 use Rattle.ts_cells.proofs.SlotLemmas.{SlotPut, slots_set, set_narrow, slot_missing}
 use Rattle.ts_cells.proofs.RowLemmas.{same_number}
 use Rattle.ts_cells.proofs.slot_map.SlotMap.remove.Given.{Over}
@@ -25,8 +25,8 @@ pub returns-in-Ok-clause-len : goal.returns-in-Ok-clause-len
 returns-in-Ok-clause-len g c =
     let es : List (ℕ × ℕ) = c.self.inside.slots.items in
     let was : ℕ × ℕ = c.index_mut.result.now in
-    subst (λ (s : List (ℕ × ℕ)). width (set es c.in-Ok.at (was.0, no_slot)) ≤ width s) c.self.view_is
-    (subst (λ (x : ℕ × ℕ). width (set es c.in-Ok.at (x.0, no_slot)) ≤ width es) (sym c.index_mut.ensures.value) (set_narrow es c.in-Ok.at no_slot was))
+    subst (λ (s : List (ℕ × ℕ)). slots_width (set es c.in-Ok.at (was.0, no_slot)) ≤ slots_width s) c.self.view_is
+    (subst (λ (x : ℕ × ℕ). slots_width (set es c.in-Ok.at (x.0, no_slot)) ≤ slots_width es) (sym c.index_mut.ensures.value) (set_narrow es c.in-Ok.at no_slot was))
 
 pub returns-in_default-clause-slots : goal.returns-in_default-clause-slots
 returns-in_default-clause-slots g c = λ j.

@@ -9,7 +9,7 @@ use Rattle.ts_core.specs.store.StoreData.{CellMap}
 use Rattle.ts_core.specs.store.StoreStates.{fact_at}
 use Rattle.ts_core.specs.store.TwoParts.{in_frozen}
 use Rattle.ts_cells.specs.Grids.{cell_at}
-use Rattle.ts_store.specs.rollup.Rollups.{RollupState, rollup_series_under, rollup_series_at, with_frozen, frozen_in}
+use Rattle.ts_store.specs.rollup.Rollups.{RollupState, rollup_series_under, rollup_series_at, with_grid_cells, frozen_in}
 use Rattle.ts_store.proofs.retain.PointsFrozen.{IsFolded, folded-as, folded-none, folded-more, folded-next, series_list_stay, frozen_in-series}
 use Rattle.ts_store.proofs.retain.freezing.freeze_points.Goals.{then-index-bucket, else-index-bucket}
 use Rattle.ts_store.proofs.retain.freezing.freeze_points.Goals as goal
@@ -64,7 +64,7 @@ loop-time-preserved g c =
           let nothing : c.if-index-bucket.folded ≡ empty_aggregate = w.folded-is ∙ w.empty-folded-then-index-bucket.ensures in
           let none : c.if-index-bucket.folded.count ≡ 0 = ap (λ (a : Aggregate). a.count) nothing in
           let cells : CellMap = frozen_in old (rollup_series_at old c.args.column) bucket folded in
-          let next : c.if-index-bucket.rollup ≡ with_frozen cells old = w.rollup-is ∙ w.freeze.ensures in
+          let next : c.if-index-bucket.rollup ≡ with_grid_cells cells old = w.rollup-is ∙ w.freeze.ensures in
           record {
             series_list = series_list_stay c.args.rollup.now old c.if-index-bucket.rollup cells c.loop-time.invariant.series_list next;
             few = omega (arith, few, none, merged_count);
@@ -82,7 +82,7 @@ loop-time-preserved g c =
           let here : bucket ≡ index_of r p.0 = sym (ap (to_z w128) w.if-index-bucket.false) ∙ index in
           let same : c.if-index-bucket.folded.count ≡ folded.count = ap (λ (a : Aggregate). a.count) w.folded-is in
           record {
-            series_list = w.rollup-is ∙ c.loop-time.invariant.series_list ∙ ap (λ (s : RollupState). with_frozen s.grid.cells c.args.rollup.now) (sym w.rollup-is);
+            series_list = w.rollup-is ∙ c.loop-time.invariant.series_list ∙ ap (λ (s : RollupState). with_grid_cells s.grid.cells c.args.rollup.now) (sym w.rollup-is);
             few = omega (arith, few, same, merged_count);
             cells = λ d n at series fit.
                 let q : Cell = cell_at bucket (rollup_series_under r d) in

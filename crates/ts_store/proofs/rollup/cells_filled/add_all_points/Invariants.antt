@@ -4,12 +4,12 @@ use Rattle.ts_core.specs.store.StoreStates.{facts_of}
 use Rattle.ts_store.specs.image.BuildingParts.{AreIdle, KeepFrozen, AreFilledBut}
 use Rattle.ts_store.specs.store.ColumnStates.{with_points, point_maps}
 use Rattle.ts_store.specs.rollup.Rollups.{AreRollups, cells_of}
-use Rattle.ts_store.specs.retain.RollupSteps.{with_frozen_all}
+use Rattle.ts_store.specs.retain.RollupSteps.{with_all_grid_cells}
 use Rattle.ts_store.proofs.rollup.cells_filled.add_all_points.Given as goal
 
 abbrev pub invariant-loop-number : goal.invariant-loop-number
 invariant-loop-number g l = record {
-  series_list : l.rollups ≡ with_frozen_all (cells_of l.rollups) l.fn.rollups;
+  series_list : l.rollups ≡ with_all_grid_cells (cells_of l.rollups) l.fn.rollups;
   frozen : KeepFrozen (cells_of l.fn.rollups) (cells_of l.rollups);
   live : (cs : List Column) → length l.columns ≡ length cs → AreRollups l.rules cs l.fn.rollups → AreIdle (cells_of l.fn.rollups)
       → AreFilledBut (facts_of (drop l.number (with_points cs (point_maps l.columns)))) (facts_of (with_points cs (point_maps l.columns))) l.rules (cells_of l.rollups);

@@ -10,7 +10,7 @@ use Rattle.ts_core.specs.store.StoreStates.{fact_at, facts_at}
 use Rattle.ts_core.specs.store.TwoParts.{in_live}
 use Rattle.ts_cells.specs.Grids.{cell_at}
 use Rattle.ts_store.specs.image.BuildingParts.{IsFilledBut, KeepsFrozen}
-use Rattle.ts_store.specs.rollup.Rollups.{RollupState, IsRollupSeriesOf, rollup_series_under, rollup_series_at, with_frozen, added_in}
+use Rattle.ts_store.specs.rollup.Rollups.{RollupState, IsRollupSeriesOf, rollup_series_under, rollup_series_at, with_grid_cells, added_in}
 use Rattle.ts_store.proofs.rollup.LivesFilled.{IsPending, pending-as, pending-none, pending-more, pending-added, pending-next, total-apart, frozen-stays, frozen-then, added_in-series}
 use Rattle.ts_store.proofs.retain.PointsFrozen.{series_list_stay}
 use Rattle.ts_store.proofs.rollup.cells_filled.add_points.Goals.{then-index-bucket, else-index-bucket}
@@ -54,7 +54,7 @@ loop-time-preserved g c =
           let nothing : c.if-index-bucket.folded ≡ empty_aggregate = w.folded-is ∙ w.empty-folded-then-index-bucket.ensures in
           let none : c.if-index-bucket.folded.count ≡ 0 = ap (λ (a : Aggregate). a.count) nothing in
           let cells : CellMap = added_in old c.in-Some.series bucket folded in
-          let next : c.if-index-bucket.rollup ≡ with_frozen cells old = w.rollup-is ∙ w.add.ensures in
+          let next : c.if-index-bucket.rollup ≡ with_grid_cells cells old = w.rollup-is ∙ w.add.ensures in
           record {
             series_list = series_list_stay c.args.rollup.now old c.if-index-bucket.rollup cells c.loop-time.invariant.series_list next;
             few = omega (arith, few, none, merged_count);
@@ -74,7 +74,7 @@ loop-time-preserved g c =
           let here : bucket ≡ index_of r p.0 = sym (ap (to_z w128) w.if-index-bucket.false) ∙ index in
           let same : c.if-index-bucket.folded.count ≡ folded.count = ap (λ (a : Aggregate). a.count) w.folded-is in
           record {
-            series_list = w.rollup-is ∙ c.loop-time.invariant.series_list ∙ ap (λ (s : RollupState). with_frozen s.grid.cells c.args.rollup.now) (sym w.rollup-is);
+            series_list = w.rollup-is ∙ c.loop-time.invariant.series_list ∙ ap (λ (s : RollupState). with_grid_cells s.grid.cells c.args.rollup.now) (sym w.rollup-is);
             few = omega (arith, few, same, merged_count);
             frozen = subst (λ (s : RollupState). KeepsFrozen before s.grid.cells) (sym w.rollup-is) c.loop-time.invariant.frozen;
             live = λ d others all series most filled.

@@ -4,7 +4,7 @@ use Rattle.std.proofs.lemmas.List.{with_items_is}
 use Rattle.ts_cells.proofs.ExpiryLemmas.{on_true, on_false}
 use Rattle.ts_store.specs.store.ColumnStates.{StoreContent, columns_in}
 use Rattle.ts_store.specs.rollup.Rollups.{RollupState, cells_of}
-use Rattle.ts_store.specs.retain.RollupSteps.{with_frozen_all, content_with_cells}
+use Rattle.ts_store.specs.retain.RollupSteps.{with_all_grid_cells, content_with_cells}
 use Rattle.ts_store.specs.retain.WholeRuns.{AreAbove, FirstLoses}
 use Rattle.ts_store.proofs.store.column_facts.ColumnFacts.expire.Given.{Over}
 use Rattle.ts_store.proofs.store.column_facts.ColumnFacts.expire.Goals as goal
@@ -32,7 +32,7 @@ returns-clause-series_list g c =
     let before : List RollupState = c.self.inside.rollups.items in
     let after : List RollupState = (with_items c.self.inside.rollups c.expire_first.new.rollups).items in
     let is : after ≡ c.expire_first.new.rollups = written g c in
-    let series_list : after ≡ with_frozen_all (cells_of after) before = is ∙ c.expire_first.ensures.series_list ∙ ap₂ (λ us ss. with_frozen_all (cells_of us) ss) (sym is) c.as_mut_slice.ensures.value in
+    let series_list : after ≡ with_all_grid_cells (cells_of after) before = is ∙ c.expire_first.ensures.series_list ∙ ap₂ (λ us ss. with_all_grid_cells (cells_of us) ss) (sym is) c.as_mut_slice.ensures.value in
     (λ i. record { series = c.self.inside.index.series; columns = columns_in c.self.inside.index c.self.inside.columns.items; rollups = series_list i }) ∙ ap (content_with_cells (cells_of after)) c.self.view_is
 
 pub returns-clause-some : goal.returns-clause-some

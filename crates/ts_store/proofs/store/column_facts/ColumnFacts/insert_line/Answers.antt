@@ -21,7 +21,7 @@ use Rattle.std.specs.List.{AllByRecursion}
 use Rattle.ts_core.specs.store.StoreData.{CellMap, AreLive}
 use Rattle.ts_store.specs.rollup.Rollups.{RollupState, AreRollups, cells_of}
 use Rattle.ts_store.specs.write.LivePuts.{AreOfFields}
-use Rattle.ts_store.specs.retain.RollupSteps.{with_frozen_all}
+use Rattle.ts_store.specs.retain.RollupSteps.{with_all_grid_cells}
 use Rattle.ts_store.specs.write.CellsCreated.{cells_created_under, AreCreatedInPart, KeepRollupSeries}
 use Rattle.ts_store.specs.write.LinesPut.{OfEachRule, GainsCells}
 use Rattle.ts_store.proofs.write.CellsMade.{gain_nothing, line_cells}
@@ -154,7 +154,7 @@ returns-clause-ok g c =
     let puts : PutsFacts rs (with_points cs (point_maps ss)) (cells_of c.as_mut_slice-3.result.now) (with_points cs (point_maps c.commit_points.new.columns.items)) (cells_of ws) (line_facts p) =
     c.commit_points.ensures.cells cs (line_facts p) fields c.prepare_line.ensures.line.held.each c.prepare_line.ensures.line.held.sound.columns_once (subst (AreRollups rs cs) (sym lent') have)
     (subst (λ (ms : List ℕ). AreStaged cs ss ms (line_facts p)) (sym c.as_slice-2.ensures.value) staged) (subst (λ (xs : List RollupState). AreLive (with_points cs (point_maps ss)) rs (cells_of xs)) (sym lent') live) in
-    let series_list : ws ≡ with_frozen_all (cells_of ws) vs = c.commit_points.ensures.series_list ∙ ap (with_frozen_all (cells_of ws)) lent' in
+    let series_list : ws ≡ with_all_grid_cells (cells_of ws) vs = c.commit_points.ensures.series_list ∙ ap (with_all_grid_cells (cells_of ws)) lent' in
     let each : length c.commit_points.new.columns.items ≡ length cs = ap length c.commit_points.ensures.columns ∙ all_committed-length ss c.as_slice-2.result.now ∙ c.prepare_line.ensures.line.held.each in
     let facts : PutsFacts rs (with_columns old (new_columns (map column_of old) (line_facts p))) (cells_of vs) (with_points cs (point_maps c.commit_points.new.columns.items)) (cells_of (with_items (with_items (with_items c.self.inside.rollups us) vs) ws).items) (line_facts p) =
     subst (λ (xs : List RollupState). PutsFacts rs (with_columns old (new_columns (map column_of old) (line_facts p))) (cells_of vs) (with_points cs (point_maps c.commit_points.new.columns.items)) (cells_of xs) (line_facts p)) (sym written)

@@ -12,7 +12,7 @@ use Rattle.ts_core.specs.lists.Numbered.{IsAt}
 use Rattle.ts_store.specs.store.ColumnStates.{StoreContent, point_maps, content_of, no_column}
 use Rattle.ts_store.specs.read.PointsRead.{number_of_points}
 use Rattle.ts_store.specs.rollup.Rollups.{RollupState, AreRollups, cells_of}
-use Rattle.ts_store.specs.retain.RollupSteps.{FreezeFit, facts_left, content_moved, with_frozen_all}
+use Rattle.ts_store.specs.retain.RollupSteps.{FreezeFit, facts_left, content_moved, with_all_grid_cells}
 use Rattle.ts_store.proofs.store.ColumnsLemmas.{names_held}
 use Rattle.ts_store.proofs.read.ColumnsReads.{facts-length, with_points-length}
 use Rattle.ts_store.proofs.write.PointsPut.{wide_of}
@@ -67,12 +67,12 @@ returns g c =
     let long : length vs ≡ c.self.inside.rollups.len = cc (c.move_all.auto.rollups, c.as_mut_slice.ensures.value, counted) in
     let written : (with_items c.self.inside.rollups vs).items ≡ vs = with_items_is c.self.inside.rollups vs long in
     let moved : (cs : List Column) (d : Column) → length ss ≡ length cs → AllDistinct cs → AreRollups rs cs us → IsAt cs n d → FreezeFit rs d (points_below mark (finmap.entries (get_or ss n no_column).points)) (cells_of us)
-    → vs ≡ with_frozen_all (all_moved rs d (points_below mark (finmap.entries (get_or ss n no_column).points)) (facts_left mark d cs ss) (cells_of us)) us =
+    → vs ≡ with_all_grid_cells (all_moved rs d (points_below mark (finmap.entries (get_or ss n no_column).points)) (facts_left mark d cs ss) (cells_of us)) us =
     subst (λ (xs : List ColumnState). (cs : List Column) (d : Column) → length xs ≡ length cs → AllDistinct cs → AreRollups rs cs us → IsAt cs n d → FreezeFit rs d (points_below mark (finmap.entries (get_or xs n no_column).points)) (cells_of us)
-    → vs ≡ with_frozen_all (all_moved rs d (points_below mark (finmap.entries (get_or xs n no_column).points)) (facts_left mark d cs xs) (cells_of us)) us) c.as_slice-columns.ensures.value
+    → vs ≡ with_all_grid_cells (all_moved rs d (points_below mark (finmap.entries (get_or xs n no_column).points)) (facts_left mark d cs xs) (cells_of us)) us) c.as_slice-columns.ensures.value
     (subst (λ (ws : List RollupState). (cs : List Column) (d : Column) → length c.as_slice-columns.result.now ≡ length cs → AllDistinct cs → AreRollups rs cs ws → IsAt cs n d
     → FreezeFit rs d (points_below mark (finmap.entries (get_or c.as_slice-columns.result.now n no_column).points)) (cells_of ws)
-    → vs ≡ with_frozen_all (all_moved rs d (points_below mark (finmap.entries (get_or c.as_slice-columns.result.now n no_column).points)) (facts_left mark d cs c.as_slice-columns.result.now) (cells_of ws)) ws)
+    → vs ≡ with_all_grid_cells (all_moved rs d (points_below mark (finmap.entries (get_or c.as_slice-columns.result.now n no_column).points)) (facts_left mark d cs c.as_slice-columns.result.now) (cells_of ws)) ws)
     c.as_mut_slice.ensures.value c.move_all.ensures) in
     λ s at fit.
     ap (λ (ws : List RollupState). content_of c.self.inside.index (set ss n c.drop_below.new.self) ws) written

@@ -11,7 +11,7 @@ use Rattle.ts_store.specs.store.ColumnStates.{StoreContent}
 use Rattle.ts_store.specs.read.PointsRead.{number_of_points}
 use Rattle.ts_store.specs.rules.RuleRollups.{IsRollupOf}
 use Rattle.ts_store.specs.rollup.Rollups.{RollupState, cells_of}
-use Rattle.ts_store.specs.retain.RollupSteps.{with_frozen_all}
+use Rattle.ts_store.specs.retain.RollupSteps.{with_all_grid_cells}
 use Rattle.ts_store.proofs.read.ColumnsReads.{facts-length}
 use Rattle.ts_store.proofs.write.PointsPut.{wide_still}
 use Rattle.ts_store.proofs.rules.RuleRollupLemmas.{alone, alone_wide, alone_made}
@@ -47,7 +47,7 @@ add_all_points-requires-clause-each g c =
     let counted = c.in_ok-rollups.rollups.ok.0 in
     let long : length vs ≡ c.in_ok-rollups.rollups.len = cc (c.make_all_cells.auto.rollups, c.as_mut_slice.ensures.value, counted) in
     let lent : n ≡ length c.self.inside.columns.items = ap (λ (xs : List ColumnState). length xs) c.as_slice-columns.ensures.value in
-    let series_list : vs ≡ with_frozen_all (cells_of vs) us = subst (λ (xs : List RollupState). vs ≡ with_frozen_all (cells_of vs) xs) c.as_mut_slice.ensures.value c.make_all_cells.ensures.series_list in
+    let series_list : vs ≡ with_all_grid_cells (cells_of vs) us = subst (λ (xs : List RollupState). vs ≡ with_all_grid_cells (cells_of vs) xs) c.as_mut_slice.ensures.value c.make_all_cells.ensures.series_list in
     subst (AllByRecursion (λ (u : RollupState). length u.series_list ≡ n)) (sym (c.as_mut_slice-2.ensures.value ∙ with_items_is c.in_ok-rollups.rollups vs long))
     (wide_still n us vs series_list (alone_wide n s us c.in_ok-rollups.ensures (c.in_ok-rollup_over.ensures.many ∙ sym c.self.invariant.each ∙ sym lent)))
 
@@ -86,8 +86,8 @@ returns g c =
     let longer : length ws ≡ c.in_ok-rollups.rollups.len = c.add_all_points.auto.rollups ∙ ap (λ (xs : List RollupState). length xs) between ∙ long in
     let begins : c.as_mut_slice.result.now ≡ s ∷ [] = c.as_mut_slice.ensures.value ∙ single in
     let lent : c.as_slice-columns.result.now ≡ ss = c.as_slice-columns.ensures.value in
-    let one : vs ≡ with_frozen_all (cells_of vs) (s ∷ []) = subst (λ (xs : List RollupState). vs ≡ with_frozen_all (cells_of vs) xs) begins c.make_all_cells.ensures.series_list in
-    let two : ws ≡ with_frozen_all (cells_of ws) vs = subst (λ (xs : List RollupState). ws ≡ with_frozen_all (cells_of ws) xs) between c.add_all_points.ensures.series_list in
+    let one : vs ≡ with_all_grid_cells (cells_of vs) (s ∷ []) = subst (λ (xs : List RollupState). vs ≡ with_all_grid_cells (cells_of vs) xs) begins c.make_all_cells.ensures.series_list in
+    let two : ws ≡ with_all_grid_cells (cells_of ws) vs = subst (λ (xs : List RollupState). ws ≡ with_all_grid_cells (cells_of ws) xs) between c.add_all_points.ensures.series_list in
     let make : Makes (r ∷ []) (low ∷ []) vs ss (s ∷ []) =
     subst (λ (qs : List Rule). Makes qs (low ∷ []) vs ss (s ∷ [])) one_rule
     (subst (λ (ls : List ℤ). Makes c.as_slice.result.now ls vs ss (s ∷ [])) one_low
