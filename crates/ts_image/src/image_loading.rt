@@ -6,8 +6,8 @@ ghost use Rattle.ts_image.specs.ImageReading.{image_of};
 ghost use Rattle.ts_image.specs.ImageLoading.{LoadsImage, LoadsStore, StandsAsSaved};
 ghost use Rattle.ts_image.specs.SettingsMade.{IsMadeIf};
 
+use crate::image_checks::is_rest_possible;
 use crate::image_reading::{ImageParts, read_parts};
-use crate::image_tests::is_rest_possible;
 use crate::load_fault::LoadFault;
 use crate::settings_making::make_settings;
 use crate::store_making::make_store;

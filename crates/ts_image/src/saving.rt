@@ -9,7 +9,7 @@ ghost use Rattle.ts_image.specs.Saving.{store_image, HasItsColumns, FitsImage, I
 
 use crate::cell_saving::put_cells_from;
 use crate::field_writing::{put_u8, put_u64};
-use crate::form_tests::fits_image;
+use crate::form_checks::fits_image;
 use crate::save_fault::SaveFault;
 use crate::series_saving::put_counted_series;
 use crate::settings_writing::{put_marks, put_settings};

@@ -1,0 +1,21 @@
+use Rattle.std.proofs.Common.{rules, refl}
+use Rattle.ts_image.proofs.cell_checks.is_cell.Goals as goal
+
+pub returns : goal.returns
+returns g c = (
+  λ h.
+      let t = c.are_frozen.ensures.0 h in
+      let e = c.if-not-are_extremes.ensures.0 refl in
+      record {
+        kept = search rules;
+        field = search rules;
+        spread = c.if-not-are_spread.ensures.0 refl;
+        values = e.values;
+        first = t.0;
+        last = t.1;
+        order = e.order;
+        first_value = e.first_value;
+        last_value = e.last_value;
+      },
+  λ k. c.are_frozen.ensures.1 (k.first, k.last),
+)
