@@ -1,6 +1,6 @@
 //! Appends points to coded blocks.
 ghost use Rattle.std.specs.Prelude.{◌≡◌, ◌↔◌, ◌+◌, ◌<◌, ◌≤◌, ◌<ℤ◌, ℕ, [], ◌∷◌, ◌++◌, length, take, vec_len, vec_capacity, IsTrue, false};
-ghost use Rattle.ts_raw.specs.CodedPoints.{AreCountedBlocks, AreOrdered, AllEndBefore, IsBlockHandle, LastGrows, OthersEndBy, IsLastBefore, CutFits, block_points_at, coded_points, blocks_at};
+ghost use Rattle.ts_raw.specs.CodedPoints.{AreCountedBlocks, AreOrdered, AllEndBefore, IsBlockHandle, HasRoom, LastGrows, OthersEndBy, IsLastBefore, CutFits, block_points_at, coded_points, blocks_at};
 ghost use Rattle.ts_raw.specs.Rewriting.{IsEncoded};
 
 use crate::block_handle::BlockHandle;
@@ -122,14 +122,12 @@ pub(crate) fn push_later<A: Allocator>(
     requires others { OthersEndBy tail handles.old.items }
     requires later { AllEndBefore handles.old.items point.now.0 }
     requires bytes_spare { vec_len bytes.old + 20 ≤ vec_capacity bytes.old }
-    requires handles_spare { vec_len handles.old < vec_capacity handles.old }
+    requires room { HasRoom bytes.old.items handles.old.items tail (vec_capacity handles.old) }
     ensures counted { AreCountedBlocks bytes.new.items handles.new.items (total + 1) }
     ensures others { OthersEndBy result handles.new.items }
     ensures points { coded_points bytes.new.items handles.new.items ≡ coded_points bytes.old.items handles.old.items ++ point.now ∷ [] }
     ensures cut { (cut : ℕ) → CutFits cut (blocks_at bytes.old.items handles.old.items) → CutFits cut (blocks_at bytes.new.items handles.new.items) }
 {
-    // For the proof: the time is valid.
-    let _valid = point.0.nanos();
     let size = bytes.len();
     if !can_grow(handles.as_slice(), size, tail) {
         push_block(bytes, handles, total, point);

@@ -1,5 +1,5 @@
 //! Copies coded blocks: the last one to the end of the bytes, where it can grow, or all into new bytes without gaps.
-ghost use Rattle.std.specs.Prelude.{◌≡◌, ◌+◌, ◌≤◌, vec_len, vec_capacity, IfOk, OnErr};
+ghost use Rattle.std.specs.Prelude.{◌≡◌, ◌+◌, ◌≤◌, vec_len, vec_capacity, IfOk, OnOk, OnErr};
 ghost use Rattle.ts_raw.specs.CodedPoints.{AreBlockHandles, OthersEndBy, blocks_at};
 
 use crate::block_handle::BlockHandle;
@@ -18,7 +18,6 @@ pub(crate) fn move_last<A: Allocator>(
     ensures blocks { blocks_at bytes.new.items handles.new.items ≡ blocks_at bytes.old.items handles.old.items }
     ensures others { IfOk result (λ offset. OthersEndBy offset handles.new.items) }
     ensures kept { OnErr result (handles.new.items ≡ handles.old.items) }
-    ensures handles_spare { vec_capacity handles.old ≤ vec_capacity handles.new }
 {
     let start = bytes.len();
     let Some(handle) = handles.last() else {
@@ -105,6 +104,7 @@ fn add_capacity<A: Allocator + Copy>(
     ensures marked { AreBlockHandles bytes.new.items 0 handles.new.items }
     ensures blocks { blocks_at bytes.new.items handles.new.items ≡ blocks_at bytes.old.items handles.old.items }
     ensures others { OthersEndBy tail.new handles.new.items }
+    ensures spare { OnOk result (vec_len bytes.new + size ≤ vec_capacity bytes.new) }
 {
     let used = blocks_size(handles.as_slice());
     if bytes.len() - used.min(bytes.len()) > bytes.len() / 4 {
@@ -126,6 +126,7 @@ pub(crate) fn reserve_bytes<A: Allocator + Copy>(
     ensures marked { AreBlockHandles bytes.new.items 0 handles.new.items }
     ensures blocks { blocks_at bytes.new.items handles.new.items ≡ blocks_at bytes.old.items handles.old.items }
     ensures others { OthersEndBy tail.new handles.new.items }
+    ensures spare { OnOk result (vec_len bytes.new + size ≤ vec_capacity bytes.new) }
 {
     if bytes.capacity() - bytes.len() >= size {
         return Ok(());

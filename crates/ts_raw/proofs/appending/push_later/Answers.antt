@@ -1,4 +1,4 @@
-use Rattle.std.proofs.Common.{rules, ◌≡◌, ◌-◌, ◌+◌, ◌<◌, ◌≤◌, ◌<ℤ◌, ℕ, List, [], ◌∷◌, ◌++◌, length, take, get_or, vec_len, sym, ap, subst, ◌∙◌, arith}
+use Rattle.std.proofs.Common.{rules, ◌≡◌, ◌-◌, ◌+◌, ◌<◌, ◌≤◌, ◌<ℤ◌, ℕ, List, [], ◌∷◌, ◌++◌, length, take, get_or, vec_len, vec_capacity, ⊎_elim, sym, ap, subst, ◌∙◌, arith}
 use Rattle.ts_raw.specs.declared.block_handle.BlockHandle.{BlockHandle}
 use Rattle.ts_raw.specs.CodedPoints.{IsBlockHandle, AreCountedBlocks, AllEndBefore, AllEndBy, OthersEndBy, LastGrows, CutFits, block_points_at, coded_points, blocks_at}
 use Rattle.ts_raw.proofs.PushLemmas.{others_of, others_from, all_by, all_split, marks_split, blocks_push, cut_longer, cut_more}
@@ -26,6 +26,16 @@ others g c = others_of c.args.tail (take (c.len-at.result - 1) c.args.handles.no
 
 apart : (g : Over) (c : After-index_mut g) → AllEndBy c.index_mut.result.now.start (take (c.len-at.result - 1) c.args.handles.now.items)
 apart g c = all_by c.args.tail c.index_mut.result.now.start (take (c.len-at.result - 1) c.args.handles.now.items) (last g c).apart (others g c)
+
+pub push_block-requires-clause-handles_spare : goal.push_block-requires-clause-handles_spare
+push_block-requires-clause-handles_spare g c =
+    let ms : List BlockHandle = c.args.handles.now.items in
+    let size : length c.args.bytes.now.items ≡ c.len-size.result = omega (arith, c.len-size.ensures, c.args.bytes.now.ok.0) in
+    ⊎_elim {C = vec_len c.args.handles.now < vec_capacity c.args.handles.now}
+    (λ h.
+    let yes = c.can_grow.ensures.1 (subst (λ (x : List BlockHandle). LastGrows c.len-size.result c.args.tail x) (sym c.as_slice.ensures.value) (subst (λ n. LastGrows n c.args.tail ms) size h)) in
+    absurd (search (rules, yes)))
+    (λ (n : length ms < vec_capacity c.args.handles.now). omega (arith, n, c.args.handles.now.ok.0)) c.requires.room
 
 pub push_last-requires-clause-marked : goal.push_last-requires-clause-marked
 push_last-requires-clause-marked g c =

@@ -17,13 +17,13 @@ use Rattle.ts_raw.proofs.block_column.BlockColumnColumn.commit.Goals as goal
 point_is : (g : Over) (c : After-unwrap-point g) → c.self.inside.staged ≡ Some c.unwrap-point.result
 point_is g c = sym c.take.ensures.value ∙ c.unwrap-point.ensures
 
-staged : (g : Over) (c : After-unwrap-point g) → IsStaged c.self.inside.bytes.items c.self.inside.handles.items c.self.inside.total c.self.inside.cut (vec_capacity c.self.inside.bytes) (vec_capacity c.self.inside.handles) c.unwrap-point.result (option_map (λ b. b.value) c.self.inside.rewritten)
-staged g c = subst (λ s. IsStagedIfAny c.self.inside.bytes.items c.self.inside.handles.items c.self.inside.total c.self.inside.cut (vec_capacity c.self.inside.bytes) (vec_capacity c.self.inside.handles) s (option_map (λ b. b.value) c.self.inside.rewritten)) (point_is g c) c.self.invariant.is_staged
+staged : (g : Over) (c : After-unwrap-point g) → IsStaged c.self.inside.bytes.items c.self.inside.handles.items c.self.inside.total c.self.inside.cut c.self.inside.tail (vec_capacity c.self.inside.bytes) (vec_capacity c.self.inside.handles) c.unwrap-point.result (option_map (λ b. b.value) c.self.inside.rewritten)
+staged g c = subst (λ s. IsStagedIfAny c.self.inside.bytes.items c.self.inside.handles.items c.self.inside.total c.self.inside.cut c.self.inside.tail (vec_capacity c.self.inside.bytes) (vec_capacity c.self.inside.handles) s (option_map (λ b. b.value) c.self.inside.rewritten)) (point_is g c) c.self.invariant.is_staged
 
-rewritten : (g : Over) (c : After-into_inner-new g) (s : IsStaged c.self.inside.bytes.items c.self.inside.handles.items c.self.inside.total c.self.inside.cut (vec_capacity c.self.inside.bytes) (vec_capacity c.self.inside.handles) c.unwrap-point.result (option_map (λ b. b.value) c.self.inside.rewritten)) → IsRewritten c.self.inside.bytes.items c.self.inside.handles.items c.self.inside.cut c.unwrap-point.result c.into_inner-new.result
+rewritten : (g : Over) (c : After-into_inner-new g) (s : IsStaged c.self.inside.bytes.items c.self.inside.handles.items c.self.inside.total c.self.inside.cut c.self.inside.tail (vec_capacity c.self.inside.bytes) (vec_capacity c.self.inside.handles) c.unwrap-point.result (option_map (λ b. b.value) c.self.inside.rewritten)) → IsRewritten c.self.inside.bytes.items c.self.inside.handles.items c.self.inside.cut c.unwrap-point.result c.into_inner-new.result
 rewritten g c s =
-    subst (CanCommit c.self.inside.bytes.items c.self.inside.handles.items c.self.inside.cut (vec_capacity c.self.inside.bytes) c.unwrap-point.result)
-    (ap (option_map (λ b. b.value)) (sym c.take-2.ensures.value ∙ c.in-Some.is) ∙ ap Some (sym c.into_inner-new.ensures)) s.can
+    (subst (CanCommit c.self.inside.bytes.items c.self.inside.handles.items c.self.inside.cut c.self.inside.tail (vec_capacity c.self.inside.bytes) (vec_capacity c.self.inside.handles) c.unwrap-point.result)
+    (ap (option_map (λ b. b.value)) (sym c.take-2.ensures.value ∙ c.in-Some.is) ∙ ap Some (sym c.into_inner-new.ensures)) s.can).0
 
 pub replace-self-inside-requires-clause-front : goal.replace-self-inside-requires-clause-front
 replace-self-inside-requires-clause-front g c = numbered_front c.self.inside.bytes.items c.self.inside.handles.items c.into_inner-new.result.at c.self.invariant.counted.coded.marked
@@ -42,7 +42,7 @@ invariant_of-self g c = record {
   others = c.push_later-self-inside.ensures.others;
   cut_fits = c.push_later-self-inside.ensures.cut c.self.inside.cut c.self.invariant.cut_fits;
   is_staged =
-      subst (λ s. IsStagedIfAny c.push_later-self-inside.new.bytes.items c.push_later-self-inside.new.handles.items (c.self.inside.total + 1) c.self.inside.cut (vec_capacity c.push_later-self-inside.new.bytes) (vec_capacity c.push_later-self-inside.new.handles) s (option_map (λ b. b.value) c.take-2.new.self))
+      subst (λ s. IsStagedIfAny c.push_later-self-inside.new.bytes.items c.push_later-self-inside.new.handles.items (c.self.inside.total + 1) c.self.inside.cut c.push_later-self-inside.result (vec_capacity c.push_later-self-inside.new.bytes) (vec_capacity c.push_later-self-inside.new.handles) s (option_map (λ b. b.value) c.take-2.new.self))
       (sym c.take.ensures.after) tt;
 }
 
@@ -76,7 +76,7 @@ returns-in-None-clause-put g c =
     let ms : List BlockHandle = c.self.inside.handles.items in
     let p : ℤ × ℤ = c.unwrap-point.result in
     let s = staged g a.After-unwrap-point in
-    let can : CanCommit bytes ms c.self.inside.cut (vec_capacity c.self.inside.bytes) p None = subst (CanCommit bytes ms c.self.inside.cut (vec_capacity c.self.inside.bytes) p) (ap (option_map (λ b. b.value)) (sym c.take-2.ensures.value ∙ c.in-None.is)) s.can in
+    let can : CanCommit bytes ms c.self.inside.cut c.self.inside.tail (vec_capacity c.self.inside.bytes) (vec_capacity c.self.inside.handles) p None = subst (CanCommit bytes ms c.self.inside.cut c.self.inside.tail (vec_capacity c.self.inside.bytes) (vec_capacity c.self.inside.handles) p) (ap (option_map (λ b. b.value)) (sym c.take-2.ensures.value ∙ c.in-None.is)) s.can in
     rw (← c.self.view_is, point_is g a.After-unwrap-point, c.push_later-self-inside.ensures.points)
     (appended_map (coded_points bytes ms) c.self.inside.cut p c.self.invariant.counted.coded.rising (coded_less bytes p.0 ms 0 c.self.invariant.counted.coded.marked can.0) (cut_within bytes ms c.self.inside.cut c.self.invariant.cut_fits))
 
