@@ -1,86 +1,67 @@
 -- A point after all others, in a new last block or in the old one.
 use Rattle.std.proofs.Common.{◌≡◌, ℕ, zero, suc, ◌+◌, ◌-◌, ◌<◌, ◌≤◌, ℤ, List, [], ◌∷◌, ◌++◌, length, take, get_or, set, append_assoc, refl, sym, ◌∙◌, ap, subst, arith}
-use Rattle.std.proofs.lemmas.List.{length_push}
 use Rattle.std.proofs.Math.ListN.{drop_of_length-le}
 use Rattle.ts_block.specs.Blocks.{ArePoints}
 use Rattle.ts_raw.specs.declared.block_handle.BlockHandle.{BlockHandle}
 use Rattle.ts_raw.specs.Columns.{AreTimed}
 use Rattle.ts_raw.specs.PlainColumns.{IsRising}
-use Rattle.ts_raw.specs.CodedPoints.{block_points_at, coded_points, blocks_at, IsBlockHandle, AreBlockHandles, AreCountedBlocks, AllEndBefore, AllEndBy, LastGrows}
+use Rattle.ts_raw.specs.CodedPoints.{block_points_at, coded_points, blocks_at, IsBlockHandle, AreBlocks, IsCoded, AllEndBefore, AllEndBy, LastGrows}
 use Rattle.ts_raw.specs.Rewriting.{IsEncoded}
-use Rattle.ts_raw.proofs.PushLemmas.{marks_push, marks_split, marks_before, coded_push, blocks_push, coded_less, rising_push}
-use Rattle.ts_raw.proofs.BlockLists.{marks_stay, same_points, blocks_of_marks, take_next}
+use Rattle.ts_raw.proofs.PushLemmas.{one_more, parted_last, blocks_before, coded_push, blocks_push, coded_less, rising_push}
+use Rattle.ts_raw.proofs.BlockLists.{blocks_stay, same_points}
 use Rattle.ts_raw.proofs.RewriteLemmas.{timed_of, set_replaced}
-use Rattle.ts_raw.proofs.ColumnBlocks.{ordered_from}
+use Rattle.ts_raw.proofs.ColumnBlocks.{coded_anew}
 
 timed_join : (ps qs : List (ℤ × ℤ)) → AreTimed ps → AreTimed qs → AreTimed (ps ++ qs)
 timed_join [] qs h k = k
 timed_join (p ∷ ps) qs h k = (h.0, timed_join ps qs h.1 k)
 
 -- blocks with these points, and a last one with others
-module _ (bytes : List ℕ) (ms : List BlockHandle) (n : BlockHandle) (qs ps : List (ℤ × ℤ)) (marked : AreBlockHandles bytes 0 ms) (same : coded_points bytes ms ≡ qs) (e : IsEncoded bytes n ps) (before : n.before ≡ length qs) where
+module _ (bytes : List ℕ) (ms : List BlockHandle) (n : BlockHandle) (qs ps : List (ℤ × ℤ)) (marked : AreBlocks bytes ms) (same : coded_points bytes ms ≡ qs) (e : IsEncoded bytes n ps) where
   ended_points : coded_points bytes (ms ++ n ∷ []) ≡ qs ++ ps
   ended_points = coded_push bytes n ms ∙ (λ i. same i ++ e.points_are i)
 
-  ended : (total : ℕ) → total ≡ length (qs ++ ps) → IsRising (qs ++ ps) → AreTimed qs → AreCountedBlocks bytes (ms ++ n ∷ []) total
-  ended total t s d =
-      let all = marks_push bytes n ms 0 marked e.handle (let a = ap length same in omega arith) in
-      let rising : IsRising (coded_points bytes (ms ++ n ∷ [])) = subst IsRising (sym ended_points) s in
+  ended : IsRising (qs ++ ps) → AreTimed qs → IsCoded bytes (ms ++ n ∷ [])
+  ended s d =
       let are : ArePoints ps = subst ArePoints e.points_are e.handle.block.points_are in
-      record {
-        coded = record {
-          marked = all;
-          ordered = ordered_from bytes (ms ++ n ∷ []) (blocks_of_marks bytes 0 (ms ++ n ∷ []) all) rising;
-          rising = rising;
-          timed = subst AreTimed (sym ended_points) (timed_join qs ps d (timed_of ps are));
-        };
-        total_is = t ∙ ap length (sym ended_points);
-      }
+      coded_anew bytes (ms ++ n ∷ []) (one_more bytes n ms marked e.handle) (subst IsRising (sym ended_points) s) (subst AreTimed (sym ended_points) (timed_join qs ps d (timed_of ps are)))
 
 -- a block of one point after all others
-module _ (old new : List ℕ) (ms : List BlockHandle) (n : BlockHandle) (total : ℕ) (p : ℤ × ℤ) (c : AreCountedBlocks old ms total) (later : AllEndBefore ms p.0) (front : take (length old) new ≡ old) (e : IsEncoded new n (p ∷ [])) (before : n.before ≡ total) where
-  stay : AreBlockHandles new 0 ms × (blocks_at new ms ≡ blocks_at old ms)
-  stay = marks_stay old new ms front c.coded.marked
-
-  counts : n.before ≡ length (coded_points old ms)
-  counts = before ∙ c.total_is
+module _ (old new : List ℕ) (ms : List BlockHandle) (n : BlockHandle) (p : ℤ × ℤ) (c : IsCoded old ms) (later : AllEndBefore ms p.0) (front : take (length old) new ≡ old) (e : IsEncoded new n (p ∷ [])) where
+  stay : AreBlocks new ms × (blocks_at new ms ≡ blocks_at old ms)
+  stay = blocks_stay old new ms front c.marked
 
   pub begun_points : coded_points new (ms ++ n ∷ []) ≡ coded_points old ms ++ p ∷ []
-  begun_points = ended_points new ms n (coded_points old ms) (p ∷ []) stay.0 (same_points old new ms ms stay.1) e counts
+  begun_points = ended_points new ms n (coded_points old ms) (p ∷ []) stay.0 (same_points old new ms ms stay.1) e
 
   pub begun_blocks : blocks_at new (ms ++ n ∷ []) ≡ blocks_at old ms ++ ((p ∷ []) ∷ [])
   begun_blocks = blocks_push new ms n ∙ (λ i. stay.1 i ++ (e.points_are i ∷ []))
 
-  pub begun : AreCountedBlocks new (ms ++ n ∷ []) (total + 1)
-  begun =
-      ended new ms n (coded_points old ms) (p ∷ []) stay.0 (same_points old new ms ms stay.1) e counts (total + 1) (let a = c.total_is in let b = length_push (coded_points old ms) p in omega arith)
-      (rising_push (coded_points old ms) p c.coded.rising (coded_less old p.0 ms 0 c.coded.marked later)) c.coded.timed
+  pub begun : IsCoded new (ms ++ n ∷ [])
+  begun = ended new ms n (coded_points old ms) (p ∷ []) stay.0 (same_points old new ms ms stay.1) e (rising_push (coded_points old ms) p c.rising (coded_less old p.0 ms c.marked later)) c.timed
 
 -- a point after all others in the last block, which shares no bytes with others
-module _ (old new : List ℕ) (ms : List BlockHandle) (m n : BlockHandle) (total : ℕ) (p : ℤ × ℤ) (c : AreCountedBlocks old (ms ++ m ∷ []) total) (later : AllEndBefore (ms ++ m ∷ []) p.0) (apart : AllEndBy m.start ms)
-    (front : take m.start new ≡ take m.start old) (e : IsEncoded new n (block_points_at old m ++ p ∷ [])) (before : n.before ≡ m.before) where
-  split : AreBlockHandles old 0 ms × IsBlockHandle old m × (m.before ≡ 0 + length (coded_points old ms))
-  split = marks_split old m ms 0 c.coded.marked
+module _ (old new : List ℕ) (ms : List BlockHandle) (m n : BlockHandle) (p : ℤ × ℤ) (c : IsCoded old (ms ++ m ∷ [])) (later : AllEndBefore (ms ++ m ∷ []) p.0) (apart : AllEndBy m.start ms)
+    (front : take m.start new ≡ take m.start old) (e : IsEncoded new n (block_points_at old m ++ p ∷ [])) where
+  split : AreBlocks old ms × IsBlockHandle old m
+  split = parted_last old m ms c.marked
 
-  kept : AreBlockHandles new 0 ms × (coded_points new ms ≡ coded_points old ms) × (blocks_at new ms ≡ blocks_at old ms)
-  kept = marks_before old new m.start ms (let a = split.1.some in let b = split.1.within in omega arith) front apart split.0
-
-  counted : n.before ≡ length (coded_points old ms)
-  counted = let a = split.2 in let b = before in omega arith
+  kept : AreBlocks new ms × (blocks_at new ms ≡ blocks_at old ms)
+  kept = blocks_before old new m.start ms (let a = split.1.some in let b = split.1.within in omega arith) front apart split.0
 
   joined : coded_points old ms ++ (block_points_at old m ++ p ∷ []) ≡ coded_points old (ms ++ m ∷ []) ++ p ∷ []
   joined = sym (append_assoc (coded_points old ms) (block_points_at old m) (p ∷ [])) ∙ ap (λ (x : List (ℤ × ℤ)). x ++ p ∷ []) (sym (coded_push old m ms))
 
   pub grown_points : coded_points new (ms ++ n ∷ []) ≡ coded_points old (ms ++ m ∷ []) ++ p ∷ []
-  grown_points = ended_points new ms n (coded_points old ms) (block_points_at old m ++ p ∷ []) kept.0 kept.1 e counted ∙ joined
+  grown_points = ended_points new ms n (coded_points old ms) (block_points_at old m ++ p ∷ []) kept.0 (same_points old new ms ms kept.1) e ∙ joined
 
   pub grown_blocks : blocks_at new (ms ++ n ∷ []) ≡ blocks_at old ms ++ ((block_points_at old m ++ p ∷ []) ∷ [])
-  grown_blocks = blocks_push new ms n ∙ (λ i. kept.2 i ++ (e.points_are i ∷ []))
+  grown_blocks = blocks_push new ms n ∙ (λ i. kept.1 i ++ (e.points_are i ∷ []))
 
-  pub grown : AreCountedBlocks new (ms ++ n ∷ []) (total + 1)
+  pub grown : IsCoded new (ms ++ n ∷ [])
   grown =
-      ended new ms n (coded_points old ms) (block_points_at old m ++ p ∷ []) kept.0 kept.1 e counted (total + 1) (let a = c.total_is in let b = length_push (coded_points old (ms ++ m ∷ [])) p in let d = ap length joined in omega arith)
-      (subst IsRising (sym joined) (rising_push (coded_points old (ms ++ m ∷ [])) p c.coded.rising (coded_less old p.0 (ms ++ m ∷ []) 0 c.coded.marked later))) (timed_front (coded_points old ms) (block_points_at old m) (subst AreTimed (coded_push old m ms) c.coded.timed))
+      ended new ms n (coded_points old ms) (block_points_at old m ++ p ∷ []) kept.0 (same_points old new ms ms kept.1) e (subst IsRising (sym joined) (rising_push (coded_points old (ms ++ m ∷ [])) p c.rising (coded_less old p.0 (ms ++ m ∷ []) c.marked later)))
+      (timed_front (coded_points old ms) (block_points_at old m) (subst AreTimed (coded_push old m ms) c.timed))
     where
       timed_front : (qs ps : List (ℤ × ℤ)) → AreTimed (qs ++ ps) → AreTimed qs
       timed_front [] ps h = tt

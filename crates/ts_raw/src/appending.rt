@@ -1,6 +1,6 @@
 //! Appends points to coded blocks.
 ghost use Rattle.std.specs.Prelude.{◌≡◌, ◌↔◌, ◌+◌, ◌<◌, ◌≤◌, ◌<ℤ◌, ℕ, [], ◌∷◌, ◌++◌, length, take, vec_len, vec_capacity, IsTrue, false};
-ghost use Rattle.ts_raw.specs.CodedPoints.{AreCountedBlocks, AreOrdered, AllEndBefore, IsBlockHandle, HasRoom, LastGrows, OthersEndBy, IsLastBefore, CutFits, block_points_at, coded_points, blocks_at};
+ghost use Rattle.ts_raw.specs.CodedPoints.{IsCoded, AreOrdered, AllEndBefore, IsBlockHandle, HasRoom, LastGrows, OthersEndBy, IsLastBefore, CutFits, block_points_at, coded_points, blocks_at};
 ghost use Rattle.ts_raw.specs.Rewriting.{IsEncoded};
 
 use crate::block_handle::BlockHandle;
@@ -58,14 +58,13 @@ pub(crate) fn can_grow(handles: &[BlockHandle], size: usize, tail: usize) -> boo
 fn push_block<A: Allocator>(
     bytes: &mut Vec<u8, A>,
     handles: &mut Vec<BlockHandle, A>,
-    total: usize,
     point: &(Time, i64),
 )
-    requires counted { AreCountedBlocks bytes.old.items handles.old.items total }
+    requires coded { IsCoded bytes.old.items handles.old.items }
     requires later { AllEndBefore handles.old.items point.now.0 }
     requires bytes_spare { vec_len bytes.old + 20 ≤ vec_capacity bytes.old }
     requires handles_spare { vec_len handles.old < vec_capacity handles.old }
-    ensures counted { AreCountedBlocks bytes.new.items handles.new.items (total + 1) }
+    ensures coded { IsCoded bytes.new.items handles.new.items }
     ensures others { OthersEndBy (vec_len bytes.old) handles.new.items }
     ensures points { coded_points bytes.new.items handles.new.items ≡ coded_points bytes.old.items handles.old.items ++ point.now ∷ [] }
     ensures blocks { blocks_at bytes.new.items handles.new.items ≡ blocks_at bytes.old.items handles.old.items ++ ((point.now ∷ []) ∷ []) }
@@ -77,7 +76,6 @@ fn push_block<A: Allocator>(
         values: 9,
         end: bytes.len(),
         count: 1,
-        before: total,
         last: point.0,
         summary: Agg::single(point.0, point.1),
     };
@@ -92,7 +90,6 @@ fn push_last<A: Allocator>(bytes: &mut Vec<u8, A>, handle: &mut BlockHandle, poi
     requires ends { handle.old.end ≡ vec_len bytes.old }
     requires spare { vec_len bytes.old + 20 ≤ vec_capacity bytes.old }
     ensures kept { take handle.old.start bytes.new.items ≡ take handle.old.start bytes.old.items }
-    ensures before { handle.new.before ≡ handle.old.before }
     ensures block { IsEncoded bytes.new.items handle.new (block_points_at bytes.old.items handle.old ++ point.now ∷ []) }
 {
     let values = append(
@@ -114,23 +111,22 @@ fn push_last<A: Allocator>(bytes: &mut Vec<u8, A>, handle: &mut BlockHandle, poi
 pub(crate) fn push_later<A: Allocator>(
     bytes: &mut Vec<u8, A>,
     handles: &mut Vec<BlockHandle, A>,
-    total: usize,
     tail: usize,
     point: &(Time, i64),
 ) -> usize
-    requires counted { AreCountedBlocks bytes.old.items handles.old.items total }
+    requires coded { IsCoded bytes.old.items handles.old.items }
     requires others { OthersEndBy tail handles.old.items }
     requires later { AllEndBefore handles.old.items point.now.0 }
     requires bytes_spare { vec_len bytes.old + 20 ≤ vec_capacity bytes.old }
     requires room { HasRoom bytes.old.items handles.old.items tail (vec_capacity handles.old) }
-    ensures counted { AreCountedBlocks bytes.new.items handles.new.items (total + 1) }
+    ensures coded { IsCoded bytes.new.items handles.new.items }
     ensures others { OthersEndBy result handles.new.items }
     ensures points { coded_points bytes.new.items handles.new.items ≡ coded_points bytes.old.items handles.old.items ++ point.now ∷ [] }
     ensures cut { (cut : ℕ) → CutFits cut (blocks_at bytes.old.items handles.old.items) → CutFits cut (blocks_at bytes.new.items handles.new.items) }
 {
     let size = bytes.len();
     if !can_grow(handles.as_slice(), size, tail) {
-        push_block(bytes, handles, total, point);
+        push_block(bytes, handles, point);
         return size;
     }
     let at = handles.len() - 1;

@@ -1,6 +1,6 @@
 //! Stages a point: allocates all that its insertion needs.
 ghost use Rattle.std.specs.Prelude.{◌≡◌, ◌+◌, ◌<◌, ◌≤◌, length, take, vec_len, vec_capacity, option_map, IfOk, OnOk};
-ghost use Rattle.ts_raw.specs.CodedPoints.{AreBlockHandles, OthersEndBy, AreCountedBlocks, HasRoom, blocks_at, AllEndBefore, IsLastBefore, CutFits};
+ghost use Rattle.ts_raw.specs.CodedPoints.{AreBlocks, OthersEndBy, AreCountedBlocks, HasRoom, blocks_at, AllEndBefore, IsLastBefore, CutFits};
 ghost use Rattle.ts_raw.specs.BlockColumns.{IsStaged};
 ghost use Rattle.ts_raw.specs.Rewriting.{IsRewritten};
 
@@ -18,10 +18,10 @@ fn open_last<A: Allocator>(
     handles: &mut Vec<BlockHandle, A>,
     tail: &mut usize,
 ) -> Result<(), AllocError>
-    requires marked { AreBlockHandles bytes.old.items 0 handles.old.items }
+    requires marked { AreBlocks bytes.old.items handles.old.items }
     requires others { OthersEndBy tail.old handles.old.items }
     requires spare { vec_len bytes.old + 20 ≤ vec_capacity bytes.old }
-    ensures marked { AreBlockHandles bytes.new.items 0 handles.new.items }
+    ensures marked { AreBlocks bytes.new.items handles.new.items }
     ensures blocks { blocks_at bytes.new.items handles.new.items ≡ blocks_at bytes.old.items handles.old.items }
     ensures others { OthersEndBy tail.new handles.new.items }
     ensures spare { OnOk result (vec_len bytes.new + 20 ≤ vec_capacity bytes.new) }
@@ -43,11 +43,11 @@ fn stage_last<A: Allocator>(
     tail: &mut usize,
     time: Time,
 ) -> Result<(), AllocError>
-    requires marked { AreBlockHandles bytes.old.items 0 handles.old.items }
+    requires marked { AreBlocks bytes.old.items handles.old.items }
     requires others { OthersEndBy tail.old handles.old.items }
     requires later { AllEndBefore handles.old.items time }
     requires spare { vec_len bytes.old + 20 ≤ vec_capacity bytes.old }
-    ensures marked { AreBlockHandles bytes.new.items 0 handles.new.items }
+    ensures marked { AreBlocks bytes.new.items handles.new.items }
     ensures blocks { blocks_at bytes.new.items handles.new.items ≡ blocks_at bytes.old.items handles.old.items }
     ensures others { OthersEndBy tail.new handles.new.items }
     ensures later { AllEndBefore handles.new.items time }
@@ -70,7 +70,7 @@ fn stage_among<A: Allocator + Copy>(
     cut: usize,
     point: &(Time, i64),
 ) -> Result<Rewritten, AllocError>
-    requires marked { AreBlockHandles bytes.old.items 0 handles.old.items }
+    requires marked { AreBlocks bytes.old.items handles.old.items }
     requires cut { CutFits cut (blocks_at bytes.old.items handles.old.items) }
     requires at { IsLastBefore point.now.0 handles.old.items at }
     requires within { at < length handles.old.items }
@@ -93,7 +93,7 @@ fn stage_boxed<A: Allocator + Copy>(
     cut: usize,
     point: &(Time, i64),
 ) -> Result<Box<Rewritten, A>, AllocError>
-    requires marked { AreBlockHandles bytes.old.items 0 handles.old.items }
+    requires marked { AreBlocks bytes.old.items handles.old.items }
     requires cut { CutFits cut (blocks_at bytes.old.items handles.old.items) }
     requires at { IsLastBefore point.now.0 handles.old.items at }
     requires within { at < length handles.old.items }

@@ -2,7 +2,7 @@ use Rattle.std.proofs.Common.{◌≡◌, ℕ, List, [], ◌∷◌, ◌++◌, ◌
 use Rattle.ts_core.specs.aggregates.Aggregates.{aggregate_of_one}
 use Rattle.ts_block.specs.Appending.{EndsInBlock}
 use Rattle.ts_raw.specs.declared.block_handle.BlockHandle.{BlockHandle}
-use Rattle.ts_raw.specs.CodedPoints.{coded_points, blocks_at, AreCountedBlocks, OthersEndBy}
+use Rattle.ts_raw.specs.CodedPoints.{coded_points, blocks_at, IsCoded, OthersEndBy}
 use Rattle.ts_raw.specs.Rewriting.{IsEncoded}
 use Rattle.ts_raw.proofs.PushLemmas.{all_within, others_from, new_mark, summary_of_one}
 use Rattle.ts_raw.proofs.PushedBlocks.{begun, begun_points, begun_blocks}
@@ -16,7 +16,6 @@ handle g c = record {
   values = 9;
   end = c.len.result;
   count = 1;
-  before = c.args.total;
   last = c.args.point.now.0;
   summary = c.single.result;
 }
@@ -36,31 +35,27 @@ encoded g c =
     let both = new_mark new (handle g c) (c.args.point.now ∷ []) block end refl (one ∙ summary_of_one c.args.point.now) in
     record { handle = both.0; points_are = both.1 }
 
-counts : (g : Over) (c : After-push_reserved g) → (handle g c).before ≡ c.args.total
-unfolding handle
-counts g c = refl
-
 items : (g : Over) (c : After-push_reserved g) → c.push_reserved.new.self.items ≡ c.args.handles.now.items ++ handle g c ∷ []
 unfolding handle
 items g c = c.push_reserved.ensures.items
 
-pub returns-clause-counted : goal.returns-clause-counted
-returns-clause-counted g c =
-    let at = (goal.at.returns-clause-counted g c).After-push_reserved in
-    subst (λ (ms : List BlockHandle). AreCountedBlocks c.begin.new.bytes.items ms (c.args.total + 1)) (sym (items g at))
-    (begun c.args.bytes.now.items c.begin.new.bytes.items c.args.handles.now.items (handle g at) c.args.total c.args.point.now c.requires.counted c.requires.later (kept g at) (encoded g at) (counts g at))
+pub returns-clause-coded : goal.returns-clause-coded
+returns-clause-coded g c =
+    let at = (goal.at.returns-clause-coded g c).After-push_reserved in
+    subst (IsCoded c.begin.new.bytes.items) (sym (items g at))
+    (begun c.args.bytes.now.items c.begin.new.bytes.items c.args.handles.now.items (handle g at) c.args.point.now c.requires.coded c.requires.later (kept g at) (encoded g at))
 
 pub returns-clause-points : goal.returns-clause-points
 returns-clause-points g c =
     let at = (goal.at.returns-clause-points g c).After-push_reserved in
     ap (coded_points c.begin.new.bytes.items) (items g at)
-    ∙ begun_points c.args.bytes.now.items c.begin.new.bytes.items c.args.handles.now.items (handle g at) c.args.total c.args.point.now c.requires.counted c.requires.later (kept g at) (encoded g at) (counts g at)
+    ∙ begun_points c.args.bytes.now.items c.begin.new.bytes.items c.args.handles.now.items (handle g at) c.args.point.now c.requires.coded c.requires.later (kept g at) (encoded g at)
 
 pub returns-clause-blocks : goal.returns-clause-blocks
 returns-clause-blocks g c =
     let at = (goal.at.returns-clause-blocks g c).After-push_reserved in
     ap (blocks_at c.begin.new.bytes.items) (items g at)
-    ∙ begun_blocks c.args.bytes.now.items c.begin.new.bytes.items c.args.handles.now.items (handle g at) c.args.total c.args.point.now c.requires.counted c.requires.later (kept g at) (encoded g at) (counts g at)
+    ∙ begun_blocks c.args.bytes.now.items c.begin.new.bytes.items c.args.handles.now.items (handle g at) c.args.point.now c.requires.coded c.requires.later (kept g at) (encoded g at)
 
 pub returns-clause-others : goal.returns-clause-others
 returns-clause-others g c =
@@ -68,4 +63,4 @@ returns-clause-others g c =
     let bytes : List ℕ = c.args.bytes.now.items in
     let size : length bytes ≡ vec_len c.args.bytes.now = omega (arith, c.args.bytes.now.ok.0) in
     subst (λ n. OthersEndBy n c.push_reserved.new.self.items) size
-    (subst (OthersEndBy (length bytes)) (sym (items g at)) (others_from (length bytes) c.args.handles.now.items (handle g at) (all_within bytes c.args.handles.now.items 0 c.requires.counted.coded.marked)))
+    (subst (OthersEndBy (length bytes)) (sym (items g at)) (others_from (length bytes) c.args.handles.now.items (handle g at) (all_within bytes c.args.handles.now.items c.requires.coded.marked)))

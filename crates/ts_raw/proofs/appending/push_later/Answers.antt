@@ -1,7 +1,7 @@
-use Rattle.std.proofs.Common.{rules, ◌≡◌, ◌-◌, ◌+◌, ◌<◌, ◌≤◌, ◌<ℤ◌, ℕ, List, [], ◌∷◌, ◌++◌, length, take, get_or, vec_len, vec_capacity, ⊎_elim, sym, ap, subst, ◌∙◌, arith}
+use Rattle.std.proofs.Common.{rules, ◌≡◌, ◌-◌, ◌<◌, ℕ, List, [], ◌∷◌, ◌++◌, length, take, vec_len, vec_capacity, ⊎_elim, sym, ap, subst, ◌∙◌, arith}
 use Rattle.ts_raw.specs.declared.block_handle.BlockHandle.{BlockHandle}
-use Rattle.ts_raw.specs.CodedPoints.{IsBlockHandle, AreCountedBlocks, AllEndBefore, AllEndBy, OthersEndBy, LastGrows, CutFits, block_points_at, coded_points, blocks_at}
-use Rattle.ts_raw.proofs.PushLemmas.{others_of, others_from, all_by, all_split, marks_split, blocks_push, cut_longer, cut_more}
+use Rattle.ts_raw.specs.CodedPoints.{IsCoded, AllEndBefore, AllEndBy, OthersEndBy, LastGrows, CutFits, block_points_at, coded_points, blocks_at}
+use Rattle.ts_raw.proofs.PushLemmas.{others_of, others_from, all_by, all_split, parted_last, blocks_push, cut_longer, cut_more}
 use Rattle.ts_raw.proofs.PushedBlocks.{Growing, growing, set_last, grown, grown_points, grown_blocks}
 use Rattle.ts_raw.proofs.appending.push_later.Given.{Over}
 use Rattle.ts_raw.proofs.appending.push_later.Goals.{After-index_mut}
@@ -15,8 +15,8 @@ last g c =
     let at : c.len-at.result - 1 ≡ length ms - 1 = omega (arith, c.len-at.ensures, c.args.handles.now.ok.0) in
     subst (Growing (vec_len c.args.bytes.now) c.args.tail ms (c.len-at.result - 1)) (sym c.index_mut.ensures.value) (growing (vec_len c.args.bytes.now) c.args.tail ms (c.len-at.result - 1) c.index_mut.result.now here at)
 
-counted : (g : Over) (c : After-index_mut g) → AreCountedBlocks c.args.bytes.now.items (take (c.len-at.result - 1) c.args.handles.now.items ++ c.index_mut.result.now ∷ []) c.args.total
-counted g c = subst (λ (x : List BlockHandle). AreCountedBlocks c.args.bytes.now.items x c.args.total) (last g c).split c.requires.counted
+coded : (g : Over) (c : After-index_mut g) → IsCoded c.args.bytes.now.items (take (c.len-at.result - 1) c.args.handles.now.items ++ c.index_mut.result.now ∷ [])
+coded g c = subst (IsCoded c.args.bytes.now.items) (last g c).split c.requires.coded
 
 later : (g : Over) (c : After-index_mut g) → AllEndBefore (take (c.len-at.result - 1) c.args.handles.now.items ++ c.index_mut.result.now ∷ []) c.args.point.now.0
 later g c = subst (λ (x : List BlockHandle). AllEndBefore x c.args.point.now.0) (last g c).split c.requires.later
@@ -40,7 +40,7 @@ push_block-requires-clause-handles_spare g c =
 pub push_last-requires-clause-marked : goal.push_last-requires-clause-marked
 push_last-requires-clause-marked g c =
     let at = (goal.at.push_last-requires-clause-marked g c).After-index_mut in
-    (marks_split c.args.bytes.now.items c.index_mut.result.now (take (c.len-at.result - 1) c.args.handles.now.items) 0 (counted g at).coded.marked).1
+    (parted_last c.args.bytes.now.items c.index_mut.result.now (take (c.len-at.result - 1) c.args.handles.now.items) (coded g at).marked).1
 
 pub push_last-requires-clause-later : goal.push_last-requires-clause-later
 push_last-requires-clause-later g c =
@@ -53,12 +53,12 @@ push_last-requires-clause-few g c = (last g (goal.at.push_last-requires-clause-f
 pub push_last-requires-clause-ends : goal.push_last-requires-clause-ends
 push_last-requires-clause-ends g c = (last g (goal.at.push_last-requires-clause-ends g c).After-index_mut).ends
 
-pub returns-clause-counted : goal.returns-clause-counted
-returns-clause-counted g c =
-    let a = (goal.at.returns-clause-counted g c).After-index_mut in
+pub returns-clause-coded : goal.returns-clause-coded
+returns-clause-coded g c =
+    let a = (goal.at.returns-clause-coded g c).After-index_mut in
     let ms : List BlockHandle = take (c.len-at.result - 1) c.args.handles.now.items in
-    subst (λ (x : List BlockHandle). AreCountedBlocks c.push_last.new.bytes.items x (c.args.total + 1)) (sym (set_last c.args.handles.now.items (c.len-at.result - 1) c.push_last.new.handle (last g a).some))
-    (grown c.args.bytes.now.items c.push_last.new.bytes.items ms c.index_mut.result.now c.push_last.new.handle c.args.total c.args.point.now (counted g a) (later g a) (apart g a) c.push_last.ensures.kept c.push_last.ensures.block c.push_last.ensures.before)
+    subst (IsCoded c.push_last.new.bytes.items) (sym (set_last c.args.handles.now.items (c.len-at.result - 1) c.push_last.new.handle (last g a).some))
+    (grown c.args.bytes.now.items c.push_last.new.bytes.items ms c.index_mut.result.now c.push_last.new.handle c.args.point.now (coded g a) (later g a) (apart g a) c.push_last.ensures.kept c.push_last.ensures.block)
 
 pub returns-clause-others : goal.returns-clause-others
 returns-clause-others g c =
@@ -72,7 +72,7 @@ returns-clause-points g c =
     let new : List ℕ = c.push_last.new.bytes.items in
     let ms : List BlockHandle = take (c.len-at.result - 1) c.args.handles.now.items in
     ap (coded_points new) (set_last c.args.handles.now.items (c.len-at.result - 1) c.push_last.new.handle (last g a).some)
-    ∙ grown_points bytes new ms c.index_mut.result.now c.push_last.new.handle c.args.total c.args.point.now (counted g a) (later g a) (apart g a) c.push_last.ensures.kept c.push_last.ensures.block c.push_last.ensures.before
+    ∙ grown_points bytes new ms c.index_mut.result.now c.push_last.new.handle c.args.point.now (coded g a) (later g a) (apart g a) c.push_last.ensures.kept c.push_last.ensures.block
     ∙ ap (λ (x : List BlockHandle). coded_points bytes x ++ c.args.point.now ∷ []) (sym (last g a).split)
 
 pub returns-clause-cut : goal.returns-clause-cut
@@ -84,7 +84,7 @@ returns-clause-cut g c = λ cut h.
     let m : BlockHandle = c.index_mut.result.now in
     let old = ap (blocks_at bytes) (last g a).split ∙ blocks_push bytes ms m in
     let now = ap (blocks_at new) (set_last c.args.handles.now.items (c.len-at.result - 1) c.push_last.new.handle (last g a).some)
-    ∙ grown_blocks bytes new ms m c.push_last.new.handle c.args.total c.args.point.now (counted g a) (later g a) (apart g a) c.push_last.ensures.kept c.push_last.ensures.block c.push_last.ensures.before in
+    ∙ grown_blocks bytes new ms m c.push_last.new.handle c.args.point.now (coded g a) (later g a) (apart g a) c.push_last.ensures.kept c.push_last.ensures.block in
     subst (CutFits cut) (sym now) (cut_longer cut (blocks_at bytes ms) (block_points_at bytes m) c.args.point.now (subst (CutFits cut) old h))
 
 pub returns-then-not-can_grow-clause-cut : goal.returns-then-not-can_grow-clause-cut

@@ -1,7 +1,7 @@
-use Rattle.std.proofs.Common.{rules, ◌≡◌, ◌<◌, ◌+◌, ◌≤◌, List, length, vec_len, vec_capacity, Result, Ok, Err, OnOk, inl, inr, sym, subst, arith}
+use Rattle.std.proofs.Common.{rules, ◌≡◌, List, length, Result, Ok, Err, OnOk, inl, inr, sym, subst, arith}
 use Rattle.ts_raw.specs.declared.block_handle.BlockHandle.{BlockHandle}
-use Rattle.ts_raw.specs.CodedPoints.{AllEndBefore, LastGrows, HasRoom}
-use Rattle.ts_raw.proofs.BlockLists.{blocks_of_marks, ends_again}
+use Rattle.ts_raw.specs.CodedPoints.{AllEndBefore, LastGrows}
+use Rattle.ts_raw.proofs.BlockLists.{ends_again}
 use Rattle.ts_raw.proofs.staging.stage_last.Given.{Over}
 use Rattle.ts_raw.proofs.staging.stage_last.Goals.{After-open_last}
 use Rattle.ts_raw.proofs.staging.stage_last.Goals as goal
@@ -10,7 +10,7 @@ later : (g : Over) (c : After-open_last g) → AllEndBefore c.open_last.new.hand
 later g c =
     let ms = c.args.handles.now.items in
     let ns = c.open_last.new.handles.items in
-    ends_again c.args.time c.args.bytes.now.items c.open_last.new.bytes.items ms ns (blocks_of_marks c.args.bytes.now.items 0 ms c.requires.marked) (blocks_of_marks c.open_last.new.bytes.items 0 ns c.open_last.ensures.marked) c.open_last.ensures.blocks c.requires.later
+    ends_again c.args.time c.args.bytes.now.items c.open_last.new.bytes.items ms ns c.requires.marked c.open_last.ensures.marked c.open_last.ensures.blocks c.requires.later
 
 pub returns-in_err-open_last-clause-later : goal.returns-in_err-open_last-clause-later
 returns-in_err-open_last-clause-later g c = later g (goal.at.returns-in_err-open_last-clause-later g c).After-open_last
