@@ -39,7 +39,7 @@ impl<'a, A: Allocator> Model for Part<'a, A> {
 
 impl<'a, A: Allocator> Part<'a, A> {
     /// Creates a part from its byte offset, its bytes in the line and its unescaped text.
-    pub(crate) fn new(start: usize, raw: &'a str, text: CowStr<'a, A>) -> Self
+    pub fn new(start: usize, raw: &'a str, text: CowStr<'a, A>) -> Self
         ensures { result ≡ record { start = start; raw = raw.now; text = cow_str_bytes text.entry } }
     {
         Part { start, raw, text }
@@ -83,7 +83,8 @@ impl<'a, A: Allocator> Model for Tag<'a, A> {
 }
 
 impl<'a, A: Allocator> Tag<'a, A> {
-    pub(crate) fn new(key: Part<'a, A>, value: Part<'a, A>) -> Self
+    /// Creates a tag.
+    pub fn new(key: Part<'a, A>, value: Part<'a, A>) -> Self
         ensures { result ≡ (key.entry, value.entry) }
     {
         Tag { key, value }
@@ -121,7 +122,8 @@ impl<'a, A: Allocator> Model for Field<'a, A> {
 }
 
 impl<'a, A: Allocator> Field<'a, A> {
-    pub(crate) fn new(name: Part<'a, A>, value: i64) -> Self
+    /// Creates a field.
+    pub fn new(name: Part<'a, A>, value: i64) -> Self
         ensures { result ≡ (name.entry, value) }
     {
         Field { name, value }
@@ -171,7 +173,9 @@ impl<'a, A: Allocator> Model for Line<'a, A> {
 impl<'a, A: Allocator> Line<'a, A> {
     ghost use Rattle.ts_line.specs.Parts.{AreParts};
 
-    pub(crate) fn new(
+    /// Creates a line, for a program that has its facts in another form than text. It has at most 64 tags, and 1 to 256
+    /// fields with distinct names. No text is empty, and no tag or field is called `time`.
+    pub fn new(
         measurement: Part<'a, A>,
         tags: Vec<Tag<'a, A>, A>,
         fields: Vec<Field<'a, A>, A>,
