@@ -1,6 +1,6 @@
 -- The cells of a rule, by the history that a store represents.
-use Rattle.std.proofs.Common.{◌≡◌, ◌≤ℤ◌, ◌&&◌, Bool, true, false, ℕ, zero, suc, ℤ, List, [], ◌∷◌, Some, ⊥, map, filter, refl, sym, ap, subst, ⊎_elim}
-use Rattle.std.specs.List.{slice_get, AllByRecursion}
+use Rattle.std.proofs.Common.{◌≡◌, ◌≤ℤ◌, ◌&&◌, Bool, true, false, ℕ, zero, suc, ℤ, List, [], ◌∷◌, map, filter, refl, sym, ap, subst}
+use Rattle.std.specs.List.{AllByRecursion}
 use Rattle.std.proofs.lemmas.Option.{same_Some}
 use Rattle.ts_core.specs.lists.Members.{Among}
 use Rattle.ts_core.specs.lists.Numbered.{IsAt}
@@ -21,7 +21,7 @@ use Rattle.ts_store.specs.read.CellsRead.{AreCellsOf}
 -- what holds of each item holds of the one at an index
 of_item : {X : Type 0} (P : X → Type 0) (xs : List X) (n : ℕ) (x : X) → AllByRecursion P xs → IsAt xs n x → P x
 of_item P [] n x all at = absurd cc
-of_item P (y ∷ ys) zero x all at = subst P (same_Some at) all.0
+of_item P (y ∷ ys) zero x all at = subst P (same_Some y x at) all.0
 of_item P (y ∷ ys) (suc n) x all at = of_item P ys n x all.1 at
 
 -- both tests pass

@@ -1,5 +1,5 @@
 -- The cells of a rule that a walk gives, by each history that the store represents. (Own rule.)
-use Rattle.std.specs.Prelude.{◌≡◌, ◌≤ℤ◌, ℤ, true, List, ⊥, map}
+use Rattle.std.specs.Prelude.{◌≡◌, ◌≤ℤ◌, ℤ, true, List, map}
 use Rattle.ts_core.specs.lists.Members.{Among}
 use Rattle.ts_core.specs.facts.Facts.{Column, is_within}
 use Rattle.ts_core.specs.facts.Latest.{latest_of}
