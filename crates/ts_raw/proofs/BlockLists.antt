@@ -5,16 +5,15 @@ use Rattle.std.proofs.Math.Seq.{drop-append_seam, take-length, take-append_seam}
 use Rattle.std.specs.List.{AllByRecursion}
 use Rattle.ts_core.specs.aggregates.Aggregates.{aggregate_of_points}
 use Rattle.ts_core.proofs.store.StateLemmas.{same_head, same_rest}
-use Rattle.ts_block.specs.Blocks.{times_of, ArePoints, IsBlockOf, last_of}
+use Rattle.ts_block.specs.Blocks.{ArePoints, IsBlockOf}
 use Rattle.ts_block.specs.Appending.{EndsInBlock, values_start, last_time}
 use Rattle.ts_block.proofs.DecodingLemmas.{values_inside}
 use Rattle.ts_raw.specs.declared.block_handle.BlockHandle.{BlockHandle}
 use Rattle.ts_raw.specs.Columns.{AreTimed}
 use Rattle.ts_raw.specs.PlainColumns.{IsRising}
-use Rattle.ts_raw.specs.CodedPoints.{block_text_at, block_points_at, coded_points, blocks_at, all_joined, IsBlockHandle, AreBlocks, AreBlockHandles, AreOrdered, AreCountedBlocks, AllEndBefore, OthersEndBy}
-use Rattle.ts_raw.proofs.PushLemmas.{mark_kept, mark_moved, all_within, others_from, marks_push, marks_split, blocks_push, new_mark}
+use Rattle.ts_raw.specs.CodedPoints.{block_text_at, block_points_at, coded_points, blocks_at, all_joined, IsBlockHandle, AreBlocks, AreOrdered, AreCountedBlocks, AllEndBefore, OthersEndBy}
+use Rattle.ts_raw.proofs.PushLemmas.{mark_kept, mark_moved, all_within, others_from, one_more, parted_last, blocks_before, blocks_push, new_mark}
 use Rattle.ts_raw.specs.Rewriting.{IsEncoded}
-use Rattle.ts_raw.proofs.CodedLemmas.{part}
 
 -- ---- all points are those of the blocks
 
@@ -25,10 +24,6 @@ coded_concat bytes (m ∷ ms) = ap (λ (x : List (ℤ × ℤ)). block_points_at 
 
 pub same_points : (b c : List ℕ) (ms ns : List BlockHandle) → blocks_at c ns ≡ blocks_at b ms → coded_points c ns ≡ coded_points b ms
 same_points b c ms ns e = coded_concat c ns ∙ ap all_joined e ∙ sym (coded_concat b ms)
-
-pub blocks_of_marks : (bytes : List ℕ) (before : ℕ) (ms : List BlockHandle) → AreBlockHandles bytes before ms → AreBlocks bytes ms
-blocks_of_marks bytes before [] h = tt
-blocks_of_marks bytes before (m ∷ ms) h = (h.0, blocks_of_marks bytes (before + length (block_points_at bytes m)) ms h.2)
 
 -- ---- last times
 
@@ -55,13 +50,13 @@ ordered_again b c (m ∷ ms) (n ∷ ns) h k e o =
         (subst (λ z. t <ℤ z) (sym here) a.0, all_above t ms ns h.1 k.1 (same_rest (block_points_at c n) (block_points_at b m) (blocks_at c ns) (blocks_at b ms) e) a.1)
 
 -- the same blocks elsewhere hold the same points
-pub counted_again : (b c : List ℕ) (ms ns : List BlockHandle) (total : ℕ) → AreCountedBlocks b ms total → AreBlockHandles c 0 ns → blocks_at c ns ≡ blocks_at b ms → AreCountedBlocks c ns total
+pub counted_again : (b c : List ℕ) (ms ns : List BlockHandle) (total : ℕ) → AreCountedBlocks b ms total → AreBlocks c ns → blocks_at c ns ≡ blocks_at b ms → AreCountedBlocks c ns total
 counted_again b c ms ns total h marked e =
     let same : coded_points c ns ≡ coded_points b ms = same_points b c ms ns e in
     record {
       coded = record {
         marked = marked;
-        ordered = ordered_again b c ms ns (blocks_of_marks b 0 ms h.coded.marked) (blocks_of_marks c 0 ns marked) e h.coded.ordered;
+        ordered = ordered_again b c ms ns h.coded.marked marked e h.coded.ordered;
         rising = subst IsRising (sym same) h.coded.rising;
         timed = subst AreTimed (sym same) h.coded.timed;
       };
@@ -70,27 +65,13 @@ counted_again b c ms ns total h marked e =
 
 -- ---- bytes that are longer
 
-module _ (f q : List ℕ) where
-  blocks_longer : (ms : List BlockHandle) (before : ℕ) → AreBlockHandles f before ms → AreBlockHandles (f ++ q) before ms × (blocks_at (f ++ q) ms ≡ blocks_at f ms)
-  blocks_longer [] before h = (tt, refl)
-  blocks_longer (m ∷ ms) before h =
-      let whole : IsBlockHandle (f ++ []) m = subst (λ (x : List ℕ). IsBlockHandle x m) (sym (append-nil f)) h.0 in
-      let k = mark_kept f [] q m whole h.0.within in
-      let same : block_points_at (f ++ q) m ≡ block_points_at f m = k.1 ∙ ap (λ (x : List ℕ). block_points_at x m) (append-nil f) in
-      let rest = blocks_longer ms (before + length (block_points_at f m)) h.2 in (
-        (k.0, h.1, subst (λ (x : List (ℤ × ℤ)). AreBlockHandles (f ++ q) (before + length x) ms) (sym same) rest.0),
-        (λ i. same i ∷ rest.1 i),
-      )
-
 -- if the bytes begin with the old ones, the blocks are as they were
-pub marks_stay : (old new : List ℕ) (ms : List BlockHandle) → take (length old) new ≡ old → AreBlockHandles old 0 ms → AreBlockHandles new 0 ms × (blocks_at new ms ≡ blocks_at old ms)
-marks_stay old new ms front h =
-    let text : new ≡ old ++ drop (length old) new = sym (take-append-drop (length old) new) ∙ ap (λ (x : List ℕ). x ++ drop (length old) new) front in
-    subst (λ (x : List ℕ). AreBlockHandles x 0 ms × (blocks_at x ms ≡ blocks_at old ms)) (sym text) (blocks_longer old (drop (length old) new) ms 0 h)
+pub blocks_stay : (old new : List ℕ) (ms : List BlockHandle) → take (length old) new ≡ old → AreBlocks old ms → AreBlocks new ms × (blocks_at new ms ≡ blocks_at old ms)
+blocks_stay old new ms front h = blocks_before old new (length old) ms (omega arith) (front ∙ sym (take-length old)) (all_within old ms h) h
 
-pub stays : (old new : List ℕ) (ms ns : List BlockHandle) (n : ℕ) → n ≡ length old → take n new ≡ old → ns ≡ ms → AreBlockHandles old 0 ms → AreBlockHandles new 0 ns × (blocks_at new ns ≡ blocks_at old ms)
+pub stays : (old new : List ℕ) (ms ns : List BlockHandle) (n : ℕ) → n ≡ length old → take n new ≡ old → ns ≡ ms → AreBlocks old ms → AreBlocks new ns × (blocks_at new ns ≡ blocks_at old ms)
 stays old new ms ns n size front items marked =
-    subst (λ (x : List BlockHandle). AreBlockHandles new 0 x × (blocks_at new x ≡ blocks_at old ms)) (sym items) (marks_stay old new ms (subst (λ k. take k new ≡ old) size front) marked)
+    subst (λ (x : List BlockHandle). AreBlocks new x × (blocks_at new x ≡ blocks_at old ms)) (sym items) (blocks_stay old new ms (subst (λ k. take k new ≡ old) size front) marked)
 
 pub mark_stays : (old new : List ℕ) (m : BlockHandle) → take (length old) new ≡ old → IsBlockHandle old m → IsBlockHandle new m × (block_points_at new m ≡ block_points_at old m)
 mark_stays old new m front h =
@@ -116,40 +97,33 @@ mark_copied src old new m n h is s e v k l a =
     let text : block_text_at new n ≡ block_text_at src m = (λ i. take (width i) (drop (s i) (is i))) ∙ ap (take (length (block_text_at src m))) (drop-append_seam old (block_text_at src m)) ∙ take-length (block_text_at src m) in
     mark_moved src new m n h text (omega arith) (omega arith) v k l a
 
-module _ (old new : List ℕ) (ms : List BlockHandle) (m n : BlockHandle) (h : AreBlockHandles old 0 (ms ++ m ∷ [])) (is : new ≡ old ++ block_text_at old m)
-    (s : n.start ≡ length old) (e : n.end ≡ length new) (v : n.values ≡ m.values) (k : n.count ≡ m.count) (b : n.before ≡ m.before) (l : n.last ≡ m.last) (a : n.summary ≡ m.summary) where
+module _ (old new : List ℕ) (ms : List BlockHandle) (m n : BlockHandle) (h : AreBlocks old (ms ++ m ∷ [])) (is : new ≡ old ++ block_text_at old m)
+    (s : n.start ≡ length old) (e : n.end ≡ length new) (v : n.values ≡ m.values) (k : n.count ≡ m.count) (l : n.last ≡ m.last) (a : n.summary ≡ m.summary) where
   front : take (length old) new ≡ old
   front = ap (take (length old)) is ∙ take-append_seam old (block_text_at old m)
 
-  old_parts : AreBlockHandles old 0 ms × IsBlockHandle old m × (m.before ≡ 0 + length (coded_points old ms))
-  old_parts = marks_split old m ms 0 h
+  old_parts : AreBlocks old ms × IsBlockHandle old m
+  old_parts = parted_last old m ms h
 
-  stay : AreBlockHandles new 0 ms × (blocks_at new ms ≡ blocks_at old ms)
-  stay = marks_stay old new ms front old_parts.0
+  stay : AreBlocks new ms × (blocks_at new ms ≡ blocks_at old ms)
+  stay = blocks_stay old new ms front old_parts.0
 
   moved : IsBlockHandle new n × (block_points_at new n ≡ block_points_at old m)
   moved = mark_copied old old new m n old_parts.1 is s e v k l a
 
-  pub moved_marked : AreBlockHandles new 0 (ms ++ n ∷ [])
-  moved_marked = marks_push new n ms 0 stay.0 moved.0 (let a = old_parts.2 in let c = ap length (same_points old new ms ms stay.1) in omega arith)
+  pub moved_marked : AreBlocks new (ms ++ n ∷ [])
+  moved_marked = one_more new n ms stay.0 moved.0
 
   pub moved_blocks : blocks_at new (ms ++ n ∷ []) ≡ blocks_at old (ms ++ m ∷ [])
   moved_blocks = blocks_push new ms n ∙ (λ i. stay.1 i ++ (moved.1 i ∷ [])) ∙ sym (blocks_push old ms m)
 
   pub moved_others : OthersEndBy (length old) (ms ++ n ∷ [])
-  moved_others = others_from (length old) ms n (all_within old ms 0 old_parts.0)
+  moved_others = others_from (length old) ms n (all_within old ms old_parts.0)
 
-pub mark_at : (bytes : List ℕ) (ms : List BlockHandle) (before i : ℕ) (d : BlockHandle) → AreBlockHandles bytes before ms → i < length ms → IsBlockHandle bytes (get_or ms i d)
-mark_at bytes ms before i d h l = let p = part bytes ms before i d h l in p.handle
-
-pub before_at : (bytes : List ℕ) (ms : List BlockHandle) (before i : ℕ) (d : BlockHandle) → AreBlockHandles bytes before ms → i < length ms → (get_or ms i d).before ≡ before + length (coded_points bytes (take i ms))
-unfolding coded_points
-before_at bytes [] before i d h l = absurd (omega arith)
-before_at bytes (m ∷ ms) before zero d h l = h.1 ∙ (let n : before ≡ before + 0 = omega arith in n)
-before_at bytes (m ∷ ms) before (suc i) d h l =
-    let a = before_at bytes ms (before + length (block_points_at bytes m)) i d h.2 (omega arith) in
-    let b = length-append (block_points_at bytes m) (coded_points bytes (take i ms)) in
-    omega arith
+pub mark_at : (bytes : List ℕ) (ms : List BlockHandle) (i : ℕ) (d : BlockHandle) → AreBlocks bytes ms → i < length ms → IsBlockHandle bytes (get_or ms i d)
+mark_at bytes [] i d h l = absurd (omega arith)
+mark_at bytes (m ∷ ms) zero d h l = h.0
+mark_at bytes (m ∷ ms) (suc i) d h l = mark_at bytes ms i d h.1 (omega arith)
 
 pub take_next : {X : Type 0} (xs : List X) (i : ℕ) (d : X) → i < length xs → take (i + 1) xs ≡ take i xs ++ (get_or xs i d ∷ [])
 take_next [] i d l = absurd (omega arith)
@@ -159,17 +133,15 @@ take_next (x ∷ xs) (suc i) d l =
     ap (λ k. take k (x ∷ xs)) n ∙ ap (λ (z : List _). x ∷ z) (take_next xs i d (omega arith))
 
 -- one more block is copied
-pub copied_more : (src old new : List ℕ) (all ms : List BlockHandle) (i : ℕ) (n d : BlockHandle) → AreBlockHandles src 0 all → i < length all → AreBlockHandles old 0 ms → blocks_at old ms ≡ blocks_at src (take i all) → new ≡ old ++ block_text_at src (get_or all i d)
-    → n.start ≡ length old → n.end ≡ length new → n.values ≡ (get_or all i d).values → n.count ≡ (get_or all i d).count → n.before ≡ (get_or all i d).before → n.last ≡ (get_or all i d).last → n.summary ≡ (get_or all i d).summary
-    → AreBlockHandles new 0 (ms ++ n ∷ []) × (blocks_at new (ms ++ n ∷ []) ≡ blocks_at src (take (i + 1) all))
-copied_more src old new all ms i n d h l marked blocks is s e v k b last summary =
+pub copied_more : (src old new : List ℕ) (all ms : List BlockHandle) (i : ℕ) (n d : BlockHandle) → AreBlocks src all → i < length all → AreBlocks old ms → blocks_at old ms ≡ blocks_at src (take i all) → new ≡ old ++ block_text_at src (get_or all i d)
+    → n.start ≡ length old → n.end ≡ length new → n.values ≡ (get_or all i d).values → n.count ≡ (get_or all i d).count → n.last ≡ (get_or all i d).last → n.summary ≡ (get_or all i d).summary
+    → AreBlocks new (ms ++ n ∷ []) × (blocks_at new (ms ++ n ∷ []) ≡ blocks_at src (take (i + 1) all))
+copied_more src old new all ms i n d h l marked blocks is s e v k last summary =
     let m : BlockHandle = get_or all i d in
     let front : take (length old) new ≡ old = ap (take (length old)) is ∙ take-append_seam old (block_text_at src m) in
-    let stay = marks_stay old new ms front marked in
-    let here = mark_copied src old new m n (mark_at src all 0 i d h l) is s e v k last summary in
-    let count = before_at src all 0 i d h l in
-    let same = ap length (same_points src new (take i all) ms (stay.1 ∙ blocks)) in (
-      marks_push new n ms 0 stay.0 here.0 (omega arith),
+    let stay = blocks_stay old new ms front marked in
+    let here = mark_copied src old new m n (mark_at src all i d h l) is s e v k last summary in (
+      one_more new n ms stay.0 here.0,
       blocks_push new ms n ∙ (λ j. (stay.1 ∙ blocks) j ++ (here.1 j ∷ [])) ∙ sym (blocks_push src (take i all) m) ∙ ap (blocks_at src) (sym (take_next all i d l)),
     )
 

@@ -1,6 +1,7 @@
 -- A column as coded blocks.
-use Rattle.std.proofs.Common.{◌≡◌, ℕ, zero, suc, ◌+◌, ◌-◌, ◌<◌, ◌≤◌, max, ℤ, pos, ◌+ℤ◌, ◌<ℤ◌, ◌≤ℤ◌, int_cmp, int_lt, int_le, true, false, is_lt, is_eq, cond, T, List, [], ◌∷◌, ◌++◌, length, take, drop, filter, get_or, slice_get, append-nil, length-append, length-drop, drop-cons, Option, Some, None, Result, Ok, Err, IfOk, refl, sym, ◌∙◌, ap, subst, arith}
+use Rattle.std.proofs.Common.{◌≡◌, ℕ, zero, suc, ◌+◌, ◌-◌, ◌<◌, ◌≤◌, max, ℤ, pos, ◌+ℤ◌, ◌<ℤ◌, ◌≤ℤ◌, int_cmp, int_lt, int_le, true, false, is_lt, is_eq, cond, T, List, [], ◌∷◌, ◌++◌, length, take, drop, filter, get_or, slice_get, ⊎_elim, append-nil, length-append, length-drop, drop-cons, Option, Some, None, Result, Ok, Err, IfOk, refl, sym, ◌∙◌, ap, subst, arith}
 use Rattle.std.proofs.lemmas.Int.{ints}
+use Rattle.std.proofs.lemmas.Bool.{cases_lt}
 use Rattle.std.proofs.lemmas.List.{take-append-drop, drop-append-le, drop-drop}
 use Rattle.std.proofs.Math.Seq.{drop-append-add}
 use Rattle.std.specs.Iterator.{YieldsFirst}
@@ -14,13 +15,14 @@ use Rattle.ts_core.specs.facts.Facts.{is_within}
 use Rattle.ts_core.specs.facts.Times.{IsTime}
 use Rattle.ts_core.proofs.lists.Places.{both_of}
 use Rattle.ts_core.proofs.lists.Comparisons.{lt_from}
+use Rattle.ts_core.proofs.lists.Windows.{filter-within, filter-nothing_within}
 use Rattle.ts_block.specs.Blocks.{times_of, ArePoints, last_of}
 use Rattle.ts_block.specs.Appending.{last_time}
 use Rattle.ts_raw.specs.declared.block_handle.BlockHandle.{BlockHandle}
 use Rattle.ts_raw.specs.declared.rewriting.Rewritten.{Rewritten}
 use Rattle.ts_raw.specs.Columns.{AreTimed}
 use Rattle.ts_raw.specs.PlainColumns.{IsRising, IsStartOf}
-use Rattle.ts_raw.specs.CodedPoints.{block_text_at, block_points_at, coded_points, blocks_at, IsBlockHandle, AreBlocks, AreBlockHandles, AreOrdered, AreCountedBlocks, with_starts, count_in_blocks, before_first, AllEndBefore, OthersEndBy, IsLastBefore, CutFits}
+use Rattle.ts_raw.specs.CodedPoints.{block_text_at, block_points_at, coded_points, blocks_at, IsBlockHandle, AreBlocks, AreOrdered, IsCoded, AreCountedBlocks, count_in_blocks, before_first, AllEndBefore, OthersEndBy, IsLastBefore, CutFits}
 use Rattle.ts_raw.specs.Rewriting.{IsRewritten, blocks_of, handles_replaced, cut_in_block, cut_after}
 use Rattle.ts_raw.specs.BlockColumns.{AreBlocksOf, texts_at, IsColumn}
 use Rattle.ts_raw.proofs.CodedLemmas.{points_hold}
@@ -28,8 +30,8 @@ use Rattle.ts_raw.proofs.CutLemmas.{first_parts, first_bound, start_behind, is_r
 use Rattle.ts_raw.proofs.PointMaps.{rising-put, timed-put, from_sorted-put}
 use Rattle.ts_raw.proofs.PointRanges.{drop-before}
 use Rattle.ts_raw.proofs.PushLemmas.{none_counted, coded_less, all_within, others_by}
-use Rattle.ts_raw.proofs.BlockLists.{blocks_of_marks, mark_at, mark_stays, same_points, take_next}
-use Rattle.ts_raw.proofs.RewriteLemmas.{counts_are, marks_numbered, coded_join, rising_first, put_after, put_within, last_after_drop, length_put, numbered_marks, numbered_blocks}
+use Rattle.ts_raw.proofs.BlockLists.{mark_at, mark_stays, take_next}
+use Rattle.ts_raw.proofs.RewriteLemmas.{counts_are, count_front, coded_join, rising_first, put_after, put_within, last_after_drop, length_put}
 
 -- ---- the removed points are within the first block
 
@@ -42,7 +44,7 @@ few_in : (ps : List (ℤ × ℤ)) → ArePoints ps → (length ps ≤ 256) × (0
 few_in [] h = absurd h
 few_in (p ∷ ps) h = let a = h.0 in (omega arith, omega arith)
 
-pub cut_few : (bytes : List ℕ) (ms : List BlockHandle) (cut : ℕ) → AreBlockHandles bytes 0 ms → CutFits cut (blocks_at bytes ms) → cut ≤ 255
+pub cut_few : (bytes : List ℕ) (ms : List BlockHandle) (cut : ℕ) → AreBlocks bytes ms → CutFits cut (blocks_at bytes ms) → cut ≤ 255
 cut_few bytes [] cut marked h = omega arith
 cut_few bytes (m ∷ ms) cut marked h = let a = (few_in (block_points_at bytes m) marked.0.block.points_are).0 in omega arith
 
@@ -56,21 +58,21 @@ no_points bytes ms c d b m = subst (λ (x : List BlockHandle). IsColumn bytes x 
 
 -- ---- the blocks' bytes
 
-pub blocks_are : (bytes : List ℕ) (ms : List BlockHandle) (before : ℕ) → AreBlockHandles bytes before ms → AreBlocksOf (texts_at bytes ms) (blocks_at bytes ms)
-blocks_are bytes [] before h = tt
-blocks_are bytes (m ∷ ms) before h = (h.0.block, blocks_are bytes ms (before + length (block_points_at bytes m)) h.2)
+pub blocks_are : (bytes : List ℕ) (ms : List BlockHandle) → AreBlocks bytes ms → AreBlocksOf (texts_at bytes ms) (blocks_at bytes ms)
+blocks_are bytes [] h = tt
+blocks_are bytes (m ∷ ms) h = (h.0.block, blocks_are bytes ms h.1)
 
-pub mark_found : (bytes : List ℕ) (ms : List BlockHandle) (before i : ℕ) (m : BlockHandle) → AreBlockHandles bytes before ms → slice_get ms i ≡ Some m → IsBlockHandle bytes m × (slice_get (texts_at bytes ms) i ≡ Some (block_text_at bytes m))
-mark_found bytes [] before i m h e = absurd (none_some m e)
+pub mark_found : (bytes : List ℕ) (ms : List BlockHandle) (i : ℕ) (m : BlockHandle) → AreBlocks bytes ms → slice_get ms i ≡ Some m → IsBlockHandle bytes m × (slice_get (texts_at bytes ms) i ≡ Some (block_text_at bytes m))
+mark_found bytes [] i m h e = absurd (none_some m e)
   where
     none_some : (m : BlockHandle) → slice_get {X = BlockHandle} [] i ≡ Some m → ⊥
     none_some m e = cc
-mark_found bytes (n ∷ ms) before zero m h e = let same : n ≡ m = ap (λ (x : Option BlockHandle). or_else n x) e in (subst (IsBlockHandle bytes) same h.0, ap (λ x. Some (block_text_at bytes x)) same)
+mark_found bytes (n ∷ ms) zero m h e = let same : n ≡ m = ap (λ (x : Option BlockHandle). or_else n x) e in (subst (IsBlockHandle bytes) same h.0, ap (λ x. Some (block_text_at bytes x)) same)
   where
     or_else : BlockHandle → Option BlockHandle → BlockHandle
     or_else d None = d
     or_else d (Some x) = x
-mark_found bytes (n ∷ ms) before (suc i) m h e = mark_found bytes ms (before + length (block_points_at bytes n)) i m h.2 e
+mark_found bytes (n ∷ ms) (suc i) m h e = mark_found bytes ms i m h.1 e
 
 -- ---- the value at a time
 
@@ -116,10 +118,10 @@ not_less x t h = grind (arith, ints, h)
 pub reaches : (t : ℤ) (ms : List BlockHandle) (at : ℕ) (d : BlockHandle) → at < length ms → IsLastBefore t ms at → t ≤ℤ (get_or ms at d).last
 reaches t ms at d l p = not_less (get_or ms at d).last t (p.1 at d (omega arith) l)
 
-pub is_rewritten : (old new : List ℕ) (ms : List BlockHandle) (at cut : ℕ) (d : BlockHandle) (p : ℤ × ℤ) (r : Rewritten) → AreBlockHandles old 0 ms → at < length ms → IsLastBefore p.0 ms at → r.at ≡ at → AreBlocks new (blocks_of r)
+pub is_rewritten : (old new : List ℕ) (ms : List BlockHandle) (at cut : ℕ) (d : BlockHandle) (p : ℤ × ℤ) (r : Rewritten) → AreBlocks old ms → at < length ms → IsLastBefore p.0 ms at → r.at ≡ at → AreBlocks new (blocks_of r)
     → coded_points new (blocks_of r) ≡ put int_cmp p.0 p.1 (drop (cut_in_block at cut) (block_points_at old (get_or ms at d))) → take (length old) new ≡ old → IsRewritten new ms cut p r
 is_rewritten old new ms at cut d p r marked l part is blocks points front =
-    let stays = mark_stays old new (get_or ms at d) front (mark_at old ms 0 at d marked l) in
+    let stays = mark_stays old new (get_or ms at d) front (mark_at old ms at d marked l) in
     record {
       within = let e = is in omega arith;
       old = get_or ms at d;
@@ -178,20 +180,9 @@ ordered_from bytes (m ∷ ms) h s = (
   ordered_from bytes ms h.1 (rising_rest (block_points_at bytes m) (coded_points bytes ms) s),
 )
 
--- blocks that are counted anew hold rising points
-pub counted_anew : (bytes : List ℕ) (ms : List BlockHandle) → AreBlocks bytes ms → IsRising (coded_points bytes ms) → AreTimed (coded_points bytes ms)
-    → AreCountedBlocks bytes (with_starts 0 ms) (length (coded_points bytes ms)) × (coded_points bytes (with_starts 0 ms) ≡ coded_points bytes ms)
-counted_anew bytes ms h s t =
-    let new : List BlockHandle = with_starts 0 ms in
-    let marked = numbered_marks bytes 0 ms h in
-    let same : coded_points bytes new ≡ coded_points bytes ms = same_points bytes bytes ms new (numbered_blocks bytes 0 ms) in
-    let rising = subst IsRising (sym same) s in (
-      record {
-        coded = record { marked = marked; ordered = ordered_from bytes new (blocks_of_marks bytes 0 new marked) rising; rising = rising; timed = subst AreTimed (sym same) t };
-        total_is = ap length (sym same);
-      },
-      same,
-    )
+-- blocks of rising points
+pub coded_anew : (bytes : List ℕ) (ms : List BlockHandle) → AreBlocks bytes ms → IsRising (coded_points bytes ms) → AreTimed (coded_points bytes ms) → IsCoded bytes ms
+coded_anew bytes ms h s t = record { marked = h; ordered = ordered_from bytes ms h s; rising = s; timed = t }
 
 blocks_front : (bytes : List ℕ) (k : ℕ) (ms : List BlockHandle) → AreBlocks bytes ms → AreBlocks bytes (take k ms)
 blocks_front bytes zero ms h = tt
@@ -206,11 +197,6 @@ blocks_behind bytes (suc k) (m ∷ ms) h = blocks_behind bytes k ms h.1
 blocks_join : (bytes : List ℕ) (ms ns : List BlockHandle) → AreBlocks bytes ms → AreBlocks bytes ns → AreBlocks bytes (ms ++ ns)
 blocks_join bytes [] ns h k = k
 blocks_join bytes (m ∷ ms) ns h k = (h.0, blocks_join bytes ms ns h.1 k)
-
-marks_front : (bytes : List ℕ) (before k : ℕ) (ms : List BlockHandle) → AreBlockHandles bytes before ms → AreBlockHandles bytes before (take k ms)
-marks_front bytes before zero ms h = tt
-marks_front bytes before (suc k) [] h = tt
-marks_front bytes before (suc k) (m ∷ ms) h = (h.0, h.1, marks_front bytes (before + length (block_points_at bytes m)) k ms h.2)
 
 all_dropped : (t : ℤ) (k : ℕ) (ps : List (ℤ × ℤ)) → AllByRecursion (λ (q : ℤ × ℤ). q.0 <ℤ t) ps → AllByRecursion (λ (q : ℤ × ℤ). q.0 <ℤ t) (drop k ps)
 all_dropped t zero ps h = h
@@ -237,7 +223,7 @@ module _ (bytes : List ℕ) (ms : List BlockHandle) (total cut : ℕ) (p : ℤ �
   new_is = coded_join bytes (take r.at ms) (blocks_of r ++ drop (r.at + 1) ms) ∙ ap (λ (x : List (ℤ × ℤ)). F ++ x) (coded_join bytes (blocks_of r) (drop (r.at + 1) ms) ∙ ap (λ (x : List (ℤ × ℤ)). x ++ B) w.points)
 
   split_blocks : AreBlocks bytes (take r.at ms ++ (w.old ∷ drop (r.at + 1) ms))
-  split_blocks = subst (AreBlocks bytes) w.split (blocks_of_marks bytes 0 ms c.coded.marked)
+  split_blocks = subst (AreBlocks bytes) w.split c.coded.marked
 
   old_mark : (xs ys : List BlockHandle) (m : BlockHandle) → AreBlocks bytes (xs ++ (m ∷ ys)) → IsBlockHandle bytes m
   old_mark [] ys m h = h.0
@@ -247,20 +233,10 @@ module _ (bytes : List ℕ) (ms : List BlockHandle) (total cut : ℕ) (p : ℤ �
   is_old = old_mark (take r.at ms) (drop (r.at + 1) ms) w.old split_blocks
 
   less : AllByRecursion (λ (q : ℤ × ℤ). q.0 <ℤ p.0) F
-  less = coded_less bytes p.0 (take r.at ms) 0 (marks_front bytes 0 r.at ms c.coded.marked) w.earlier
+  less = coded_less bytes p.0 (take r.at ms) (blocks_front bytes r.at ms c.coded.marked) w.earlier
 
   reach : p.0 ≤ℤ last_time P
   reach = subst (λ z. p.0 ≤ℤ z) is_old.last_is w.reached
-
-  -- the first block alone has removed points, which are left out of the new one
-  first_case : (at : ℕ) (xs : List BlockHandle) → at ≡ 0 → xs ≡ take at ms → (cut_in_block at cut ≡ cut) × (cut_after at cut ≡ 0) × (coded_points bytes xs ≡ [])
-  unfolding coded_points
-  first_case zero xs e x = (refl, refl, ap (coded_points bytes) x)
-  first_case (suc k) xs e x = absurd (omega arith)
-
-  later_case : (at : ℕ) → (at ≡ 0 → ⊥) → (cut_in_block at cut ≡ 0) × (cut_after at cut ≡ cut)
-  later_case zero n = absurd (n refl)
-  later_case (suc k) n = (refl, refl)
 
   first_cut : (ns : List BlockHandle) (m : BlockHandle) (ys : List BlockHandle) → ns ≡ m ∷ ys → CutFits cut (blocks_at bytes ns) → cut < length (block_points_at bytes m)
   first_cut ns m ys e h = subst (λ (x : List BlockHandle). CutFits cut (blocks_at bytes x)) e h
@@ -298,7 +274,7 @@ module _ (bytes : List ℕ) (ms : List BlockHandle) (total cut : ℕ) (p : ℤ �
 
   pub replaced_blocks : AreBlocks bytes (handles_replaced r ms)
   replaced_blocks =
-      let all = blocks_of_marks bytes 0 ms c.coded.marked in
+      let all = c.coded.marked in
       blocks_join bytes (take r.at ms) (blocks_of r ++ drop (r.at + 1) ms) (blocks_front bytes r.at ms all) (blocks_join bytes (blocks_of r) (drop (r.at + 1) ms) w.blocks (blocks_behind bytes (r.at + 1) ms all))
 
   all_new : coded_points bytes (handles_replaced r ms) ≡ put int_cmp p.0 p.1 (drop (cut_in_block r.at cut) (coded_points bytes ms))
@@ -316,15 +292,15 @@ module _ (bytes : List ℕ) (ms : List BlockHandle) (total cut : ℕ) (p : ℤ �
       let e = c.total_is in
       omega arith
 
-  replaced_anew : IsTime p.0 → AreCountedBlocks bytes (with_starts 0 (handles_replaced r ms)) (length (coded_points bytes (handles_replaced r ms))) × (coded_points bytes (with_starts 0 (handles_replaced r ms)) ≡ coded_points bytes (handles_replaced r ms))
+  replaced_anew : IsTime p.0 → IsCoded bytes (handles_replaced r ms)
   replaced_anew is =
       let rest : List (ℤ × ℤ) = drop (cut_in_block r.at cut) (coded_points bytes ms) in
-      counted_anew bytes (handles_replaced r ms) replaced_blocks
+      coded_anew bytes (handles_replaced r ms) replaced_blocks
       (subst IsRising (sym all_new) (rising-put rest (is_rising_behind (cut_in_block r.at cut) (coded_points bytes ms) c.coded.rising) p.0 p.1))
       (subst AreTimed (sym all_new) (timed-put rest (timed_behind (cut_in_block r.at cut) (coded_points bytes ms) c.coded.timed) p.0 p.1 is))
 
-  pub replaced_points : IsTime p.0 → drop (cut_after r.at cut) (coded_points bytes (with_starts 0 (handles_replaced r ms))) ≡ put int_cmp p.0 p.1 (drop cut (coded_points bytes ms))
-  replaced_points is = ap (drop (cut_after r.at cut)) ((replaced_anew is).1 ∙ new_is) ∙ (whole r.at refl).1 ∙ ap (λ (x : List (ℤ × ℤ)). put int_cmp p.0 p.1 (drop cut x)) (sym old_is)
+  pub replaced_points : drop (cut_after r.at cut) (coded_points bytes (handles_replaced r ms)) ≡ put int_cmp p.0 p.1 (drop cut (coded_points bytes ms))
+  replaced_points = ap (drop (cut_after r.at cut)) new_is ∙ (whole r.at refl).1 ∙ ap (λ (x : List (ℤ × ℤ)). put int_cmp p.0 p.1 (drop cut x)) (sym old_is)
 
   cut_again : (at : ℕ) → r.at ≡ at → CutFits (cut_after at cut) (blocks_at bytes (handles_replaced r ms))
   cut_again zero e = subst (λ k. CutFits 0 (blocks_at bytes (take k ms ++ (blocks_of r ++ drop (r.at + 1) ms)))) (sym e) ((few_in (block_points_at bytes r.first) w.blocks.0.block.points_are).1)
@@ -335,11 +311,11 @@ module _ (bytes : List ℕ) (ms : List BlockHandle) (total cut : ℕ) (p : ℤ �
       same_first (m ∷ ns) h l = h
 
   pub replaced_column : (capacity handles_capacity tail : ℕ) (new : Option Rewritten) → IsTime p.0 → tail ≡ length bytes
-      → IsColumn bytes (with_starts 0 (handles_replaced r ms)) (length (coded_points bytes (handles_replaced r ms))) (cut_after r.at cut) tail capacity handles_capacity None new
+      → IsColumn bytes (handles_replaced r ms) (length (coded_points bytes (handles_replaced r ms))) (cut_after r.at cut) tail capacity handles_capacity None new
   replaced_column capacity handles_capacity tail new is t = record {
-    counted = (replaced_anew is).0;
-    others = subst (λ n. OthersEndBy n (with_starts 0 (handles_replaced r ms))) (sym t) (others_by (length bytes) (with_starts 0 (handles_replaced r ms)) (all_within bytes (with_starts 0 (handles_replaced r ms)) 0 (replaced_anew is).0.coded.marked));
-    cut_fits = subst (CutFits (cut_after r.at cut)) (sym (numbered_blocks bytes 0 (handles_replaced r ms))) (cut_again r.at refl);
+    counted = record { coded = replaced_anew is; total_is = refl };
+    others = subst (λ n. OthersEndBy n (handles_replaced r ms)) (sym t) (others_by (length bytes) (handles_replaced r ms) (all_within bytes (handles_replaced r ms) replaced_blocks));
+    cut_fits = cut_again r.at refl;
     is_staged = tt;
   }
 
@@ -351,7 +327,10 @@ before_all t (x ∷ xs) ys h =
     let yes : int_lt x.0 t ≡ true = grind (arith, ints) in
     ap (λ b. cond b (suc (before_first t (xs ++ ys))) 0) yes ∙ ap suc (before_all t xs ys h.1) ∙ (let n : suc (length xs + before_first t ys) ≡ suc (length xs) + before_first t ys = omega arith in n)
 
-module _ (bytes : List ℕ) (ms : List BlockHandle) (total cut at n : ℕ) (t : ℤ) (c : AreCountedBlocks bytes ms total) (f : CutFits cut (blocks_at bytes ms)) (l : at ≤ length ms) (part : IsLastBefore t ms at) (is : n ≡ before_first t (coded_points bytes ms)) where
+module _ (bytes : List ℕ) (ms : List BlockHandle) (cut at : ℕ) (t : ℤ) (c : IsCoded bytes ms) (f : CutFits cut (blocks_at bytes ms)) (l : at ≤ length ms) (part : IsLastBefore t ms at) where
+  abbrev n : ℕ
+  n = before_first t (coded_points bytes ms)
+
   abbrev G : List (ℤ × ℤ)
   G = coded_points bytes (take at ms)
 
@@ -362,18 +341,18 @@ module _ (bytes : List ℕ) (ms : List BlockHandle) (total cut at n : ℕ) (t : 
   parts = ap (coded_points bytes) (sym (take-append-drop at ms)) ∙ coded_join bytes (take at ms) (drop at ms)
 
   earlier : AllByRecursion (λ (q : ℤ × ℤ). q.0 <ℤ t) G
-  earlier = coded_less bytes t (take at ms) 0 (marks_front bytes 0 at ms c.coded.marked) (ends_before t ms at l part)
+  earlier = coded_less bytes t (take at ms) (blocks_front bytes at ms c.marked) (ends_before t ms at l part)
 
-  pub count_is : n ≡ length G + before_first t R
-  count_is = is ∙ ap (before_first t) parts ∙ before_all t G R earlier
+  count_is : n ≡ length G + before_first t R
+  count_is = ap (before_first t) parts ∙ before_all t G R earlier
 
   -- the points left are those from t on
-  pub dropped_points : drop (max n cut - length G) R ≡ filter (λ (q : ℤ × ℤ). int_le t q.0) (drop cut (coded_points bytes ms))
+  dropped_points : drop (max n cut - length G) R ≡ filter (λ (q : ℤ × ℤ). int_le t q.0) (drop cut (coded_points bytes ms))
   dropped_points =
       let C : List (ℤ × ℤ) = coded_points bytes ms in
       let fits = cut_within bytes ms cut f in
-      let start : IsStartOf t C n = subst (IsStartOf t C) (sym is) (first_parts t C c.coded.rising) in
-      let bound : n ≤ length C = subst (λ k. k ≤ length C) (sym is) (first_bound t C) in
+      let start : IsStartOf t C n = first_parts t C c.rising in
+      let bound : n ≤ length C = first_bound t C in
       let more = count_is in
       ap (λ k. drop k R) (let e : max n cut - length G ≡ max n cut - length G = refl in e)
       ∙ sym (drop-append-add G R (max n cut - length G))
@@ -402,15 +381,23 @@ module _ (bytes : List ℕ) (ms : List BlockHandle) (total cut at n : ℕ) (t : 
       drop_none zero xs e = e
       drop_none (suc k) xs e = ap (drop (suc k)) e
 
+  -- the block there has the first of them
+  pub held_there : (d : BlockHandle) → at < length ms → before_first t R ≡ before_first t (block_points_at bytes (get_or ms at d))
+  unfolding coded_points
+  held_there d h =
+      let m : BlockHandle = get_or ms at d in
+      let is_mark = mark_at bytes ms at d c.marked h in
+      ap (λ (x : List BlockHandle). before_first t (coded_points bytes x)) (drop-cons ms at d h)
+      ∙ points_hold t (block_points_at bytes m) (coded_points bytes (drop (suc at) ms)) is_mark.block.points_are (ap (λ z. int_lt z t) (sym is_mark.last_is) ∙ part.1 at d (omega arith) h)
+
   -- the rest begins with a block that isn't removed whole
-  pub dropped_some : (d : BlockHandle) → at < length ms → CutFits (max n cut - length G) (blocks_at bytes (drop at ms))
+  dropped_some : (d : BlockHandle) → at < length ms → CutFits (max n cut - length G) (blocks_at bytes (drop at ms))
   unfolding coded_points
   dropped_some d h =
       let m : BlockHandle = get_or ms at d in
       let first : drop at ms ≡ m ∷ drop (suc at) ms = drop-cons ms at d h in
-      let is_mark = mark_at bytes ms 0 at d c.coded.marked h in
-      let held : before_first t (block_points_at bytes m ++ coded_points bytes (drop (suc at) ms)) ≡ before_first t (block_points_at bytes m) = points_hold t (block_points_at bytes m) (coded_points bytes (drop (suc at) ms)) is_mark.block.points_are (ap (λ z. int_lt z t) (sym is_mark.last_is) ∙ part.1 at d (omega arith) h) in
-      let some : before_first t R ≡ before_first t (block_points_at bytes m) = ap (λ (x : List BlockHandle). before_first t (coded_points bytes x)) first ∙ held in
+      let is_mark = mark_at bytes ms at d c.marked h in
+      let some = held_there d h in
       let fewer = last_stays t (block_points_at bytes m) is_mark.block.points_are (not_less (last_time (block_points_at bytes m)) t (ap (λ z. int_lt z t) (sym is_mark.last_is) ∙ part.1 at d (omega arith) h)) in
       let count = count_is in
       let cuts = first_or_none at refl in
@@ -436,25 +423,46 @@ module _ (bytes : List ℕ) (ms : List BlockHandle) (total cut at n : ℕ) (t : 
           omega arith
       first_or_none (suc k) e =
           let fits : cut ≤ length G = subst (λ j. cut ≤ length (coded_points bytes (take j ms))) (sym e) (front_cut ms k (omega arith) f) in
-          let some = (few_in (block_points_at bytes (get_or ms at d)) (mark_at bytes ms 0 at d c.coded.marked h).block.points_are).1 in
+          let some = (few_in (block_points_at bytes (get_or ms at d)) (mark_at bytes ms at d c.marked h).block.points_are).1 in
           omega arith
 
+  -- the index of the first of them in its block
+  abbrev pub IsSkipped : ℕ → Type 0
+  IsSkipped k = (drop k R ≡ filter (λ (q : ℤ × ℤ). int_le t q.0) (drop cut (coded_points bytes ms))) × CutFits k (blocks_at bytes (drop at ms))
+
+  skipped_there : (d : BlockHandle) (k : ℕ) → at < length ms → max n cut - length G ≡ k → IsSkipped k
+  skipped_there d k h e = subst IsSkipped e (dropped_points, dropped_some d h)
+
+  pub skipped_first : (d : BlockHandle) (k : ℕ) → at < length ms → at ≡ 0 → k ≡ max (before_first t (block_points_at bytes (get_or ms at d))) cut → IsSkipped k
+  unfolding coded_points
+  skipped_first d k h e is =
+      let none : length G ≡ 0 = ap (λ j. length (coded_points bytes (take j ms))) e in
+      skipped_there d k h (let a = held_there d h in let b = count_is in omega arith)
+
+  pub skipped_later : (d : BlockHandle) (k : ℕ) → at < length ms → (at ≡ 0 → ⊥) → k ≡ before_first t (block_points_at bytes (get_or ms at d)) → IsSkipped k
+  unfolding coded_points
+  skipped_later d k h some is = skipped_there d k h (let a = held_there d h in let b = count_is in let e = front_fits at refl in omega arith)
+    where
+      within_front : (j : ℕ) (ns : List BlockHandle) → suc j ≤ length ns → CutFits cut (blocks_at bytes ns) → cut ≤ length (coded_points bytes (take (suc j) ns))
+      within_front j [] a b = absurd (omega arith)
+      within_front j (x ∷ ns) a b = let e = length-append (block_points_at bytes x) (coded_points bytes (take j ns)) in omega arith
+
+      front_fits : (j : ℕ) → at ≡ j → cut ≤ length G
+      front_fits zero e = absurd (some e)
+      front_fits (suc j) e = subst (λ i. cut ≤ length (coded_points bytes (take i ms))) (sym e) (within_front j ms (omega arith) f)
+
 pub dropped_column : (bytes : List ℕ) (ms : List BlockHandle) (total cut at tail capacity handles_capacity : ℕ) (new : Option Rewritten) → AreCountedBlocks bytes ms total → OthersEndBy tail ms → CutFits cut (blocks_at bytes (drop at ms))
-    → IsColumn bytes (with_starts 0 (drop at ms)) (length (coded_points bytes (drop at ms))) cut tail capacity handles_capacity None new × (coded_points bytes (with_starts 0 (drop at ms)) ≡ coded_points bytes (drop at ms))
+    → IsColumn bytes (drop at ms) (length (coded_points bytes (drop at ms))) cut tail capacity handles_capacity None new
 dropped_column bytes ms total cut at tail capacity handles_capacity new c o f =
-    let all = blocks_of_marks bytes 0 ms c.coded.marked in
     let split : coded_points bytes ms ≡ coded_points bytes (take at ms) ++ coded_points bytes (drop at ms) = ap (coded_points bytes) (sym (take-append-drop at ms)) ∙ coded_join bytes (take at ms) (drop at ms) in
     let rising = rising_rest (coded_points bytes (take at ms)) (coded_points bytes (drop at ms)) (subst IsRising split c.coded.rising) in
     let timed = timed_rest (coded_points bytes (take at ms)) (coded_points bytes (drop at ms)) (subst AreTimed split c.coded.timed) in
-    let anew = counted_anew bytes (drop at ms) (blocks_behind bytes at ms all) rising timed in (
-      record {
-        counted = anew.0;
-        others = others_numbered 0 (drop at ms) (others_behind at ms o);
-        cut_fits = subst (CutFits cut) (sym (numbered_blocks bytes 0 (drop at ms))) f;
-        is_staged = tt;
-      },
-      anew.1,
-    )
+    record {
+      counted = record { coded = coded_anew bytes (drop at ms) (blocks_behind bytes at ms c.coded.marked) rising timed; total_is = refl };
+      others = others_behind at ms o;
+      cut_fits = f;
+      is_staged = tt;
+    }
   where
     timed_rest : (ps qs : List (ℤ × ℤ)) → AreTimed (ps ++ qs) → AreTimed qs
     timed_rest [] qs h = h
@@ -469,30 +477,17 @@ dropped_column bytes ms total cut at tail capacity handles_capacity new c o f =
     others_behind (suc k) [] h = tt
     others_behind (suc k) (n ∷ ns) h = others_behind k ns (others_next n ns h)
 
-    others_numbered : (before : ℕ) (ns : List BlockHandle) → OthersEndBy tail ns → OthersEndBy tail (with_starts before ns)
-    others_numbered before [] h = tt
-    others_numbered before (n ∷ []) h = tt
-    others_numbered before (n ∷ k ∷ ns) h = (h.0, others_numbered (before + n.count) (k ∷ ns) h.1)
-
 pub cut_at_later : (at cut : ℕ) → (at ≡ 0 → ⊥) → (0 ≡ cut_in_block at cut) × (cut ≡ cut_after at cut)
 cut_at_later zero cut n = absurd (n refl)
 cut_at_later (suc at) cut n = (refl, refl)
 
-pub rewritten_if_ok : (old new : List ℕ) (ms : List BlockHandle) (at cut : ℕ) (d : BlockHandle) (p : ℤ × ℤ) (r : Result Rewritten AllocError) → AreBlockHandles old 0 ms → at < length ms → IsLastBefore p.0 ms at → IfOk r (λ n. n.at ≡ at) → IfOk r (λ n. AreBlocks new (blocks_of n))
+pub rewritten_if_ok : (old new : List ℕ) (ms : List BlockHandle) (at cut : ℕ) (d : BlockHandle) (p : ℤ × ℤ) (r : Result Rewritten AllocError) → AreBlocks old ms → at < length ms → IsLastBefore p.0 ms at → IfOk r (λ n. n.at ≡ at) → IfOk r (λ n. AreBlocks new (blocks_of n))
     → IfOk r (λ n. coded_points new (blocks_of n) ≡ put int_cmp p.0 p.1 (drop (cut_in_block at cut) (block_points_at old (get_or ms at d)))) → take (length old) new ≡ old → IfOk r (λ n. IsRewritten new ms cut p n)
 rewritten_if_ok old new ms at cut d p (Ok n) marked l part is blocks points front = is_rewritten old new ms at cut d p n marked l part is blocks points front
 rewritten_if_ok old new ms at cut d p (Err e) marked l part is blocks points front = tt
 
 pub rest_count : (bytes : List ℕ) (k : ℕ) (ms : List BlockHandle) → AreBlocks bytes ms → count_in_blocks (drop k ms) ≡ length (coded_points bytes (drop k ms))
 rest_count bytes k ms h = counts_are bytes (drop k ms) (blocks_behind bytes k ms h)
-
-pub rest_few : (bytes : List ℕ) (k : ℕ) (ms : List BlockHandle) → AreBlocks bytes ms → count_in_blocks (drop k ms) ≤ length (coded_points bytes ms)
-rest_few bytes k ms h =
-    let n = rest_count bytes k ms h in
-    let a = ap (λ (x : List BlockHandle). length (coded_points bytes x)) (take-append-drop k ms) in
-    let b = ap length (coded_join bytes (take k ms) (drop k ms)) in
-    let c = length-append (coded_points bytes (take k ms)) (coded_points bytes (drop k ms)) in
-    omega arith
 
 -- a point after all others is inserted at the end
 pub appended_map : (ps : List (ℤ × ℤ)) (cut : ℕ) (p : ℤ × ℤ) → IsRising ps → AllByRecursion (λ (q : ℤ × ℤ). q.0 <ℤ p.0) ps → cut ≤ length ps → map.from_sorted {R = int_cmp} (drop cut (ps ++ p ∷ [])) ≡ map.insert (map.from_sorted (drop cut ps)) p.0 p.1
@@ -520,5 +515,72 @@ next_map ps i d s l =
     sym (from_sorted-put int_cmp_total (take i ps) (rising_first i ps s) x.0 x.1)
     ∙ ap (map.from_sorted {R = int_cmp}) (ap (put int_cmp x.0 x.1) (sym (append-nil (take i ps))) ∙ put_after x.0 x.1 (take i ps) [] (rising_splits (take i ps) x first) ∙ sym next)
 
-pub numbered_front : (bytes : List ℕ) (ms : List BlockHandle) (at : ℕ) → AreBlockHandles bytes 0 ms → with_starts 0 (take at ms) ≡ take at ms
-numbered_front bytes ms at h = marks_numbered bytes 0 (take at ms) (marks_front bytes 0 at ms h)
+-- ---- the points between two times
+
+-- those from the first time on, up to the number of those from the second time on
+pub taken_between : (ps : List (ℤ × ℤ)) (a b : ℤ) → IsRising ps
+    → take (length (filter (λ (p : ℤ × ℤ). int_le a p.0) ps) - length (filter (λ (p : ℤ × ℤ). int_le b p.0) ps)) (filter (λ (p : ℤ × ℤ). int_le a p.0) ps) ≡ filter (λ (p : ℤ × ℤ). is_within a b p.0) ps
+taken_between ps a b s =
+    let i : ℕ = before_first a ps in
+    let j : ℕ = before_first b ps in
+    let f = first_parts a ps s in
+    let g = first_parts b ps s in
+    let m = first_bound a ps in
+    let n = first_bound b ps in
+    let from : drop i ps ≡ filter (λ (p : ℤ × ℤ). int_le a p.0) ps = drop-before ps a i f m in
+    let to : drop j ps ≡ filter (λ (p : ℤ × ℤ). int_le b p.0) ps = drop-before ps b j g n in
+    let count : length (drop i ps) - length (drop j ps) ≡ j - i = let x = length-drop i ps in let y = length-drop j ps in omega arith in
+    (λ k. take (length (sym from k) - length (sym to k)) (sym from k)) ∙ ap (λ k. take k (drop i ps)) count ∙ ⊎_elim {C = take (j - i) (drop i ps) ≡ filter (λ (p : ℤ × ℤ). is_within a b p.0) ps}
+    (λ (h : i < j). filter-within ps a b i j f g (omega arith) n)
+    (λ (h : j ≤ i). ap (λ k. take k (drop i ps)) (let e : j - i ≡ 0 = omega arith in e) ∙ filter-nothing_within ps a b i j f g h) (cases_lt i j)
+
+-- the number of points from an index in a block to one in another
+module _ (bytes : List ℕ) (ms : List BlockHandle) (h : AreBlocks bytes ms) (at end i j : ℕ) where
+  abbrev first_rest : List (ℤ × ℤ)
+  first_rest = coded_points bytes (drop at ms)
+
+  abbrev second_rest : List (ℤ × ℤ)
+  second_rest = coded_points bytes (drop end ms)
+
+  pub count_to : at ≤ end → CutFits i (blocks_at bytes (drop at ms)) → CutFits j (blocks_at bytes (drop end ms)) → (count_in_blocks (take (end - at) (drop at ms)) + j) - i ≡ length (drop i first_rest) - length (drop j second_rest)
+  count_to l f g =
+      let x = rest_count bytes at ms h in
+      let y = rest_count bytes end ms h in
+      let z = count_front (drop at ms) (end - at) in
+      let w = ap count_in_blocks (drop-drop (end - at) at ms) in
+      let u = ap (λ k. count_in_blocks (drop k ms)) (let e : at + (end - at) ≡ end = omega arith in e) in
+      let fi = cut_within bytes (drop at ms) i f in
+      let gj = cut_within bytes (drop end ms) j g in
+      let p = length-drop i first_rest in
+      let q = length-drop j second_rest in
+      omega arith
+
+  pub part_few : at ≤ end → CutFits j (blocks_at bytes (drop end ms)) → count_in_blocks (take (end - at) (drop at ms)) + j ≤ length (coded_points bytes ms)
+  part_few l g =
+      let y = rest_count bytes end ms h in
+      let z = count_front (drop at ms) (end - at) in
+      let w = ap count_in_blocks (drop-drop (end - at) at ms) in
+      let u = ap (λ k. count_in_blocks (drop k ms)) (let e : at + (end - at) ≡ end = omega arith in e) in
+      let gj = cut_within bytes (drop end ms) j g in
+      let v = count_front ms at in
+      let k = counts_are bytes ms h in
+      omega arith
+
+  pub none_to : end < at → at ≤ length ms → CutFits j (blocks_at bytes (drop end ms)) → length (drop i first_rest) - length (drop j second_rest) ≡ 0
+  unfolding coded_points
+  none_to l b g =
+      let p = length-drop i first_rest in
+      let q = length-drop j second_rest in
+      let y = rest_count bytes end ms h in
+      let x = rest_count bytes at ms h in
+      let z = rest_count bytes (suc end) ms h in
+      let w = ap count_in_blocks (drop-drop (at - suc end) (suc end) ms) in
+      let u = ap (λ k. count_in_blocks (drop k ms)) (let e : suc end + (at - suc end) ≡ at = omega arith in e) in
+      let v = count_front (drop (suc end) ms) (at - suc end) in
+      let t = within_first end ms (omega arith) g in
+      omega arith
+    where
+      within_first : (k : ℕ) (ns : List BlockHandle) → k < length ns → CutFits j (blocks_at bytes (drop k ns)) → j + length (coded_points bytes (drop (suc k) ns)) ≤ length (coded_points bytes (drop k ns))
+      within_first k [] a g = absurd (omega arith)
+      within_first zero (n ∷ ns) a g = let e = length-append (block_points_at bytes n) (coded_points bytes ns) in omega arith
+      within_first (suc k) (n ∷ ns) a g = within_first k ns (omega arith) g

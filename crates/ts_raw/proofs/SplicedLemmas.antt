@@ -12,7 +12,7 @@ use Rattle.ts_block.specs.Blocks.{ArePoints}
 use Rattle.ts_block.specs.Appending.{last_time}
 use Rattle.ts_block.specs.Splicing.{IsAdded}
 use Rattle.ts_raw.specs.declared.block_handle.BlockHandle.{BlockHandle}
-use Rattle.ts_raw.specs.CodedPoints.{IsBlockHandle, AreBlocks, AreBlockHandles, CutFits, blocks_at, block_points_at, coded_points}
+use Rattle.ts_raw.specs.CodedPoints.{IsBlockHandle, AreBlocks, CutFits, blocks_at, block_points_at, coded_points}
 use Rattle.ts_raw.specs.Rewriting.{IsEncoded, AreHalves, cut_in_block}
 use Rattle.ts_raw.proofs.PushLemmas.{points_less}
 use Rattle.ts_raw.proofs.BlockLists.{mark_stays, mark_at}
@@ -108,11 +108,11 @@ pub rest_last : (bytes new : List ℕ) (m n : BlockHandle) (k : ℕ) → IsBlock
 rest_last bytes new m n k h l e = h.last_is ∙ sym (last_behind k (block_points_at bytes m) (let a = h.count_is in omega arith)) ∙ sym (last_of_encoded new n (drop k (block_points_at bytes m)) e)
 
 -- the removed points of a block are not all of it
-pub cut_less : (bytes : List ℕ) (ms : List BlockHandle) (at cut : ℕ) (d : BlockHandle) → AreBlockHandles bytes 0 ms → CutFits cut (blocks_at bytes ms) → at < length ms → cut_in_block at cut < (get_or ms at d).count
+pub cut_less : (bytes : List ℕ) (ms : List BlockHandle) (at cut : ℕ) (d : BlockHandle) → AreBlocks bytes ms → CutFits cut (blocks_at bytes ms) → at < length ms → cut_in_block at cut < (get_or ms at d).count
 cut_less bytes [] at cut d h f l = absurd (omega arith)
 cut_less bytes (m ∷ ms) zero cut d h f l = let a = h.0.count_is in omega arith
 cut_less bytes (m ∷ ms) (suc at) cut d h f l =
-    let k = mark_at bytes (m ∷ ms) 0 (suc at) d h l in
+    let k = mark_at bytes (m ∷ ms) (suc at) d h l in
     let a = k.count_is in
     let b = (few_points (block_points_at bytes (get_or ms at d)) k.block.points_are).1 in
     omega arith

@@ -13,7 +13,7 @@ use Rattle.ts_core.proofs.lists.Comparisons.{le_true, lt_true}
 use Rattle.ts_block.specs.Blocks.{ArePoints}
 use Rattle.ts_raw.specs.declared.block_handle.BlockHandle.{BlockHandle}
 use Rattle.ts_raw.specs.Summaries.{IsFront}
-use Rattle.ts_raw.specs.CodedPoints.{block_points_at, coded_points, AreWithin, AreBlockHandles, points_walked, CanWalk}
+use Rattle.ts_raw.specs.CodedPoints.{block_points_at, coded_points, AreWithin, AreBlocks, points_walked, CanWalk}
 
 -- ---- points between two times
 
@@ -48,8 +48,8 @@ some_points (p ∷ ps) h = omega arith
 -- ---- the next block of a walk between two blocks
 
 module _ (left : ℕ) (decoder : List (ℤ × ℤ)) (bytes : List ℕ) (handles : List BlockHandle) (m : BlockHandle) (ms : List BlockHandle) (none : decoder ≡ []) (is : handles ≡ m ∷ ms) (few : m.count ≤ left) (w : CanWalk left decoder bytes handles) where
-  marked : AreBlockHandles bytes w.before (m ∷ ms)
-  marked = subst (AreBlockHandles bytes w.before) is w.marked
+  marked : AreBlocks bytes (m ∷ ms)
+  marked = subst (AreBlocks bytes) is w.marked
 
   rest_is : decoder ++ coded_points bytes ms ≡ coded_points bytes ms
   rest_is = ap (λ (x : List (ℤ × ℤ)). x ++ coded_points bytes ms) none
@@ -68,8 +68,7 @@ module _ (left : ℕ) (decoder : List (ℤ × ℤ)) (bytes : List ℕ) (handles 
 
   pub walk_skips : CanWalk (left - m.count) decoder bytes ms
   walk_skips = record {
-    before = w.before + length (block_points_at bytes m);
-    marked = marked.2;
+    marked = marked.1;
     enough = let a = ap length ahead in let b = length-append (block_points_at bytes m) (coded_points bytes ms) in let c = ap length rest_is in let d = w.enough in let e = size in omega arith;
   }
 

@@ -1,6 +1,7 @@
 //! Appends points to coded blocks.
-ghost use Rattle.std.specs.Prelude.{◌≡◌, ◌+◌, ◌<◌, ◌≤◌, ℕ, [], ◌∷◌, ◌++◌, length, vec_len, vec_capacity, IsTrue, false};
-ghost use Rattle.ts_raw.specs.CodedPoints.{AreCountedBlocks, AreOrdered, AllEndBefore, AllEndBy, OthersEndBy, IsLastBefore, CutFits, block_points_at, coded_points, blocks_at};
+ghost use Rattle.std.specs.Prelude.{◌≡◌, ◌↔◌, ◌+◌, ◌<◌, ◌≤◌, ◌<ℤ◌, ℕ, [], ◌∷◌, ◌++◌, length, take, vec_len, vec_capacity, IsTrue, false};
+ghost use Rattle.ts_raw.specs.CodedPoints.{IsCoded, AreOrdered, AllEndBefore, IsBlockHandle, HasRoom, LastGrows, OthersEndBy, IsLastBefore, CutFits, block_points_at, coded_points, blocks_at};
+ghost use Rattle.ts_raw.specs.Rewriting.{IsEncoded};
 
 use crate::block_handle::BlockHandle;
 use std::alloc::Allocator;
@@ -27,7 +28,8 @@ pub(crate) fn blocks_before(handles: &[BlockHandle], time: Time) -> usize
 
 /// Returns true if a block holds as many points as it can.
 pub(crate) fn is_full(handle: &BlockHandle) -> bool
-    ensures { result ≡ false → handle.now.count < 256 }
+    ensures full { IsTrue result → 256 ≤ handle.now.count }
+    ensures few { result ≡ false → handle.now.count < 256 }
 {
     handle.count >= BLOCK_POINTS
 }
@@ -35,9 +37,20 @@ pub(crate) fn is_full(handle: &BlockHandle) -> bool
 /// Returns true if the last block ends the bytes, which number `size`, and no other block ends after its start. All
 /// blocks but the last end by the offset `tail`.
 pub(crate) fn is_at_end(handle: &BlockHandle, size: usize, tail: usize) -> bool
-    ensures { IsTrue result → (handle.now.end ≡ size) × (tail ≤ handle.now.start) }
+    ensures { IsTrue result ↔ ((handle.now.end ≡ size) × (tail ≤ handle.now.start)) }
 {
     handle.end == size && tail <= handle.start
+}
+
+/// Returns true if the last block can grow in place. The bytes number `size`; all blocks but the last end by the offset
+/// `tail`.
+pub(crate) fn can_grow(handles: &[BlockHandle], size: usize, tail: usize) -> bool
+    ensures { IsTrue result ↔ LastGrows size tail handles.now }
+{
+    match handles.last() {
+        Some(handle) => !is_full(handle) && is_at_end(handle, size, tail),
+        None => false,
+    }
 }
 
 /// Appends a point as a block of its own. There must be capacity.
@@ -45,14 +58,13 @@ pub(crate) fn is_at_end(handle: &BlockHandle, size: usize, tail: usize) -> bool
 fn push_block<A: Allocator>(
     bytes: &mut Vec<u8, A>,
     handles: &mut Vec<BlockHandle, A>,
-    total: usize,
     point: &(Time, i64),
 )
-    requires counted { AreCountedBlocks bytes.old.items handles.old.items total }
+    requires coded { IsCoded bytes.old.items handles.old.items }
     requires later { AllEndBefore handles.old.items point.now.0 }
     requires bytes_spare { vec_len bytes.old + 20 ≤ vec_capacity bytes.old }
     requires handles_spare { vec_len handles.old < vec_capacity handles.old }
-    ensures counted { AreCountedBlocks bytes.new.items handles.new.items (total + 1) }
+    ensures coded { IsCoded bytes.new.items handles.new.items }
     ensures others { OthersEndBy (vec_len bytes.old) handles.new.items }
     ensures points { coded_points bytes.new.items handles.new.items ≡ coded_points bytes.old.items handles.old.items ++ point.now ∷ [] }
     ensures blocks { blocks_at bytes.new.items handles.new.items ≡ blocks_at bytes.old.items handles.old.items ++ ((point.now ∷ []) ∷ []) }
@@ -64,35 +76,22 @@ fn push_block<A: Allocator>(
         values: 9,
         end: bytes.len(),
         count: 1,
-        before: total,
         last: point.0,
         summary: Agg::single(point.0, point.1),
     };
     handles.push_reserved(handle);
 }
 
-/// Appends a point to the last block in place. Its handle was removed from `handles`. There must be capacity.
-fn push_last<A: Allocator>(
-    bytes: &mut Vec<u8, A>,
-    handles: &mut Vec<BlockHandle, A>,
-    handle: &BlockHandle,
-    total: usize,
-    point: &(Time, i64),
-)
-    requires counted { AreCountedBlocks bytes.old.items (handles.old.items ++ handle.now ∷ []) total }
-    requires later { AllEndBefore (handles.old.items ++ handle.now ∷ []) point.now.0 }
-    requires few { handle.now.count < 256 }
-    requires ends { handle.now.end ≡ vec_len bytes.old }
-    requires apart { AllEndBy handle.now.start handles.old.items }
-    requires bytes_spare { vec_len bytes.old + 20 ≤ vec_capacity bytes.old }
-    requires handles_spare { vec_len handles.old < vec_capacity handles.old }
-    ensures counted { AreCountedBlocks bytes.new.items handles.new.items (total + 1) }
-    ensures others { (offset : ℕ) → AllEndBy offset handles.old.items → OthersEndBy offset handles.new.items }
-    ensures points { coded_points bytes.new.items handles.new.items ≡ coded_points bytes.old.items (handles.old.items ++ handle.now ∷ []) ++ point.now ∷ [] }
-    ensures blocks { blocks_at bytes.new.items handles.new.items ≡ blocks_at bytes.old.items handles.old.items ++ ((block_points_at bytes.old.items handle.now ++ point.now ∷ []) ∷ []) }
+/// Appends a point to the block that ends the bytes, in place. There must be capacity.
+fn push_last<A: Allocator>(bytes: &mut Vec<u8, A>, handle: &mut BlockHandle, point: &(Time, i64))
+    requires marked { IsBlockHandle bytes.old.items handle.old }
+    requires later { handle.old.last <ℤ point.now.0 }
+    requires few { handle.old.count < 256 }
+    requires ends { handle.old.end ≡ vec_len bytes.old }
+    requires spare { vec_len bytes.old + 20 ≤ vec_capacity bytes.old }
+    ensures kept { take handle.old.start bytes.new.items ≡ take handle.old.start bytes.old.items }
+    ensures block { IsEncoded bytes.new.items handle.new (block_points_at bytes.old.items handle.old ++ point.now ∷ []) }
 {
-    // For the proof: the time is valid.
-    let _valid = point.0.nanos();
     let values = append(
         bytes,
         handle.start,
@@ -100,15 +99,11 @@ fn push_last<A: Allocator>(
         handle.last,
         point,
     );
-    let handle = BlockHandle {
-        values: values - handle.start,
-        end: bytes.len(),
-        count: handle.count + 1,
-        last: point.0,
-        summary: handle.summary.merge(Agg::single(point.0, point.1)),
-        ..*handle
-    };
-    handles.push_reserved(handle);
+    handle.values = values - handle.start;
+    handle.end = bytes.len();
+    handle.count += 1;
+    handle.last = point.0;
+    handle.summary = handle.summary.merge(Agg::single(point.0, point.1));
 }
 
 /// Appends a point after all others, to the last block if it can grow in place, else as a block of its own. There must
@@ -116,30 +111,25 @@ fn push_last<A: Allocator>(
 pub(crate) fn push_later<A: Allocator>(
     bytes: &mut Vec<u8, A>,
     handles: &mut Vec<BlockHandle, A>,
-    total: usize,
     tail: usize,
     point: &(Time, i64),
 ) -> usize
-    requires counted { AreCountedBlocks bytes.old.items handles.old.items total }
+    requires coded { IsCoded bytes.old.items handles.old.items }
     requires others { OthersEndBy tail handles.old.items }
     requires later { AllEndBefore handles.old.items point.now.0 }
     requires bytes_spare { vec_len bytes.old + 20 ≤ vec_capacity bytes.old }
-    requires handles_spare { vec_len handles.old < vec_capacity handles.old }
-    ensures counted { AreCountedBlocks bytes.new.items handles.new.items (total + 1) }
+    requires room { HasRoom bytes.old.items handles.old.items tail (vec_capacity handles.old) }
+    ensures coded { IsCoded bytes.new.items handles.new.items }
     ensures others { OthersEndBy result handles.new.items }
     ensures points { coded_points bytes.new.items handles.new.items ≡ coded_points bytes.old.items handles.old.items ++ point.now ∷ [] }
     ensures cut { (cut : ℕ) → CutFits cut (blocks_at bytes.old.items handles.old.items) → CutFits cut (blocks_at bytes.new.items handles.new.items) }
 {
     let size = bytes.len();
-    match handles.last() {
-        Some(handle) if !is_full(handle) && is_at_end(handle, size, tail) => {
-            let handle = handles.pop().unwrap();
-            push_last(bytes, handles, &handle, total, point);
-            tail
-        }
-        _ => {
-            push_block(bytes, handles, total, point);
-            size
-        }
+    if !can_grow(handles.as_slice(), size, tail) {
+        push_block(bytes, handles, point);
+        return size;
     }
+    let at = handles.len() - 1;
+    push_last(bytes, &mut handles[at], point);
+    tail
 }

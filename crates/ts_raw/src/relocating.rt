@@ -1,6 +1,6 @@
 //! Copies coded blocks: the last one to the end of the bytes, where it can grow, or all into new bytes without gaps.
-ghost use Rattle.std.specs.Prelude.{◌≡◌, ◌+◌, ◌≤◌, vec_len, vec_capacity, IfOk, OnErr};
-ghost use Rattle.ts_raw.specs.CodedPoints.{AreBlockHandles, OthersEndBy, blocks_at};
+ghost use Rattle.std.specs.Prelude.{◌≡◌, ◌+◌, ◌≤◌, vec_len, vec_capacity, IfOk, OnOk, OnErr};
+ghost use Rattle.ts_raw.specs.CodedPoints.{AreBlocks, OthersEndBy, blocks_at};
 
 use crate::block_handle::BlockHandle;
 use crate::walk::text_of;
@@ -13,12 +13,11 @@ pub(crate) fn move_last<A: Allocator>(
     bytes: &mut Vec<u8, A>,
     handles: &mut Vec<BlockHandle, A>,
 ) -> Result<usize, AllocError>
-    requires marked { AreBlockHandles bytes.old.items 0 handles.old.items }
-    ensures marked { AreBlockHandles bytes.new.items 0 handles.new.items }
+    requires marked { AreBlocks bytes.old.items handles.old.items }
+    ensures marked { AreBlocks bytes.new.items handles.new.items }
     ensures blocks { blocks_at bytes.new.items handles.new.items ≡ blocks_at bytes.old.items handles.old.items }
     ensures others { IfOk result (λ offset. OthersEndBy offset handles.new.items) }
     ensures kept { OnErr result (handles.new.items ≡ handles.old.items) }
-    ensures handles_spare { vec_capacity handles.old ≤ vec_capacity handles.new }
 {
     let start = bytes.len();
     let Some(handle) = handles.last() else {
@@ -43,8 +42,8 @@ fn copy_blocks<A: Allocator + Copy>(
     handles: &[BlockHandle],
     size: usize,
 ) -> Result<(Vec<u8, A>, Vec<BlockHandle, A>), AllocError>
-    requires { AreBlockHandles bytes.now 0 handles.now }
-    ensures { IfOk result (λ new. AreBlockHandles new.0.items 0 new.1.items × (blocks_at new.0.items new.1.items ≡ blocks_at bytes.now handles.now)) }
+    requires { AreBlocks bytes.now handles.now }
+    ensures { IfOk result (λ new. AreBlocks new.0.items new.1.items × (blocks_at new.0.items new.1.items ≡ blocks_at bytes.now handles.now)) }
 {
     let mut new_bytes = Vec::with_capacity(alloc, size)?;
     let mut new_handles = Vec::with_capacity(alloc, handles.len())?;
@@ -77,8 +76,8 @@ fn compact<A: Allocator + Copy>(
     handles: &mut Vec<BlockHandle, A>,
     size: usize,
 ) -> Result<usize, AllocError>
-    requires marked { AreBlockHandles bytes.old.items 0 handles.old.items }
-    ensures marked { AreBlockHandles bytes.new.items 0 handles.new.items }
+    requires marked { AreBlocks bytes.old.items handles.old.items }
+    ensures marked { AreBlocks bytes.new.items handles.new.items }
     ensures blocks { blocks_at bytes.new.items handles.new.items ≡ blocks_at bytes.old.items handles.old.items }
     ensures others { IfOk result (λ offset. OthersEndBy offset handles.new.items) }
     ensures kept { OnErr result (handles.new.items ≡ handles.old.items) }
@@ -100,11 +99,12 @@ fn add_capacity<A: Allocator + Copy>(
     tail: &mut usize,
     size: usize,
 ) -> Result<(), AllocError>
-    requires marked { AreBlockHandles bytes.old.items 0 handles.old.items }
+    requires marked { AreBlocks bytes.old.items handles.old.items }
     requires others { OthersEndBy tail.old handles.old.items }
-    ensures marked { AreBlockHandles bytes.new.items 0 handles.new.items }
+    ensures marked { AreBlocks bytes.new.items handles.new.items }
     ensures blocks { blocks_at bytes.new.items handles.new.items ≡ blocks_at bytes.old.items handles.old.items }
     ensures others { OthersEndBy tail.new handles.new.items }
+    ensures spare { OnOk result (vec_len bytes.new + size ≤ vec_capacity bytes.new) }
 {
     let used = blocks_size(handles.as_slice());
     if bytes.len() - used.min(bytes.len()) > bytes.len() / 4 {
@@ -121,11 +121,12 @@ pub(crate) fn reserve_bytes<A: Allocator + Copy>(
     tail: &mut usize,
     size: usize,
 ) -> Result<(), AllocError>
-    requires marked { AreBlockHandles bytes.old.items 0 handles.old.items }
+    requires marked { AreBlocks bytes.old.items handles.old.items }
     requires others { OthersEndBy tail.old handles.old.items }
-    ensures marked { AreBlockHandles bytes.new.items 0 handles.new.items }
+    ensures marked { AreBlocks bytes.new.items handles.new.items }
     ensures blocks { blocks_at bytes.new.items handles.new.items ≡ blocks_at bytes.old.items handles.old.items }
     ensures others { OthersEndBy tail.new handles.new.items }
+    ensures spare { OnOk result (vec_len bytes.new + size ≤ vec_capacity bytes.new) }
 {
     if bytes.capacity() - bytes.len() >= size {
         return Ok(());

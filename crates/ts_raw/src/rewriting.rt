@@ -5,10 +5,11 @@ ghost use Rattle.std.specs.FinMap.{put};
 ghost use Rattle.ts_core.specs.aggregates.Aggregates.{aggregate_of_points};
 ghost use Rattle.ts_block.specs.Blocks.{IsBlockOf};
 ghost use Rattle.ts_block.specs.Appending.{values_start, last_time};
-ghost use Rattle.ts_raw.specs.CodedPoints.{IsBlockHandle, AreBlocks, block_points_at, coded_points, with_starts, count_in_blocks};
+ghost use Rattle.ts_raw.specs.CodedPoints.{IsBlockHandle, AreBlocks, block_points_at, coded_points, count_in_blocks};
 ghost use Rattle.ts_raw.specs.Rewriting.{IsEncoded, AreHalves, blocks_of, handles_replaced, cut_in_block, cut_after};
 
 use crate::block_handle::BlockHandle;
+use crate::coded::count_of;
 use crate::walk::text_of;
 use std::alloc::{AllocError, Allocator};
 use ts_block::{Decoder, first_points, last_points, with_point};
@@ -54,7 +55,7 @@ fn summary_of(decoder: Decoder<'_>) -> Agg
     summary
 }
 
-/// Appends the bytes of a block. Returns its handle; the number of points before it is 0.
+/// Appends the bytes of a block. Returns its handle.
 fn push_text<A: Allocator>(
     bytes: &mut Vec<u8, A>,
     text: &[u8],
@@ -75,7 +76,6 @@ fn push_text<A: Allocator>(
         values,
         end: bytes.len(),
         count,
-        before: 0,
         last,
         summary,
     })
@@ -261,37 +261,6 @@ pub(crate) fn rewrite<A: Allocator + Copy>(
     rewrite_all(bytes, &rest, at, point)
 }
 
-/// Returns the number of points in the first `at` blocks, whose counts are right.
-fn counted_to(handles: &[BlockHandle], at: usize) -> usize
-    requires bound { at ≤ length handles.now }
-    requires front { with_starts 0 (take at handles.now) ≡ take at handles.now }
-    requires few { count_in_blocks handles.now ≤ 18446744073709551615 }
-    ensures { result ≡ count_in_blocks (take at handles.now) }
-{
-    if at == 0 {
-        return 0;
-    }
-    let last = &handles[at - 1];
-    last.before + last.count
-}
-
-/// Counts the points before each block from the index `from` on. Returns the number of all points.
-fn renumber(handles: &mut [BlockHandle], from: usize) -> usize
-    requires bound { from ≤ length handles.old }
-    requires front { with_starts 0 (take from handles.old) ≡ take from handles.old }
-    requires few { count_in_blocks handles.old ≤ 18446744073709551615 }
-    ensures handles { handles.new ≡ with_starts 0 handles.old }
-    ensures total { result ≡ count_in_blocks handles.old }
-{
-    let mut total = counted_to(handles, from);
-    for i in from..handles.len() {
-        let count = handles[i].count;
-        handles[i].before = total;
-        total += count;
-    }
-    total
-}
-
 /// Replaces the block at an index with new blocks. There must be capacity for a handle.
 fn insert_blocks<A: Allocator>(handles: &mut Vec<BlockHandle, A>, new: &Rewritten)
     requires within { new.now.at < length handles.old.items }
@@ -305,27 +274,49 @@ fn insert_blocks<A: Allocator>(handles: &mut Vec<BlockHandle, A>, new: &Rewritte
     }
 }
 
-/// Replaces a block with new ones. There must be capacity for a handle. Returns the number of all points.
-#[cold]
-pub(crate) fn replace<A: Allocator>(handles: &mut Vec<BlockHandle, A>, new: &Rewritten) -> usize
-    requires within { new.now.at < length handles.old.items }
-    requires spare { vec_len handles.old < vec_capacity handles.old }
-    requires front { with_starts 0 (take new.now.at handles.old.items) ≡ take new.now.at handles.old.items }
-    requires few { count_in_blocks (handles_replaced new.now handles.old.items) ≤ 18446744073709551615 }
-    ensures handles { handles.new.items ≡ with_starts 0 (handles_replaced new.now handles.old.items) }
-    ensures total { result ≡ count_in_blocks (handles_replaced new.now handles.old.items) }
+/// Returns the number of points of the new blocks.
+fn count_of_new(new: &Rewritten) -> usize
+    requires { count_in_blocks (blocks_of new.now) ≤ 18446744073709551615 }
+    ensures { result ≡ count_in_blocks (blocks_of new.now) }
 {
-    insert_blocks(handles, new);
-    renumber(handles.as_mut_slice(), new.at)
+    match new.second {
+        Some(second) => new.first.count + second.count,
+        None => new.first.count,
+    }
 }
 
-/// Removes the first `count` blocks. Returns the number of points of the others.
-pub(crate) fn remove_front<A: Allocator>(handles: &mut Vec<BlockHandle, A>, count: usize) -> usize
+/// Replaces a block with new ones. There must be capacity for a handle. `total` is the number of all points; returns
+/// their number afterwards.
+#[cold]
+pub(crate) fn replace<A: Allocator>(
+    handles: &mut Vec<BlockHandle, A>,
+    total: usize,
+    new: &Rewritten,
+) -> usize
+    requires within { new.now.at < length handles.old.items }
+    requires spare { vec_len handles.old < vec_capacity handles.old }
+    requires total { total ≡ count_in_blocks handles.old.items }
+    requires few { count_in_blocks (handles_replaced new.now handles.old.items) ≤ 18446744073709551615 }
+    ensures handles { handles.new.items ≡ handles_replaced new.now handles.old.items }
+    ensures total { result ≡ count_in_blocks (handles_replaced new.now handles.old.items) }
+{
+    let others = total - handles[new.at].count;
+    insert_blocks(handles, new);
+    others + count_of_new(new)
+}
+
+/// Removes the first `count` blocks. `total` is the number of all points; returns the number of those left.
+pub(crate) fn remove_front<A: Allocator>(
+    handles: &mut Vec<BlockHandle, A>,
+    total: usize,
+    count: usize,
+) -> usize
     requires bound { count ≤ length handles.old.items }
-    requires few { count_in_blocks (drop count handles.old.items) ≤ 18446744073709551615 }
-    ensures handles { handles.new.items ≡ with_starts 0 (drop count handles.old.items) }
+    requires total { total ≡ count_in_blocks handles.old.items }
+    ensures handles { handles.new.items ≡ drop count handles.old.items }
     ensures total { result ≡ count_in_blocks (drop count handles.old.items) }
 {
+    let removed = count_of(&handles.as_slice()[..count]);
     drop(handles.drain(..count));
-    renumber(handles.as_mut_slice(), 0)
+    total - removed
 }

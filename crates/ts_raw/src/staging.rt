@@ -1,30 +1,30 @@
 //! Stages a point: allocates all that its insertion needs.
 ghost use Rattle.std.specs.Prelude.{◌≡◌, ◌+◌, ◌<◌, ◌≤◌, length, take, vec_len, vec_capacity, option_map, IfOk, OnOk};
-ghost use Rattle.ts_raw.specs.CodedPoints.{AreBlockHandles, OthersEndBy, AreCountedBlocks, blocks_at, AllEndBefore, IsLastBefore, CutFits};
+ghost use Rattle.ts_raw.specs.CodedPoints.{AreBlocks, OthersEndBy, AreCountedBlocks, HasRoom, blocks_at, AllEndBefore, IsLastBefore, CutFits};
 ghost use Rattle.ts_raw.specs.BlockColumns.{IsStaged};
 ghost use Rattle.ts_raw.specs.Rewriting.{IsRewritten};
 
-use crate::appending::{POINT_BYTES, blocks_before, is_at_end, is_full};
+use crate::appending::{POINT_BYTES, blocks_before, can_grow, is_at_end, is_full};
 use crate::block_handle::BlockHandle;
 use crate::relocating::{move_last, reserve_bytes};
 use crate::rewriting::{Rewritten, cut_of, rewrite};
 use std::alloc::{AllocError, Allocator};
 use ts_core::{Time, reserve_eighth};
 
-/// Moves the last block to the end of the bytes if it isn't full and can't grow where it is. All blocks but the last
-/// end by the offset `tail`.
+/// Moves the last block to the end of the bytes if it isn't full and can't grow where it is. Keeps capacity for a point.
+/// All blocks but the last end by the offset `tail`.
 fn open_last<A: Allocator>(
     bytes: &mut Vec<u8, A>,
     handles: &mut Vec<BlockHandle, A>,
     tail: &mut usize,
-    total: usize,
 ) -> Result<(), AllocError>
-    requires marked { AreBlockHandles bytes.old.items 0 handles.old.items }
+    requires marked { AreBlocks bytes.old.items handles.old.items }
     requires others { OthersEndBy tail.old handles.old.items }
-    ensures marked { AreBlockHandles bytes.new.items 0 handles.new.items }
+    requires spare { vec_len bytes.old + 20 ≤ vec_capacity bytes.old }
+    ensures marked { AreBlocks bytes.new.items handles.new.items }
     ensures blocks { blocks_at bytes.new.items handles.new.items ≡ blocks_at bytes.old.items handles.old.items }
     ensures others { OthersEndBy tail.new handles.new.items }
-    ensures handles_spare { vec_capacity handles.old ≤ vec_capacity handles.new }
+    ensures spare { OnOk result (vec_len bytes.new + 20 ≤ vec_capacity bytes.new) }
 {
     let Some(handle) = handles.last() else {
         return Ok(());
@@ -33,29 +33,31 @@ fn open_last<A: Allocator>(
         return Ok(());
     }
     *tail = move_last(bytes, handles)?;
-    Ok(())
+    reserve_eighth(bytes, POINT_BYTES)
 }
 
-/// Reserves capacity for a point after all others.
+/// Reserves capacity for a handle if a point after all others will be a block of its own.
 fn stage_last<A: Allocator>(
     bytes: &mut Vec<u8, A>,
     handles: &mut Vec<BlockHandle, A>,
     tail: &mut usize,
-    total: usize,
     time: Time,
 ) -> Result<(), AllocError>
-    requires marked { AreBlockHandles bytes.old.items 0 handles.old.items }
+    requires marked { AreBlocks bytes.old.items handles.old.items }
     requires others { OthersEndBy tail.old handles.old.items }
     requires later { AllEndBefore handles.old.items time }
-    ensures marked { AreBlockHandles bytes.new.items 0 handles.new.items }
+    requires spare { vec_len bytes.old + 20 ≤ vec_capacity bytes.old }
+    ensures marked { AreBlocks bytes.new.items handles.new.items }
     ensures blocks { blocks_at bytes.new.items handles.new.items ≡ blocks_at bytes.old.items handles.old.items }
     ensures others { OthersEndBy tail.new handles.new.items }
     ensures later { AllEndBefore handles.new.items time }
     ensures spare { OnOk result (vec_len bytes.new + 20 ≤ vec_capacity bytes.new) }
-    ensures handles_spare { OnOk result (vec_len handles.new < vec_capacity handles.new) }
+    ensures room { OnOk result (HasRoom bytes.new.items handles.new.items tail.new (vec_capacity handles.new)) }
 {
-    open_last(bytes, handles, tail, total)?;
-    reserve_eighth(bytes, POINT_BYTES)?;
+    open_last(bytes, handles, tail)?;
+    if can_grow(handles.as_slice(), bytes.len(), *tail) {
+        return Ok(());
+    }
     reserve_eighth(handles, 1)
 }
 
@@ -68,7 +70,7 @@ fn stage_among<A: Allocator + Copy>(
     cut: usize,
     point: &(Time, i64),
 ) -> Result<Rewritten, AllocError>
-    requires marked { AreBlockHandles bytes.old.items 0 handles.old.items }
+    requires marked { AreBlocks bytes.old.items handles.old.items }
     requires cut { CutFits cut (blocks_at bytes.old.items handles.old.items) }
     requires at { IsLastBefore point.now.0 handles.old.items at }
     requires within { at < length handles.old.items }
@@ -91,7 +93,7 @@ fn stage_boxed<A: Allocator + Copy>(
     cut: usize,
     point: &(Time, i64),
 ) -> Result<Box<Rewritten, A>, AllocError>
-    requires marked { AreBlockHandles bytes.old.items 0 handles.old.items }
+    requires marked { AreBlocks bytes.old.items handles.old.items }
     requires cut { CutFits cut (blocks_at bytes.old.items handles.old.items) }
     requires at { IsLastBefore point.now.0 handles.old.items at }
     requires within { at < length handles.old.items }
@@ -107,7 +109,9 @@ fn stage_boxed<A: Allocator + Copy>(
 
 /// Returns about as many bytes as the copy of a point's block takes with the point.
 #[cold]
-fn needed_among(handles: &[BlockHandle], time: Time) -> usize {
+fn needed_among(handles: &[BlockHandle], time: Time) -> usize
+    ensures { 20 ≤ result }
+{
     let at = handles.partition_point(|handle| handle.last < time);
     let size = match handles.get(at) {
         Some(handle) => handle.end.saturating_sub(handle.start),
@@ -117,15 +121,17 @@ fn needed_among(handles: &[BlockHandle], time: Time) -> usize {
 }
 
 /// Returns about as many bytes as a point takes: if its block is to be copied, those of the block.
-fn needed_bytes(handles: &[BlockHandle], time: Time) -> usize {
+fn needed_bytes(handles: &[BlockHandle], time: Time) -> usize
+    ensures { 20 ≤ result }
+{
     match handles.last() {
         Some(last) if last.last >= time => needed_among(handles, time),
         _ => POINT_BYTES,
     }
 }
 
-/// Stages a point: reserves the capacity to append it, or copies its block with the point; returns the new blocks then. All blocks but the last end by the
-/// offset `tail`; the first `cut` points of `total` were removed.
+/// Stages a point: reserves the capacity to append it, or copies its block with the point and returns the new blocks.
+/// All blocks but the last end by the offset `tail`; the first `cut` points of `total` were removed.
 pub(crate) fn stage<A: Allocator + Copy>(
     bytes: &mut Vec<u8, A>,
     handles: &mut Vec<BlockHandle, A>,
@@ -140,7 +146,7 @@ pub(crate) fn stage<A: Allocator + Copy>(
     ensures counted { AreCountedBlocks bytes.new.items handles.new.items total }
     ensures blocks { blocks_at bytes.new.items handles.new.items ≡ blocks_at bytes.old.items handles.old.items }
     ensures others { OthersEndBy tail.new handles.new.items }
-    ensures staged { IfOk result (λ new. IsStaged bytes.new.items handles.new.items total cut (vec_capacity bytes.new) (vec_capacity handles.new) point (option_map (λ b. b.value) new)) }
+    ensures staged { IfOk result (λ new. IsStaged bytes.new.items handles.new.items total cut tail.new (vec_capacity bytes.new) (vec_capacity handles.new) point (option_map (λ b. b.value) new)) }
 {
     if total == usize::MAX {
         return Err(AllocError);
@@ -153,7 +159,7 @@ pub(crate) fn stage<A: Allocator + Copy>(
     )?;
     let at = blocks_before(handles.as_slice(), point.0);
     if at == handles.len() {
-        stage_last(bytes, handles, tail, total, point.0)?;
+        stage_last(bytes, handles, tail, point.0)?;
         return Ok(None);
     }
     let new = stage_boxed(bytes, handles, at, cut, &point)?;

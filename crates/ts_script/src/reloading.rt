@@ -63,7 +63,7 @@ pub fn reloaded(alloc: Global, store: &Store<Global>) -> Result<Store<Global>, R
     ensures memory { OfEachHistory store.now (λ opening h. IfErr result (λ e. e ≡ ReloadFault.OutOfMemory)) }
 {
     // for the proof: the contract states that the store is well formed
-    let _ = store.accepted();
+    store.laws();
     let bytes = match saved(alloc, store) {
         Ok(bytes) => bytes,
         Err(fault) => return Err(ReloadFault::of_save(fault)),

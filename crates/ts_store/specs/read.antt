@@ -2,6 +2,7 @@
 -- cited by public contracts and laws
 pub mod PointsRead
 pub mod ViewResults
+pub mod CellsRead
 -- used only by models and proofs of the code
 pub mod LiveCells
 pub mod CellsLeft

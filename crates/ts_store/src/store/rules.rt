@@ -1,13 +1,41 @@
 //! Rules that are added and dropped while the store is in use.
-ghost use Rattle.std.specs.Prelude.{◌≡◌, None, OnOk, OnErr};
+ghost use Rattle.std.specs.Prelude.{◌≡◌, None, [], ◌∷◌, ◌++◌, IfOk, OnOk, OnErr};
 ghost use Rattle.ts_core.specs.store.Marks.{first_from};
+ghost use Rattle.ts_core.specs.settings.Settings.{with_rule};
 ghost use Rattle.ts_core.specs.settings.SettingsFaults.{added_fault};
 ghost use Rattle.ts_core.specs.facts.Times.{IsTime};
 ghost use Rattle.ts_store.specs.rules.RulesChanged.{AddsRule, RuleComes, DropsRule};
 
 use crate::store::Store;
 use std::alloc::{AllocError, Allocator};
-use ts_core::{Rule, SettingsError, UnknownRule, first_index};
+use ts_core::{Marks, Rule, Settings, SettingsError, UnknownRule, first_index};
+
+/// Returns a copy of the marks with the low index of one more rule.
+fn marks_with<A: Allocator + Copy>(
+    alloc: A,
+    marks: &Marks<A>,
+    low: i128,
+) -> Result<Marks<A>, AllocError>
+    ensures { IfOk result (λ new. new ≡ record { raw = marks.now.raw; lows = marks.now.lows ++ low ∷ [] }) }
+{
+    let mut new = marks.try_clone(alloc)?;
+    new.push(low)?;
+    Ok(new)
+}
+
+/// Returns a copy of the settings with one more rule.
+fn settings_with<A: Allocator + Copy>(
+    alloc: A,
+    settings: &Settings<A>,
+    rule: Rule<A>,
+) -> Result<Settings<A>, AllocError>
+    requires { added_fault settings.now rule ≡ None }
+    ensures { IfOk result (λ new. new ≡ with_rule rule settings.now) }
+{
+    let mut new = settings.try_clone(alloc)?;
+    new.add_rule(rule)?;
+    Ok(new)
+}
 
 impl<A: Allocator + Copy> Store<A> {
     /// Appends a rule to the settings, and creates its cells from its low index on, folded from the raw points. Returns
@@ -46,10 +74,8 @@ impl<A: Allocator + Copy> Store<A> {
     {
         let rollup = self.facts.rollup_of(&rule, &low)?;
         let alloc = self.facts.allocator();
-        let mut marks = self.marks.try_clone(alloc)?;
-        marks.push(low)?;
-        let mut settings = self.settings.try_clone(alloc)?;
-        settings.add_rule(rule)?;
+        let marks = marks_with(alloc, &self.marks, low)?;
+        let settings = settings_with(alloc, &self.settings, rule)?;
         // The last call that may fail: nothing has changed before it.
         self.facts.add_rollup(rollup)?;
         self.marks = marks;

@@ -2,9 +2,10 @@ use Rattle.std.proofs.Common.{◌≡◌, ℕ, List, [], ◌∷◌, ◌++◌, ◌
 use Rattle.ts_core.specs.aggregates.Aggregates.{aggregate_of_one}
 use Rattle.ts_block.specs.Appending.{EndsInBlock}
 use Rattle.ts_raw.specs.declared.block_handle.BlockHandle.{BlockHandle}
-use Rattle.ts_raw.specs.CodedPoints.{coded_points, blocks_at, AreCountedBlocks, OthersEndBy}
-use Rattle.ts_raw.proofs.PushLemmas.{all_within, others_from, new_mark, summary_of_one, rising_push, coded_less}
-use Rattle.ts_raw.proofs.PushedBlocks.{sealed, joined_push}
+use Rattle.ts_raw.specs.CodedPoints.{coded_points, blocks_at, IsCoded, OthersEndBy}
+use Rattle.ts_raw.specs.Rewriting.{IsEncoded}
+use Rattle.ts_raw.proofs.PushLemmas.{all_within, others_from, new_mark, summary_of_one}
+use Rattle.ts_raw.proofs.PushedBlocks.{begun, begun_points, begun_blocks}
 use Rattle.ts_raw.proofs.appending.push_block.Given.{Over}
 use Rattle.ts_raw.proofs.appending.push_block.Goals.{After-push_reserved}
 use Rattle.ts_raw.proofs.appending.push_block.Goals as goal
@@ -15,49 +16,46 @@ handle g c = record {
   values = 9;
   end = c.len.result;
   count = 1;
-  before = c.args.total;
   last = c.args.point.now.0;
   summary = c.single.result;
 }
 
-both : (g : Over) (c : After-push_reserved g) → AreCountedBlocks c.begin.new.bytes.items (c.args.handles.now.items ++ handle g c ∷ []) (c.args.total + 1)
-    × (coded_points c.begin.new.bytes.items (c.args.handles.now.items ++ handle g c ∷ []) ≡ coded_points c.args.bytes.now.items c.args.handles.now.items ++ c.args.point.now ∷ [])
-    × (blocks_at c.begin.new.bytes.items (c.args.handles.now.items ++ handle g c ∷ []) ≡ blocks_at c.args.bytes.now.items c.args.handles.now.items ++ ((c.args.point.now ∷ []) ∷ []))
+kept : (g : Over) (c : After-push_reserved g) → take (length c.args.bytes.now.items) c.begin.new.bytes.items ≡ c.args.bytes.now.items
+kept g c = ap (λ n. take n c.begin.new.bytes.items) (let n : length c.args.bytes.now.items ≡ vec_len c.args.bytes.now = omega (arith, c.args.bytes.now.ok.0) in n) ∙ c.begin.ensures.before
+
+encoded : (g : Over) (c : After-push_reserved g) → IsEncoded c.begin.new.bytes.items (handle g c) (c.args.point.now ∷ [])
 unfolding handle
-both g c =
-    let bytes : List ℕ = c.args.bytes.now.items in
+encoded g c =
     let new : List ℕ = c.begin.new.bytes.items in
-    let ms : List BlockHandle = c.args.handles.now.items in
-    let start : c.len-start.result ≡ length bytes = omega (arith, c.len-start.ensures, c.args.bytes.now.ok.0) in
     let end : c.len.result ≡ length new = omega (arith, c.len.ensures, c.begin.new.bytes.ok.0) in
-    let same : take (length bytes) new ≡ bytes = ap (λ n. take n new) (let n : length bytes ≡ vec_len c.args.bytes.now = omega (arith, c.args.bytes.now.ok.0) in n) ∙ c.begin.ensures.before in
     let block : EndsInBlock new c.len-start.result (c.len-start.result + 9) c.args.point.now.0 (c.args.point.now ∷ []) =
     subst (λ n. EndsInBlock new n (n + 9) c.args.point.now.0 (c.args.point.now ∷ [])) (let n : vec_len c.args.bytes.now ≡ c.len-start.result = omega (arith, c.len-start.ensures) in n) c.begin.ensures.ends in
     let fits : SFits w64 c.args.point.now.1 = search rules in
     let one = c.single.ensures ∙ ap (aggregate_of_one c.args.point.now.0) (to_z-of_z fits) in
-    let encoded = new_mark new (handle g c) (c.args.point.now ∷ []) block end refl (one ∙ summary_of_one c.args.point.now) in
-    let rising = rising_push (coded_points bytes ms) c.args.point.now c.requires.counted.coded.rising (coded_less bytes c.args.point.now.0 ms 0 c.requires.counted.coded.marked c.requires.later) in
-    let s = sealed bytes new ms (handle g c) c.args.total (c.args.point.now ∷ []) c.requires.counted same (record { handle = encoded.0; points_are = encoded.1 }) block.block.points_are rising in
-    (s.0, joined_push bytes new ms (ms ++ handle g c ∷ []) (c.args.point.now ∷ []) s.1, s.1)
+    let both = new_mark new (handle g c) (c.args.point.now ∷ []) block end refl (one ∙ summary_of_one c.args.point.now) in
+    record { handle = both.0; points_are = both.1 }
 
 items : (g : Over) (c : After-push_reserved g) → c.push_reserved.new.self.items ≡ c.args.handles.now.items ++ handle g c ∷ []
 unfolding handle
 items g c = c.push_reserved.ensures.items
 
-pub returns-clause-counted : goal.returns-clause-counted
-returns-clause-counted g c =
-    let at = (goal.at.returns-clause-counted g c).After-push_reserved in
-    subst (λ (ms : List BlockHandle). AreCountedBlocks c.begin.new.bytes.items ms (c.args.total + 1)) (sym (items g at)) (both g at).0
+pub returns-clause-coded : goal.returns-clause-coded
+returns-clause-coded g c =
+    let at = (goal.at.returns-clause-coded g c).After-push_reserved in
+    subst (IsCoded c.begin.new.bytes.items) (sym (items g at))
+    (begun c.args.bytes.now.items c.begin.new.bytes.items c.args.handles.now.items (handle g at) c.args.point.now c.requires.coded c.requires.later (kept g at) (encoded g at))
 
 pub returns-clause-points : goal.returns-clause-points
 returns-clause-points g c =
     let at = (goal.at.returns-clause-points g c).After-push_reserved in
-    ap (coded_points c.begin.new.bytes.items) (items g at) ∙ (both g at).1
+    ap (coded_points c.begin.new.bytes.items) (items g at)
+    ∙ begun_points c.args.bytes.now.items c.begin.new.bytes.items c.args.handles.now.items (handle g at) c.args.point.now c.requires.coded c.requires.later (kept g at) (encoded g at)
 
 pub returns-clause-blocks : goal.returns-clause-blocks
 returns-clause-blocks g c =
     let at = (goal.at.returns-clause-blocks g c).After-push_reserved in
-    ap (blocks_at c.begin.new.bytes.items) (items g at) ∙ (both g at).2
+    ap (blocks_at c.begin.new.bytes.items) (items g at)
+    ∙ begun_blocks c.args.bytes.now.items c.begin.new.bytes.items c.args.handles.now.items (handle g at) c.args.point.now c.requires.coded c.requires.later (kept g at) (encoded g at)
 
 pub returns-clause-others : goal.returns-clause-others
 returns-clause-others g c =
@@ -65,4 +63,4 @@ returns-clause-others g c =
     let bytes : List ℕ = c.args.bytes.now.items in
     let size : length bytes ≡ vec_len c.args.bytes.now = omega (arith, c.args.bytes.now.ok.0) in
     subst (λ n. OthersEndBy n c.push_reserved.new.self.items) size
-    (subst (OthersEndBy (length bytes)) (sym (items g at)) (others_from (length bytes) c.args.handles.now.items (handle g at) (all_within bytes c.args.handles.now.items 0 c.requires.counted.coded.marked)))
+    (subst (OthersEndBy (length bytes)) (sym (items g at)) (others_from (length bytes) c.args.handles.now.items (handle g at) (all_within bytes c.args.handles.now.items c.requires.coded.marked)))

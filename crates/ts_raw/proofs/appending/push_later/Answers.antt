@@ -1,34 +1,92 @@
-use Rattle.std.proofs.Common.{rules, ◌≡◌, ◌≤◌, [], ◌∷◌, ◌++◌, sym, ap, subst, ◌∙◌, arith, option_to_list}
-use Rattle.ts_raw.specs.CodedPoints.{AllEndBy, OthersEndBy, CutFits, block_points_at, blocks_at}
-use Rattle.ts_raw.proofs.PushLemmas.{others_of, all_by, blocks_push, cut_longer, cut_more}
+use Rattle.std.proofs.Common.{rules, ◌≡◌, ◌-◌, ◌<◌, ℕ, List, [], ◌∷◌, ◌++◌, length, take, vec_len, vec_capacity, ⊎_elim, sym, ap, subst, ◌∙◌, arith}
+use Rattle.ts_raw.specs.declared.block_handle.BlockHandle.{BlockHandle}
+use Rattle.ts_raw.specs.CodedPoints.{IsCoded, AllEndBefore, AllEndBy, OthersEndBy, LastGrows, CutFits, block_points_at, coded_points, blocks_at}
+use Rattle.ts_raw.proofs.PushLemmas.{others_of, others_from, all_by, all_split, parted_last, blocks_push, cut_longer, cut_more}
+use Rattle.ts_raw.proofs.PushedBlocks.{Growing, growing, set_last, grown, grown_points, grown_blocks}
 use Rattle.ts_raw.proofs.appending.push_later.Given.{Over}
-use Rattle.ts_raw.proofs.appending.push_later.Goals.{After-unwrap-handle}
+use Rattle.ts_raw.proofs.appending.push_later.Goals.{After-index_mut}
 use Rattle.ts_raw.proofs.appending.push_later.Goals as goal
 
-front : (g : Over) (c : After-unwrap-handle g) → AllEndBy c.args.tail c.pop.new.self.items
-front g c =
-    let items : c.args.handles.now.items ≡ c.pop.new.self.items ++ (c.unwrap-handle.result ∷ []) = c.pop.ensures.items ∙ ap (λ r. c.pop.new.self.items ++ option_to_list r) c.unwrap-handle.ensures in
-    others_of c.args.tail c.pop.new.self.items c.unwrap-handle.result (subst (OthersEndBy c.args.tail) items c.requires.others)
+last : (g : Over) (c : After-index_mut g) → Growing (vec_len c.args.bytes.now) c.args.tail c.args.handles.now.items (c.len-at.result - 1) c.index_mut.result.now
+last g c =
+    let ms : List BlockHandle = c.args.handles.now.items in
+    let grows : LastGrows c.len-size.result c.args.tail c.as_slice.result.now = c.can_grow.ensures.0 (search rules) in
+    let here : LastGrows (vec_len c.args.bytes.now) c.args.tail ms = subst (λ (x : List BlockHandle). LastGrows (vec_len c.args.bytes.now) c.args.tail x) c.as_slice.ensures.value (subst (λ n. LastGrows n c.args.tail c.as_slice.result.now) c.len-size.ensures grows) in
+    let at : c.len-at.result - 1 ≡ length ms - 1 = omega (arith, c.len-at.ensures, c.args.handles.now.ok.0) in
+    subst (Growing (vec_len c.args.bytes.now) c.args.tail ms (c.len-at.result - 1)) (sym c.index_mut.ensures.value) (growing (vec_len c.args.bytes.now) c.args.tail ms (c.len-at.result - 1) c.index_mut.result.now here at)
 
-pub push_last-requires-clause-apart : goal.push_last-requires-clause-apart
-push_last-requires-clause-apart g c =
-    let at = goal.at.push_last-requires-clause-apart g c in
-    let s : c.args.tail ≤ c.unwrap-handle.result.start = search rules in
-    all_by c.args.tail c.unwrap-handle.result.start c.pop.new.self.items s (front g at.After-unwrap-handle)
+coded : (g : Over) (c : After-index_mut g) → IsCoded c.args.bytes.now.items (take (c.len-at.result - 1) c.args.handles.now.items ++ c.index_mut.result.now ∷ [])
+coded g c = subst (IsCoded c.args.bytes.now.items) (last g c).split c.requires.coded
 
-pub returns-in-Some-clause-others : goal.returns-in-Some-clause-others
-returns-in-Some-clause-others g c =
-    let at = goal.at.returns-in-Some-clause-others g c in
-    c.push_last.ensures.others c.args.tail (front g at.After-unwrap-handle)
+later : (g : Over) (c : After-index_mut g) → AllEndBefore (take (c.len-at.result - 1) c.args.handles.now.items ++ c.index_mut.result.now ∷ []) c.args.point.now.0
+later g c = subst (λ (x : List BlockHandle). AllEndBefore x c.args.point.now.0) (last g c).split c.requires.later
 
-pub returns-in-Some-clause-cut : goal.returns-in-Some-clause-cut
-returns-in-Some-clause-cut g c = λ cut h.
-    let at = goal.at.returns-in-Some-clause-cut g c in
-    let bytes = c.args.bytes.now.items in
-    let items : c.args.handles.now.items ≡ c.pop.new.self.items ++ (c.unwrap-handle.result ∷ []) = c.pop.ensures.items ∙ ap (λ r. c.pop.new.self.items ++ option_to_list r) c.unwrap-handle.ensures in
-    let blocks = ap (blocks_at bytes) items ∙ blocks_push bytes c.pop.new.self.items c.unwrap-handle.result in
-    subst (CutFits cut) (sym c.push_last.ensures.blocks) (cut_longer cut (blocks_at bytes c.pop.new.self.items) (block_points_at bytes c.unwrap-handle.result) c.args.point.now (subst (CutFits cut) blocks h))
+others : (g : Over) (c : After-index_mut g) → AllEndBy c.args.tail (take (c.len-at.result - 1) c.args.handles.now.items)
+others g c = others_of c.args.tail (take (c.len-at.result - 1) c.args.handles.now.items) c.index_mut.result.now (subst (OthersEndBy c.args.tail) (last g c).split c.requires.others)
 
-pub returns-in_default-clause-cut : goal.returns-in_default-clause-cut
-returns-in_default-clause-cut g c = λ cut h.
+apart : (g : Over) (c : After-index_mut g) → AllEndBy c.index_mut.result.now.start (take (c.len-at.result - 1) c.args.handles.now.items)
+apart g c = all_by c.args.tail c.index_mut.result.now.start (take (c.len-at.result - 1) c.args.handles.now.items) (last g c).apart (others g c)
+
+pub push_block-requires-clause-handles_spare : goal.push_block-requires-clause-handles_spare
+push_block-requires-clause-handles_spare g c =
+    let ms : List BlockHandle = c.args.handles.now.items in
+    let size : length c.args.bytes.now.items ≡ c.len-size.result = omega (arith, c.len-size.ensures, c.args.bytes.now.ok.0) in
+    ⊎_elim {C = vec_len c.args.handles.now < vec_capacity c.args.handles.now}
+    (λ h.
+    let yes = c.can_grow.ensures.1 (subst (λ (x : List BlockHandle). LastGrows c.len-size.result c.args.tail x) (sym c.as_slice.ensures.value) (subst (λ n. LastGrows n c.args.tail ms) size h)) in
+    absurd (search (rules, yes)))
+    (λ (n : length ms < vec_capacity c.args.handles.now). omega (arith, n, c.args.handles.now.ok.0)) c.requires.room
+
+pub push_last-requires-clause-marked : goal.push_last-requires-clause-marked
+push_last-requires-clause-marked g c =
+    let at = (goal.at.push_last-requires-clause-marked g c).After-index_mut in
+    (parted_last c.args.bytes.now.items c.index_mut.result.now (take (c.len-at.result - 1) c.args.handles.now.items) (coded g at).marked).1
+
+pub push_last-requires-clause-later : goal.push_last-requires-clause-later
+push_last-requires-clause-later g c =
+    let at = (goal.at.push_last-requires-clause-later g c).After-index_mut in
+    (all_split (take (c.len-at.result - 1) c.args.handles.now.items) c.args.point.now.0 c.index_mut.result.now (later g at)).1
+
+pub push_last-requires-clause-few : goal.push_last-requires-clause-few
+push_last-requires-clause-few g c = (last g (goal.at.push_last-requires-clause-few g c).After-index_mut).few
+
+pub push_last-requires-clause-ends : goal.push_last-requires-clause-ends
+push_last-requires-clause-ends g c = (last g (goal.at.push_last-requires-clause-ends g c).After-index_mut).ends
+
+pub returns-clause-coded : goal.returns-clause-coded
+returns-clause-coded g c =
+    let a = (goal.at.returns-clause-coded g c).After-index_mut in
+    let ms : List BlockHandle = take (c.len-at.result - 1) c.args.handles.now.items in
+    subst (IsCoded c.push_last.new.bytes.items) (sym (set_last c.args.handles.now.items (c.len-at.result - 1) c.push_last.new.handle (last g a).some))
+    (grown c.args.bytes.now.items c.push_last.new.bytes.items ms c.index_mut.result.now c.push_last.new.handle c.args.point.now (coded g a) (later g a) (apart g a) c.push_last.ensures.kept c.push_last.ensures.block)
+
+pub returns-clause-others : goal.returns-clause-others
+returns-clause-others g c =
+    let a = (goal.at.returns-clause-others g c).After-index_mut in
+    subst (OthersEndBy c.args.tail) (sym (set_last c.args.handles.now.items (c.len-at.result - 1) c.push_last.new.handle (last g a).some)) (others_from c.args.tail (take (c.len-at.result - 1) c.args.handles.now.items) c.push_last.new.handle (others g a))
+
+pub returns-clause-points : goal.returns-clause-points
+returns-clause-points g c =
+    let a = (goal.at.returns-clause-points g c).After-index_mut in
+    let bytes : List ℕ = c.args.bytes.now.items in
+    let new : List ℕ = c.push_last.new.bytes.items in
+    let ms : List BlockHandle = take (c.len-at.result - 1) c.args.handles.now.items in
+    ap (coded_points new) (set_last c.args.handles.now.items (c.len-at.result - 1) c.push_last.new.handle (last g a).some)
+    ∙ grown_points bytes new ms c.index_mut.result.now c.push_last.new.handle c.args.point.now (coded g a) (later g a) (apart g a) c.push_last.ensures.kept c.push_last.ensures.block
+    ∙ ap (λ (x : List BlockHandle). coded_points bytes x ++ c.args.point.now ∷ []) (sym (last g a).split)
+
+pub returns-clause-cut : goal.returns-clause-cut
+returns-clause-cut g c = λ cut h.
+    let a = (goal.at.returns-clause-cut g c).After-index_mut in
+    let bytes : List ℕ = c.args.bytes.now.items in
+    let new : List ℕ = c.push_last.new.bytes.items in
+    let ms : List BlockHandle = take (c.len-at.result - 1) c.args.handles.now.items in
+    let m : BlockHandle = c.index_mut.result.now in
+    let old = ap (blocks_at bytes) (last g a).split ∙ blocks_push bytes ms m in
+    let now = ap (blocks_at new) (set_last c.args.handles.now.items (c.len-at.result - 1) c.push_last.new.handle (last g a).some)
+    ∙ grown_blocks bytes new ms m c.push_last.new.handle c.args.point.now (coded g a) (later g a) (apart g a) c.push_last.ensures.kept c.push_last.ensures.block in
+    subst (CutFits cut) (sym now) (cut_longer cut (blocks_at bytes ms) (block_points_at bytes m) c.args.point.now (subst (CutFits cut) old h))
+
+pub returns-then-not-can_grow-clause-cut : goal.returns-then-not-can_grow-clause-cut
+returns-then-not-can_grow-clause-cut g c = λ cut h.
     subst (CutFits cut) (sym c.push_block.ensures.blocks) (cut_more cut (blocks_at c.args.bytes.now.items c.args.handles.now.items) (c.args.point.now ∷ []) (omega arith) h)

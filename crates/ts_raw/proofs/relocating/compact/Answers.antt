@@ -8,4 +8,4 @@ returns-clause-others g c =
     let bytes = c.in_ok-new_bytes.new_bytes.items in
     let handles = c.in_ok-new_bytes.new_handles.items in
     let size : c.len.result ≡ length bytes = omega (arith, c.len.ensures, c.in_ok-new_bytes.new_bytes.ok.0) in
-    subst (λ n. OthersEndBy n handles) (sym size) (others_by (length bytes) handles (all_within bytes handles 0 c.in_ok-new_bytes.ensures.0))
+    subst (λ n. OthersEndBy n handles) (sym size) (others_by (length bytes) handles (all_within bytes handles c.in_ok-new_bytes.ensures.0))

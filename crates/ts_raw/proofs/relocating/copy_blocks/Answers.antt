@@ -1,11 +1,11 @@
 use Rattle.std.proofs.Common.{rules, ◌≡◌, ◌<◌, ℕ, List, [], ◌∷◌, ◌++◌, length, sym, ap, subst, ◌∙◌, arith}
 use Rattle.ts_raw.specs.declared.block_handle.BlockHandle.{BlockHandle}
-use Rattle.ts_raw.specs.CodedPoints.{block_text_at, IsBlockHandle, AreBlockHandles, blocks_at}
+use Rattle.ts_raw.specs.CodedPoints.{block_text_at, IsBlockHandle, AreBlocks, blocks_at}
 use Rattle.ts_raw.proofs.BlockLists.{mark_at, copied_more}
 use Rattle.ts_raw.proofs.relocating.copy_blocks.Goals as goal
 
 pub text_of-requires : goal.text_of-requires
-text_of-requires g c = subst (IsBlockHandle c.args.bytes.now) (sym c.handle-item.is) (mark_at c.args.bytes.now c.args.handles.now 0 c.loop-handle.handle-index c.handle-item.result c.requires (search rules))
+text_of-requires g c = subst (IsBlockHandle c.args.bytes.now) (sym c.handle-item.is) (mark_at c.args.bytes.now c.args.handles.now c.loop-handle.handle-index c.handle-item.result c.requires (search rules))
 
 pub loop-handle-preserved : goal.loop-handle-preserved
 loop-handle-preserved g c =
@@ -22,8 +22,8 @@ loop-handle-preserved g c =
     let is : new ≡ old ++ block_text_at src m = c.in_ok-extend_from_slice.ensures.items ∙ ap (λ (x : List ℕ). old ++ x) c.text_of.ensures in
     let items : c.push.new.self.items ≡ ms ++ (n ∷ []) = c.in_ok-push.ensures.items in
     let there = c.handle-item.is in
-    let both = copied_more src old new all ms c.loop-handle.handle-index n m c.requires l c.loop-handle.invariant.marked c.loop-handle.invariant.blocks (is ∙ ap (λ x. old ++ block_text_at src x) there) start end (ap (λ (x : BlockHandle). x.values) there) (ap (λ (x : BlockHandle). x.count) there) (ap (λ (x : BlockHandle). x.before) there) (ap (λ (x : BlockHandle). x.last) there) (ap (λ (x : BlockHandle). x.summary) there) in
+    let both = copied_more src old new all ms c.loop-handle.handle-index n m c.requires l c.loop-handle.invariant.marked c.loop-handle.invariant.blocks (is ∙ ap (λ x. old ++ block_text_at src x) there) start end (ap (λ (x : BlockHandle). x.values) there) (ap (λ (x : BlockHandle). x.count) there) (ap (λ (x : BlockHandle). x.last) there) (ap (λ (x : BlockHandle). x.summary) there) in
     record {
-      marked = subst (AreBlockHandles new 0) (sym items) both.0;
+      marked = subst (AreBlocks new) (sym items) both.0;
       blocks = ap (blocks_at new) items ∙ both.1;
     }

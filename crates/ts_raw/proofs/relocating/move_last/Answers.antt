@@ -1,8 +1,8 @@
 use Rattle.std.proofs.Common.{◌≡◌, ◌-◌, get_or, ℕ, List, [], ◌∷◌, ◌++◌, length, sym, ap, subst, refl, ◌∙◌, arith, is_ok, if◌then◌else◌, option_to_list}
 use Rattle.std.proofs.lemmas.Bool.{ltb-true}
 use Rattle.ts_raw.specs.declared.block_handle.BlockHandle.{BlockHandle}
-use Rattle.ts_raw.specs.CodedPoints.{block_text_at, IsBlockHandle, AreBlockHandles, OthersEndBy, blocks_at}
-use Rattle.ts_raw.proofs.PushLemmas.{marks_split}
+use Rattle.ts_raw.specs.CodedPoints.{block_text_at, IsBlockHandle, AreBlocks, OthersEndBy, blocks_at}
+use Rattle.ts_raw.proofs.PushLemmas.{parted_last}
 use Rattle.ts_raw.proofs.BlockLists.{mark_at, moved_marked, moved_blocks, moved_others}
 use Rattle.ts_raw.proofs.relocating.move_last.Given.{Over}
 use Rattle.ts_raw.proofs.relocating.move_last.Goals.{After-unwrap-handle, After-unwrap-2}
@@ -14,26 +14,26 @@ overflow_sub-handle g c =
     let there : c.in-Some.handle.now ≡ get_or ms (length ms - 1) c.in-Some.handle.now = subst (λ (x : List BlockHandle). c.in-Some.handle.now ≡ get_or x (length x - 1) c.in-Some.handle.now) c.deref.ensures.value c.in-Some.ensures.item.1 in
     let some = ltb-true 0 (length c.deref.result.now) (sym c.in-Some.ensures.item.0) in
     let same = ap length c.deref.ensures.value in
-    let is = subst (IsBlockHandle c.args.bytes.now.items) (sym there) (mark_at c.args.bytes.now.items ms 0 (length ms - 1) c.in-Some.handle.now c.requires.marked (omega arith)) in
+    let is = subst (IsBlockHandle c.args.bytes.now.items) (sym there) (mark_at c.args.bytes.now.items ms (length ms - 1) c.in-Some.handle.now c.requires.marked (omega arith)) in
     let s = is.some in
     omega arith
 
 items : (g : Over) (c : After-unwrap-handle g) → c.args.handles.now.items ≡ c.pop.new.self.items ++ (c.unwrap-handle.result ∷ [])
 items g c = c.pop.ensures.items ∙ ap (λ r. c.pop.new.self.items ++ option_to_list r) c.unwrap-handle.ensures
 
-marked : (g : Over) (c : After-unwrap-handle g) → AreBlockHandles c.args.bytes.now.items 0 (c.pop.new.self.items ++ (c.unwrap-handle.result ∷ []))
-marked g c = subst (AreBlockHandles c.args.bytes.now.items 0) (items g c) c.requires.marked
+marked : (g : Over) (c : After-unwrap-handle g) → AreBlocks c.args.bytes.now.items (c.pop.new.self.items ++ (c.unwrap-handle.result ∷ []))
+marked g c = subst (AreBlocks c.args.bytes.now.items) (items g c) c.requires.marked
 
 pub extend_from_within-requires-clause-start_le_end : goal.extend_from_within-requires-clause-start_le_end
 extend_from_within-requires-clause-start_le_end g c =
     let at = (goal.at.extend_from_within-requires-clause-start_le_end g c).After-unwrap-handle in
-    let s = (marks_split c.args.bytes.now.items c.unwrap-handle.result c.pop.new.self.items 0 (marked g at)).1.some in
+    let s = (parted_last c.args.bytes.now.items c.unwrap-handle.result c.pop.new.self.items (marked g at)).1.some in
     omega arith
 
 pub extend_from_within-requires-clause-in_bounds : goal.extend_from_within-requires-clause-in_bounds
 extend_from_within-requires-clause-in_bounds g c =
     let at = (goal.at.extend_from_within-requires-clause-in_bounds g c).After-unwrap-handle in
-    let s = (marks_split c.args.bytes.now.items c.unwrap-handle.result c.pop.new.self.items 0 (marked g at)).1.within in
+    let s = (parted_last c.args.bytes.now.items c.unwrap-handle.result c.pop.new.self.items (marked g at)).1.within in
     let size = ap length c.reserve_eighth.ensures.items in
     omega (arith, s, size, c.reserve_eighth.new.list.ok.0)
 
@@ -61,8 +61,8 @@ unfolding moved
 returns-clause-marked g c =
     let a = goal.at.returns-clause-marked g c in
     let at = a.After-unwrap-2 in
-    subst (λ (x : List BlockHandle). AreBlockHandles c.extend_from_within.new.self.items 0 x) (sym (marks_are g at))
-    (moved_marked c.args.bytes.now.items c.extend_from_within.new.self.items c.pop.new.self.items c.unwrap-handle.result (moved g at) (marked g a.After-unwrap-handle) (bytes_are g at) (start_is g at) (end_is g at) refl refl refl refl refl)
+    subst (AreBlocks c.extend_from_within.new.self.items) (sym (marks_are g at))
+    (moved_marked c.args.bytes.now.items c.extend_from_within.new.self.items c.pop.new.self.items c.unwrap-handle.result (moved g at) (marked g a.After-unwrap-handle) (bytes_are g at) (start_is g at) (end_is g at) refl refl refl refl)
 
 pub returns-clause-blocks : goal.returns-clause-blocks
 unfolding moved
@@ -70,7 +70,7 @@ returns-clause-blocks g c =
     let a = goal.at.returns-clause-blocks g c in
     let at = a.After-unwrap-2 in
     ap (blocks_at c.extend_from_within.new.self.items) (marks_are g at)
-    ∙ moved_blocks c.args.bytes.now.items c.extend_from_within.new.self.items c.pop.new.self.items c.unwrap-handle.result (moved g at) (marked g a.After-unwrap-handle) (bytes_are g at) (start_is g at) (end_is g at) refl refl refl refl refl
+    ∙ moved_blocks c.args.bytes.now.items c.extend_from_within.new.self.items c.pop.new.self.items c.unwrap-handle.result (moved g at) (marked g a.After-unwrap-handle) (bytes_are g at) (start_is g at) (end_is g at) refl refl refl refl
     ∙ ap (blocks_at c.args.bytes.now.items) (sym (items g a.After-unwrap-handle))
 
 pub returns-clause-others : goal.returns-clause-others
@@ -79,4 +79,4 @@ returns-clause-others g c =
     let a = goal.at.returns-clause-others g c in
     let at = a.After-unwrap-2 in
     subst (λ n. OthersEndBy n c.push.new.self.items) (sym (start_is g at)) (subst (OthersEndBy (length c.args.bytes.now.items)) (sym (marks_are g at))
-    (moved_others c.args.bytes.now.items c.extend_from_within.new.self.items c.pop.new.self.items c.unwrap-handle.result (moved g at) (marked g a.After-unwrap-handle) (bytes_are g at) (start_is g at) (end_is g at) refl refl refl refl refl))
+    (moved_others c.args.bytes.now.items c.extend_from_within.new.self.items c.pop.new.self.items c.unwrap-handle.result (moved g at) (marked g a.After-unwrap-handle) (bytes_are g at) (start_is g at) (end_is g at) refl refl refl refl))

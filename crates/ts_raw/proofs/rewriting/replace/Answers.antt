@@ -1,21 +1,33 @@
-use Rattle.std.proofs.Common.{◌≡◌, ◌≤◌, List, length, take, sym, subst, ◌∙◌}
+use Rattle.std.proofs.Common.{ap, arith}
 use Rattle.ts_raw.specs.declared.block_handle.BlockHandle.{BlockHandle}
-use Rattle.ts_raw.specs.CodedPoints.{with_starts}
-use Rattle.ts_raw.specs.Rewriting.{handles_replaced}
-use Rattle.ts_raw.proofs.RewriteLemmas.{replaced_front, replaced_length}
-use Rattle.ts_raw.proofs.rewriting.replace.Given.{Over}
-use Rattle.ts_raw.proofs.rewriting.replace.Goals.{After-as_mut_slice}
+use Rattle.ts_raw.proofs.RewriteLemmas.{count_split, count_replaced, count_new_few}
 use Rattle.ts_raw.proofs.rewriting.replace.Goals as goal
 
-items : (g : Over) (c : After-as_mut_slice g) → c.as_mut_slice.result.now ≡ handles_replaced c.args.new.now c.args.handles.now.items
-items g c = c.as_mut_slice.ensures.value ∙ c.insert_blocks.ensures
+pub overflow_sub-others : goal.overflow_sub-others
+overflow_sub-others g c =
+    let a = count_split c.args.handles.now.items c.args.new.now.at c.index.result.now c.requires.within in
+    let is = ap (λ (m : BlockHandle). m.count) c.index.ensures in
+    let t = c.requires.total in
+    omega arith
 
-pub renumber-requires-clause-bound : goal.renumber-requires-clause-bound
-renumber-requires-clause-bound g c =
-    let at = (goal.at.renumber-requires-clause-bound g c).After-as_mut_slice in
-    subst (λ (x : List BlockHandle). c.args.new.now.at ≤ length x) (sym (items g at)) (replaced_length c.args.new.now c.args.handles.now.items c.requires.within)
+pub count_of_new-requires : goal.count_of_new-requires
+count_of_new-requires g c = let a = count_new_few c.args.new.now c.args.handles.now.items in let few = c.requires.few in omega arith
 
-pub renumber-requires-clause-front : goal.renumber-requires-clause-front
-renumber-requires-clause-front g c =
-    let at = (goal.at.renumber-requires-clause-front g c).After-as_mut_slice in
-    subst (λ (x : List BlockHandle). with_starts 0 (take c.args.new.now.at x) ≡ take c.args.new.now.at x) (sym (items g at)) (replaced_front c.args.new.now c.args.handles.now.items c.requires.within c.requires.front)
+pub overflow_add-result : goal.overflow_add-result
+overflow_add-result g c =
+    let a = count_replaced c.args.new.now c.args.handles.now.items c.index.result.now c.requires.within in
+    let b = count_split c.args.handles.now.items c.args.new.now.at c.index.result.now c.requires.within in
+    let is = ap (λ (m : BlockHandle). m.count) c.index.ensures in
+    let t = c.requires.total in
+    let few = c.requires.few in
+    let n = c.count_of_new.ensures in
+    record { fits = omega arith }
+
+pub returns-clause-total : goal.returns-clause-total
+returns-clause-total g c =
+    let a = count_replaced c.args.new.now c.args.handles.now.items c.index.result.now c.requires.within in
+    let b = count_split c.args.handles.now.items c.args.new.now.at c.index.result.now c.requires.within in
+    let is = ap (λ (m : BlockHandle). m.count) c.index.ensures in
+    let t = c.requires.total in
+    let n = c.count_of_new.ensures in
+    omega arith

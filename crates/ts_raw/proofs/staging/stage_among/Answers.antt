@@ -19,7 +19,7 @@ rewrite-requires g c =
     let ms : List BlockHandle = c.args.handles.now.items in
     let d : BlockHandle = c.index.result.now in
     record {
-      marked = subst (IsBlockHandle c.args.bytes.now.items) (sym (there g at)) (mark_at c.args.bytes.now.items ms 0 c.args.at d c.requires.marked c.requires.within);
+      marked = subst (IsBlockHandle c.args.bytes.now.items) (sym (there g at)) (mark_at c.args.bytes.now.items ms c.args.at d c.requires.marked c.requires.within);
       skip = subst (λ n. n < d.count) (sym c.cut_of.ensures) (subst (λ (m : BlockHandle). cut_in_block c.args.at c.args.cut < m.count) (sym (there g at)) (cut_less c.args.bytes.now.items ms c.args.at c.args.cut d c.requires.marked c.requires.cut c.requires.within));
       reached = subst (λ (m : BlockHandle). c.args.point.now.0 ≤ℤ m.last) (sym (there g at)) (reaches c.args.point.now.0 ms c.args.at d c.requires.within c.requires.at);
     }

@@ -7,18 +7,18 @@ use Rattle.ts_script.proofs.reloading.reloaded.Goals as goal
 
 pub returns-in-Err-clause-memory : goal.returns-in-Err-clause-memory
 returns-in-Err-clause-memory c =
-    let a = c.accepted.ensures in
+    let a = c.laws.ensures in
     let well : IsWellFormed c.args.store.now = record { rules = a.rules; mark = a.mark; sized = a.sized; points = a.points } in
     λ opening h st. c.of_save.ensures ∙ saves_but_for_memory c.args.store.now c.in-Err.fault well (λ e. c.in-Err.ensures.unfit (ap Err e)) opening h st
 
 pub returns-in-Ok-load-clause-reloaded : goal.returns-in-Ok-load-clause-reloaded
 returns-in-Ok-load-clause-reloaded c =
     loaded_back c.args.store.now c.in-Ok-load.store c.in-Ok.bytes.items c.new-source.result (ap (λ (z : Input). z.remaining) c.new-source.ensures ∙ ap (λ (bytes : List ℕ). Some bytes) c.as_slice.ensures.value) c.in-Ok.ensures.image
-    c.accepted.ensures.sized c.in-Ok-load.ensures.loads.ok
+    c.laws.ensures.sized c.in-Ok-load.ensures.loads.ok
 
 pub returns-clause-memory : goal.returns-clause-memory
 returns-clause-memory c =
-    let a = c.accepted.ensures in
+    let a = c.laws.ensures in
     let well : IsWellFormed c.args.store.now = record { rules = a.rules; mark = a.mark; sized = a.sized; points = a.points } in
     λ opening h st.
     c.of_load.ensures

@@ -21,7 +21,7 @@ returns g c =
     let all : List (ℤ × ℤ) = coded_points bytes ms in
     let texts = c.new.ensures ∙ (λ i. texts_at (c.as_slice.ensures.value i) (c.as_slice-2.ensures.value i)) in
     subst (λ (x : BlockColumnState). HoldPoints (map.entries x.points) x.blocks c.new.result) c.self.view_is (subst (HoldPoints _ (blocks_at bytes ms)) (sym texts) (record {
-      blocks = blocks_are bytes ms 0 c.self.invariant.counted.coded.marked;
+      blocks = blocks_are bytes ms c.self.invariant.counted.coded.marked;
       removed = cut;
       few = cut_few bytes ms cut c.self.invariant.counted.coded.marked c.self.invariant.cut_fits;
       points_are = entries-from_sorted int_cmp (drop cut all) (is_rising_behind cut all c.self.invariant.counted.coded.rising) ∙ ap (drop cut) (coded_concat bytes ms);

@@ -1,4 +1,4 @@
-use Rattle.std.proofs.Common.{rules, ◌≡◌, ◌≤◌, ℤ, List, length, filter, drop, ◌∙◌, ap, sym, SFits, w64, to_z-of_z, int_cmp, subst}
+use Rattle.std.proofs.Common.{rules, ◌≡◌, ℤ, List, length, filter, drop, ◌∙◌, ap, sym, arith, Fits, SFits, w64, to_z-of_z, int_cmp, subst}
 use Rattle.std.specs.FinMap as map
 use Rattle.std.specs.FinMap.{entries-from_sorted}
 use Rattle.ts_core.specs.facts.Facts.{is_within}
@@ -6,13 +6,15 @@ use Rattle.ts_raw.specs.BlockColumns.{BlockColumnState}
 use Rattle.ts_raw.specs.Columns.{AreTimed, points_within}
 use Rattle.ts_raw.specs.CodedPoints.{coded_points}
 use Rattle.ts_raw.proofs.CutLemmas.{is_rising_behind, timed_behind}
-use Rattle.ts_raw.proofs.ColumnBlocks.{cut_within}
 use Rattle.ts_raw.proofs.block_column.BlockColumn.window.Goals as goal
 
-pub between-requires-clause-cut : goal.between-requires-clause-cut
-between-requires-clause-cut g c =
+pub between-requires-clause-few : goal.between-requires-clause-few
+between-requires-clause-few g c =
     let same : length (coded_points c.self.inside.bytes.items c.self.inside.handles.items) ≡ length (coded_points c.as_slice.result.now c.as_slice-2.result.now) = λ i. length (coded_points (sym c.as_slice.ensures.value i) (sym c.as_slice-2.ensures.value i)) in
-    subst (λ n. c.self.inside.cut ≤ n) same (cut_within c.self.inside.bytes.items c.self.inside.handles.items c.self.inside.cut c.self.invariant.cut_fits)
+    let total = c.self.invariant.counted.total_is in
+    let fits : Fits w64 c.self.inside.total = search rules in
+    let top = fits.fits in
+    omega arith
 
 pub returns-clause-points : goal.returns-clause-points
 returns-clause-points g c =

@@ -4,29 +4,31 @@ use Rattle.std.specs.FinMap as map
 use Rattle.ts_core.specs.facts.Times.{IsTime}
 use Rattle.ts_raw.specs.declared.block_handle.BlockHandle.{BlockHandle}
 use Rattle.ts_raw.specs.BlockColumns.{IsColumn, IsStaged, IsStagedIfAny, CanCommit}
-use Rattle.ts_raw.specs.CodedPoints.{coded_points, with_starts}
+use Rattle.ts_raw.specs.CodedPoints.{coded_points}
 use Rattle.ts_raw.specs.Rewriting.{IsRewritten, handles_replaced, cut_after}
+use Rattle.std.proofs.lemmas.List.{length_push}
+use Rattle.ts_raw.proofs.RewriteLemmas.{counts_are}
 use Rattle.ts_raw.proofs.PointMaps.{from_sorted-put}
 use Rattle.ts_raw.proofs.CutLemmas.{is_rising_behind}
 use Rattle.ts_raw.proofs.PushLemmas.{coded_less}
-use Rattle.ts_raw.proofs.ColumnBlocks.{cut_within, numbered_front, appended_map, replaced_few, replaced_count, replaced_points, replaced_column}
+use Rattle.ts_raw.proofs.ColumnBlocks.{cut_within, appended_map, replaced_few, replaced_count, replaced_points, replaced_column}
 use Rattle.ts_raw.proofs.block_column.BlockColumnColumn.commit.Given.{Over}
-use Rattle.ts_raw.proofs.block_column.BlockColumnColumn.commit.Goals.{After-unwrap-point, After-into_inner-new, After-replace-self-inside}
+use Rattle.ts_raw.proofs.block_column.BlockColumnColumn.commit.Goals.{After-unwrap-point, After-into_inner-new}
 use Rattle.ts_raw.proofs.block_column.BlockColumnColumn.commit.Goals as goal
 
 point_is : (g : Over) (c : After-unwrap-point g) → c.self.inside.staged ≡ Some c.unwrap-point.result
 point_is g c = sym c.take.ensures.value ∙ c.unwrap-point.ensures
 
-staged : (g : Over) (c : After-unwrap-point g) → IsStaged c.self.inside.bytes.items c.self.inside.handles.items c.self.inside.total c.self.inside.cut (vec_capacity c.self.inside.bytes) (vec_capacity c.self.inside.handles) c.unwrap-point.result (option_map (λ b. b.value) c.self.inside.rewritten)
-staged g c = subst (λ s. IsStagedIfAny c.self.inside.bytes.items c.self.inside.handles.items c.self.inside.total c.self.inside.cut (vec_capacity c.self.inside.bytes) (vec_capacity c.self.inside.handles) s (option_map (λ b. b.value) c.self.inside.rewritten)) (point_is g c) c.self.invariant.is_staged
+staged : (g : Over) (c : After-unwrap-point g) → IsStaged c.self.inside.bytes.items c.self.inside.handles.items c.self.inside.total c.self.inside.cut c.self.inside.tail (vec_capacity c.self.inside.bytes) (vec_capacity c.self.inside.handles) c.unwrap-point.result (option_map (λ b. b.value) c.self.inside.rewritten)
+staged g c = subst (λ s. IsStagedIfAny c.self.inside.bytes.items c.self.inside.handles.items c.self.inside.total c.self.inside.cut c.self.inside.tail (vec_capacity c.self.inside.bytes) (vec_capacity c.self.inside.handles) s (option_map (λ b. b.value) c.self.inside.rewritten)) (point_is g c) c.self.invariant.is_staged
 
-rewritten : (g : Over) (c : After-into_inner-new g) (s : IsStaged c.self.inside.bytes.items c.self.inside.handles.items c.self.inside.total c.self.inside.cut (vec_capacity c.self.inside.bytes) (vec_capacity c.self.inside.handles) c.unwrap-point.result (option_map (λ b. b.value) c.self.inside.rewritten)) → IsRewritten c.self.inside.bytes.items c.self.inside.handles.items c.self.inside.cut c.unwrap-point.result c.into_inner-new.result
+rewritten : (g : Over) (c : After-into_inner-new g) (s : IsStaged c.self.inside.bytes.items c.self.inside.handles.items c.self.inside.total c.self.inside.cut c.self.inside.tail (vec_capacity c.self.inside.bytes) (vec_capacity c.self.inside.handles) c.unwrap-point.result (option_map (λ b. b.value) c.self.inside.rewritten)) → IsRewritten c.self.inside.bytes.items c.self.inside.handles.items c.self.inside.cut c.unwrap-point.result c.into_inner-new.result
 rewritten g c s =
-    subst (CanCommit c.self.inside.bytes.items c.self.inside.handles.items c.self.inside.cut (vec_capacity c.self.inside.bytes) c.unwrap-point.result)
-    (ap (option_map (λ b. b.value)) (sym c.take-2.ensures.value ∙ c.in-Some.is) ∙ ap Some (sym c.into_inner-new.ensures)) s.can
+    (subst (CanCommit c.self.inside.bytes.items c.self.inside.handles.items c.self.inside.cut c.self.inside.tail (vec_capacity c.self.inside.bytes) (vec_capacity c.self.inside.handles) c.unwrap-point.result)
+    (ap (option_map (λ b. b.value)) (sym c.take-2.ensures.value ∙ c.in-Some.is) ∙ ap Some (sym c.into_inner-new.ensures)) s.can).0
 
-pub replace-self-inside-requires-clause-front : goal.replace-self-inside-requires-clause-front
-replace-self-inside-requires-clause-front g c = numbered_front c.self.inside.bytes.items c.self.inside.handles.items c.into_inner-new.result.at c.self.invariant.counted.coded.marked
+pub replace-self-inside-requires-clause-total : goal.replace-self-inside-requires-clause-total
+replace-self-inside-requires-clause-total g c = c.self.invariant.counted.total_is ∙ sym (counts_are c.self.inside.bytes.items c.self.inside.handles.items c.self.invariant.counted.coded.marked)
 
 pub replace-self-inside-requires-clause-few : goal.replace-self-inside-requires-clause-few
 replace-self-inside-requires-clause-few g c =
@@ -38,16 +40,16 @@ replace-self-inside-requires-clause-few g c =
 
 pub invariant_of-self : goal.invariant_of-self
 invariant_of-self g c = record {
-  counted = c.push_later-self-inside.ensures.counted;
+  counted = record {
+    coded = c.push_later-self-inside.ensures.coded;
+    total_is = let a = ap length c.push_later-self-inside.ensures.points in let b = length_push (coded_points c.self.inside.bytes.items c.self.inside.handles.items) c.unwrap-point.result in let t = c.self.invariant.counted.total_is in omega arith;
+  };
   others = c.push_later-self-inside.ensures.others;
   cut_fits = c.push_later-self-inside.ensures.cut c.self.inside.cut c.self.invariant.cut_fits;
   is_staged =
-      subst (λ s. IsStagedIfAny c.push_later-self-inside.new.bytes.items c.push_later-self-inside.new.handles.items (c.self.inside.total + 1) c.self.inside.cut (vec_capacity c.push_later-self-inside.new.bytes) (vec_capacity c.push_later-self-inside.new.handles) s (option_map (λ b. b.value) c.take-2.new.self))
+      subst (λ s. IsStagedIfAny c.push_later-self-inside.new.bytes.items c.push_later-self-inside.new.handles.items (c.self.inside.total + 1) c.self.inside.cut c.push_later-self-inside.result (vec_capacity c.push_later-self-inside.new.bytes) (vec_capacity c.push_later-self-inside.new.handles) s (option_map (λ b. b.value) c.take-2.new.self))
       (sym c.take.ensures.after) tt;
 }
-
-marks_are : (g : Over) (c : After-replace-self-inside g) → c.replace-self-inside.new.handles.items ≡ with_starts 0 (handles_replaced c.into_inner-new.result c.self.inside.handles.items)
-marks_are g c = c.replace-self-inside.ensures.handles
 
 pub invariant_of-self-in-Some : goal.invariant_of-self-in-Some
 invariant_of-self-in-Some g c =
@@ -67,7 +69,7 @@ invariant_of-self-in-Some g c =
     subst (λ s. IsColumn bytes c.replace-self-inside.new.handles.items c.replace-self-inside.result c.cut_left-self-inside.result end capacity handles_capacity s (option_map (λ b. b.value) c.take-2.new.self)) (sym c.take.ensures.after)
     (subst (λ k. IsColumn bytes c.replace-self-inside.new.handles.items c.replace-self-inside.result k end capacity handles_capacity None (option_map (λ b. b.value) c.take-2.new.self)) (sym c.cut_left-self-inside.ensures)
     (subst (λ t. IsColumn bytes c.replace-self-inside.new.handles.items t cut end capacity handles_capacity None (option_map (λ b. b.value) c.take-2.new.self)) (sym total)
-    (subst (λ (x : List BlockHandle). IsColumn bytes x (length (coded_points bytes new)) cut end capacity handles_capacity None (option_map (λ b. b.value) c.take-2.new.self)) (sym (marks_are g a.After-replace-self-inside)) column)))
+    (subst (λ (x : List BlockHandle). IsColumn bytes x (length (coded_points bytes new)) cut end capacity handles_capacity None (option_map (λ b. b.value) c.take-2.new.self)) (sym c.replace-self-inside.ensures.handles) column)))
 
 pub returns-in-None-clause-put : goal.returns-in-None-clause-put
 returns-in-None-clause-put g c =
@@ -76,9 +78,9 @@ returns-in-None-clause-put g c =
     let ms : List BlockHandle = c.self.inside.handles.items in
     let p : ℤ × ℤ = c.unwrap-point.result in
     let s = staged g a.After-unwrap-point in
-    let can : CanCommit bytes ms c.self.inside.cut (vec_capacity c.self.inside.bytes) p None = subst (CanCommit bytes ms c.self.inside.cut (vec_capacity c.self.inside.bytes) p) (ap (option_map (λ b. b.value)) (sym c.take-2.ensures.value ∙ c.in-None.is)) s.can in
+    let can : CanCommit bytes ms c.self.inside.cut c.self.inside.tail (vec_capacity c.self.inside.bytes) (vec_capacity c.self.inside.handles) p None = subst (CanCommit bytes ms c.self.inside.cut c.self.inside.tail (vec_capacity c.self.inside.bytes) (vec_capacity c.self.inside.handles) p) (ap (option_map (λ b. b.value)) (sym c.take-2.ensures.value ∙ c.in-None.is)) s.can in
     rw (← c.self.view_is, point_is g a.After-unwrap-point, c.push_later-self-inside.ensures.points)
-    (appended_map (coded_points bytes ms) c.self.inside.cut p c.self.invariant.counted.coded.rising (coded_less bytes p.0 ms 0 c.self.invariant.counted.coded.marked can.0) (cut_within bytes ms c.self.inside.cut c.self.invariant.cut_fits))
+    (appended_map (coded_points bytes ms) c.self.inside.cut p c.self.invariant.counted.coded.rising (coded_less bytes p.0 ms c.self.invariant.counted.coded.marked can.0) (cut_within bytes ms c.self.inside.cut c.self.invariant.cut_fits))
 
 pub returns-in-Some-clause-put : goal.returns-in-Some-clause-put
 returns-in-Some-clause-put g c =
@@ -88,8 +90,6 @@ returns-in-Some-clause-put g c =
     let cut : ℕ = c.self.inside.cut in
     let p : ℤ × ℤ = c.unwrap-point.result in
     let s = staged g a.After-unwrap-point in
-    let valid : IsTime p.0 = search rules in
-    let handles = marks_are g a.After-replace-self-inside in
-    rw (← c.self.view_is, point_is g a.After-unwrap-point, c.cut_left-self-inside.ensures, handles)
-    (ap (map.from_sorted {R = int_cmp}) (replaced_points bytes ms c.self.inside.total cut p c.into_inner-new.result c.self.invariant.counted c.self.invariant.cut_fits (rewritten g a.After-into_inner-new s) valid)
+    rw (← c.self.view_is, point_is g a.After-unwrap-point, c.cut_left-self-inside.ensures, c.replace-self-inside.ensures.handles)
+    (ap (map.from_sorted {R = int_cmp}) (replaced_points bytes ms c.self.inside.total cut p c.into_inner-new.result c.self.invariant.counted c.self.invariant.cut_fits (rewritten g a.After-into_inner-new s))
     ∙ from_sorted-put int_cmp_total (drop cut (coded_points bytes ms)) (is_rising_behind cut (coded_points bytes ms) c.self.invariant.counted.coded.rising) p.0 p.1)

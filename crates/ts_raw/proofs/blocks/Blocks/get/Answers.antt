@@ -15,7 +15,7 @@ found c =
     let m : BlockHandle = c.in_ok-handle.handle.now in
     let within : c.args.index < length ms = ltb-true c.args.index (length ms) (sym c.in_ok-handle.ensures.lookup.0) in
     let there : m ≡ get_or ms c.args.index m = c.in_ok-handle.ensures.lookup.1 in
-    mark_found c.self.inside.bytes.now ms 0 c.args.index m c.self.invariant.coded.marked (slice_get-get_or ms c.args.index m within ∙ ap Some (sym there))
+    mark_found c.self.inside.bytes.now ms c.args.index m c.self.invariant.coded.marked (slice_get-get_or ms c.args.index m within ∙ ap Some (sym there))
 
 pub text_of-requires : goal.text_of-requires
 text_of-requires c = (found (goal.at.text_of-requires c).In_ok-handle).0

@@ -30,13 +30,11 @@ invariant_of-self-2 g c =
     let well : added_fault before.settings r ≡ None = ap (λ (k : StoreData). added_fault k.settings r) c.self.view_is ∙ c.requires.rule in
     let mark : IsTime before.marks.raw = subst (λ (k : StoreData). IsTime k.marks.raw) (sym c.self.view_is) c.requires.mark in
     let low : c.args.low ≡ first_from r before.marks.raw = c.requires.low ∙ ap (λ (k : StoreData). first_from r k.marks.raw) (sym c.self.view_is) in
-    let settings : c.add_rule.new.self ≡ with_rule r before.settings = c.in_ok-add_rule.ensures.ok ∙ ap (with_rule r) c.in_ok-settings.ensures in
+    let settings : c.in_ok-settings.settings ≡ with_rule r before.settings = c.in_ok-settings.ensures in
     let same : to_z w128 (of_z w128 c.args.low) ≡ c.args.low = search rules in
-    let marks : c.push.new.self ≡ record { raw = before.marks.raw; lows = before.marks.lows ++ c.args.low ∷ [] } =
-    c.in_ok-push.ensures.ok
-    ∙ ap (λ (z : ℤ). record { raw = c.in_ok-marks.marks.raw; lows = c.in_ok-marks.marks.lows ++ z ∷ [] }) same
-    ∙ ap (λ (m : Marks). record { raw = m.raw; lows = m.lows ++ c.args.low ∷ [] }) c.in_ok-marks.ensures in
-    (rule_is_added before.settings before.marks before.accepted before.facts before.run r c.args.low c.in_ok-rollup.rollup c.add_rule.new.self c.push.new.self c.add_rollup.new.self c.self.invariant well mark low (subst (λ (z : ℤ). IsRollupOf before.facts r z c.in_ok-rollup.rollup) same c.in_ok-rollup.ensures) settings marks c.in_ok-add_rollup.ensures.ok).0
+    let marks : c.in_ok-marks.marks ≡ record { raw = before.marks.raw; lows = before.marks.lows ++ c.args.low ∷ [] } =
+    c.in_ok-marks.ensures ∙ ap (λ (z : ℤ). record { raw = before.marks.raw; lows = before.marks.lows ++ z ∷ [] }) same in
+    (rule_is_added before.settings before.marks before.accepted before.facts before.run r c.args.low c.in_ok-rollup.rollup c.in_ok-settings.settings c.in_ok-marks.marks c.add_rollup.new.self c.self.invariant well mark low (subst (λ (z : ℤ). IsRollupOf before.facts r z c.in_ok-rollup.rollup) same c.in_ok-rollup.ensures) settings marks c.in_ok-add_rollup.ensures.ok).0
 
 pub returns-clause-ok : goal.returns-clause-ok
 returns-clause-ok g c =
@@ -45,11 +43,9 @@ returns-clause-ok g c =
     let well : added_fault before.settings r ≡ None = ap (λ (k : StoreData). added_fault k.settings r) c.self.view_is ∙ c.requires.rule in
     let mark : IsTime before.marks.raw = subst (λ (k : StoreData). IsTime k.marks.raw) (sym c.self.view_is) c.requires.mark in
     let low : c.args.low ≡ first_from r before.marks.raw = c.requires.low ∙ ap (λ (k : StoreData). first_from r k.marks.raw) (sym c.self.view_is) in
-    let settings : c.add_rule.new.self ≡ with_rule r before.settings = c.in_ok-add_rule.ensures.ok ∙ ap (with_rule r) c.in_ok-settings.ensures in
+    let settings : c.in_ok-settings.settings ≡ with_rule r before.settings = c.in_ok-settings.ensures in
     let same : to_z w128 (of_z w128 c.args.low) ≡ c.args.low = search rules in
-    let marks : c.push.new.self ≡ record { raw = before.marks.raw; lows = before.marks.lows ++ c.args.low ∷ [] } =
-    c.in_ok-push.ensures.ok
-    ∙ ap (λ (z : ℤ). record { raw = c.in_ok-marks.marks.raw; lows = c.in_ok-marks.marks.lows ++ z ∷ [] }) same
-    ∙ ap (λ (m : Marks). record { raw = m.raw; lows = m.lows ++ c.args.low ∷ [] }) c.in_ok-marks.ensures in
-    subst (λ (k : StoreData). RuleComes k (data_of_parts c.add_rule.new.self c.push.new.self before.accepted c.add_rollup.new.self before.run) r c.args.low) c.self.view_is
-    (rule_is_added before.settings before.marks before.accepted before.facts before.run r c.args.low c.in_ok-rollup.rollup c.add_rule.new.self c.push.new.self c.add_rollup.new.self c.self.invariant well mark low (subst (λ (z : ℤ). IsRollupOf before.facts r z c.in_ok-rollup.rollup) same c.in_ok-rollup.ensures) settings marks c.in_ok-add_rollup.ensures.ok).1
+    let marks : c.in_ok-marks.marks ≡ record { raw = before.marks.raw; lows = before.marks.lows ++ c.args.low ∷ [] } =
+    c.in_ok-marks.ensures ∙ ap (λ (z : ℤ). record { raw = before.marks.raw; lows = before.marks.lows ++ z ∷ [] }) same in
+    subst (λ (k : StoreData). RuleComes k (data_of_parts c.in_ok-settings.settings c.in_ok-marks.marks before.accepted c.add_rollup.new.self before.run) r c.args.low) c.self.view_is
+    (rule_is_added before.settings before.marks before.accepted before.facts before.run r c.args.low c.in_ok-rollup.rollup c.in_ok-settings.settings c.in_ok-marks.marks c.add_rollup.new.self c.self.invariant well mark low (subst (λ (z : ℤ). IsRollupOf before.facts r z c.in_ok-rollup.rollup) same c.in_ok-rollup.ensures) settings marks c.in_ok-add_rollup.ensures.ok).1

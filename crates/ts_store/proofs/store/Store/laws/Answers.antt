@@ -3,7 +3,7 @@ use Rattle.ts_core.specs.store.StoreData.{StoreData, AreLive}
 use Rattle.ts_store.specs.store.CellCounts.{HoldFew}
 use Rattle.ts_store.specs.store.CellIndices.{HaveIndices}
 use Rattle.ts_store.specs.store.SizedStores.{IsSized}
-use Rattle.ts_store.proofs.store.Store.accepted.Goals as goal
+use Rattle.ts_store.proofs.store.Store.laws.Goals as goal
 
 pub returns-clause-sized : goal.returns-clause-sized
 returns-clause-sized g c = subst IsSized c.self.view_is c.self.invariant.sized
