@@ -44,7 +44,7 @@ same_any g gs =
     (λ t. among_any g gs ((all_groups-among g gs).0 (any_among g (all_groups gs) t)))
     (λ t. among_any g (all_groups gs) ((all_groups-among g gs).1 (any_among g gs t)))
 
-shown_some : (n : ℕ) (o : Option (List Aggregate)) → o ≡ cond (is_some o) (Some (rows_or n o)) None
+pub shown_some : (n : ℕ) (o : Option (List Aggregate)) → o ≡ cond (is_some o) (Some (rows_or n o)) None
 shown_some n (Some rows) = refl
 shown_some n None = refl
 

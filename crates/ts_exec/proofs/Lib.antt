@@ -6,6 +6,9 @@ mod Shares
 mod Entries
 -- Executions, Selections: the values that a query selects
 mod PartsTaken
+-- JoinedPieces: adjacent pieces of raw points as one
+mod Joining
+mod JoinedAnswers
 -- Executions, Shares: the number of points of a plan over a view
 mod PointCounts
 mod CountSteps

@@ -1,5 +1,5 @@
 -- Answers whose raw points keep the parts that the query's functions need: they have the functions' values.
-use Rattle.std.proofs.Common.{◌≡◌, ℕ, zero, suc, ℤ, pos, ◌+ℤ◌, ◌*ℤ◌, true, false, cond, not, List, [], ◌∷◌, map, filter, replicate, Option, Some, None, option_map, refl, sym, ◌∙◌, ap, ap₂, subst, true≢false, nat_lt, ◌+◌, ◌^◌}
+use Rattle.std.proofs.Common.{◌≡◌, ℕ, zero, suc, ℤ, pos, ◌+ℤ◌, ◌*ℤ◌, true, false, cond, not, List, [], ◌∷◌, map, filter, replicate, Option, Some, None, option_map, ◌&&◌, refl, sym, ◌∙◌, ap, ap₂, subst, true≢false, nat_lt, ◌+◌, ◌^◌}
 use Rattle.std.proofs.lemmas.Bool.{and_parts}
 use Rattle.std.proofs.lemmas.List.{length-map}
 use Rattle.std.specs.List.{list_all, AllByRecursion}
@@ -31,6 +31,7 @@ use Rattle.ts_exec.specs.declared.aggregate_parts.AggregateParts.TheVariants.{Co
 use Rattle.ts_exec.specs.Answered.{HasRows}
 use Rattle.ts_exec.specs.RowParts.{BucketGrid, bucket_grid, row_index_at, with_part, bounds_of, part_of, part_of_point, with_point_parts}
 use Rattle.ts_exec.specs.GroupTables.{Table, rows_or, rows_for, width, with_cell_part, with_column_parts, with_column_ref, with_column_refs, is_cell_taken, with_rule_cell, with_cell_parts, with_rule_cells, with_source, with_pieces, rows_from, group_with, given}
+use Rattle.ts_exec.specs.JoinedPieces.{has_room, have_room}
 use Rattle.ts_exec.specs.Selections.{suffice, HaveSameValues}
 use Rattle.ts_exec.proofs.Given.{given-rows}
 
@@ -232,6 +233,27 @@ module _ (parts : AggregateParts) where
 
   pub pieces-rows : (seen : ViewState) (q : Query) (ps : List Piece) → AllByRecursion (HasRows (width q)) (with_pieces parts seen q ps [])
   pieces-rows seen q ps = all_kept (width q) _ (subst (AllByRecursion (HasRows (width q))) (same_pieces seen q ps [] [] refl) (kept_all (width q) _ (given-rows seen q ps)))
+
+  -- ---- rows that can count one more point
+
+  kept_count : (k : AggregateParts) (a : Aggregate) → (kept_part k a).count ≡ a.count
+  kept_count CountAlone a = refl
+  kept_count CountAndSum a = refl
+  kept_count Bounds a = refl
+  kept_count Whole a = refl
+
+  rows_room : (rows : List Aggregate) → list_all has_room (kept_rows rows) ≡ list_all has_room rows
+  rows_room [] = refl
+  rows_room (a ∷ rows) = ap₂ (λ x y. x && y) (ap (λ n. nat_lt n (2 ^ 62)) (kept_count parts a)) (rows_room rows)
+
+  table_room : (t : Table) → have_room (kept_table t) ≡ have_room t
+  table_room [] = refl
+  table_room (e ∷ t) = ap₂ (λ x y. x && y) (rows_room e.1) (table_room t)
+
+  -- the rows of the whole answer can, too
+  pub whole-room : (seen : ViewState) (q : Query) (ps : List Piece) → have_room (with_pieces parts seen q ps []) ≡ true → have_room (with_pieces Whole seen q ps []) ≡ true
+  whole-room seen q ps h =
+      sym (table_room (with_pieces Whole seen q ps [])) ∙ ap (λ (t : Table). have_room t) (same_pieces seen q ps [] [] refl) ∙ table_room (with_pieces parts seen q ps []) ∙ h
 
   -- ---- values of rows
 

@@ -10,5 +10,6 @@ pub mod Executions
 pub mod Fillings
 -- used only by models and proofs of the code
 pub mod Slots
+pub mod JoinedPieces
 pub mod Searches
 pub mod FirstOf

@@ -1,25 +1,29 @@
 //! `execute` and `execute_selected`: answer a query by a checked plan.
 ghost use Rattle.std.specs.Prelude.{◌≡◌, ◌↔◌, [], map, IsTrue, IsOk, IfOk};
-ghost use Rattle.std.specs.List.{AllByRecursion};
+ghost use Rattle.std.specs.List.{AllByRecursion, list_all};
 ghost use Rattle.ts_core.specs.queries.Queries.{IsQuery};
+ghost use Rattle.ts_exec.specs.declared.aggregate_parts.AggregateParts.TheVariants.{Whole};
 ghost use Rattle.ts_exec.specs.Answered.{HasRows};
 ghost use Rattle.ts_exec.specs.Executions.{IsCurrent, IsExecutionOf, IsSelectionOf};
 ghost use Rattle.ts_exec.specs.Fillings.{functions_of};
 ghost use Rattle.ts_exec.specs.GroupTables.{with_pieces, width, group_with, given};
+ghost use Rattle.ts_exec.specs.JoinedPieces.{joined, has_room, have_room, AreGroupsOf};
 ghost use Rattle.ts_exec.specs.Selections.{HaveSameValues};
 
 use crate::aggregate_parts::{AggregateParts, parts_for};
 use crate::fault::ExecFault;
 use crate::groups::{GroupRows, Groups};
-use crate::pieces::{Scan, add_pieces};
+use crate::pieces::{Scan, add_joined_pieces, add_pieces};
 use crate::table::Table;
 use std::alloc::{AllocError, Allocator};
 use ts_check::{Checked, Piece};
+use ts_core::{Agg, MAX_COUNT, Partial};
 use ts_ql::Query;
 use ts_store::View;
 
-/// Returns the groups of the pieces of a plan, with their rows. Keeps these parts of raw points.
-fn groups_given<'a, A: Allocator + Copy + 'a, V: View<A> + 'a>(
+/// Returns the groups of the pieces of a plan, with their rows, adding one piece after the other. Keeps these parts of
+/// raw points.
+fn groups_in_turn<'a, A: Allocator + Copy + 'a, V: View<A> + 'a>(
     alloc: A,
     parts: AggregateParts,
     view: &'a V,
@@ -34,6 +38,73 @@ fn groups_given<'a, A: Allocator + Copy + 'a, V: View<A> + 'a>(
     let mut scan = Scan::new(alloc, query)?;
     add_pieces(&mut groups, &mut scan, parts, view, pieces)?;
     groups.into_groups()
+}
+
+/// Returns the groups of the pieces of a plan as `groups_in_turn` does, but joins adjacent pieces of raw points.
+fn groups_joined<'a, A: Allocator + Copy + 'a, V: View<A> + 'a>(
+    alloc: A,
+    parts: AggregateParts,
+    view: &'a V,
+    query: &Query<A>,
+    pieces: &[Piece],
+) -> Result<Vec<GroupRows<'a, A>, A>, AllocError>
+    ensures given { IfOk result (λ v. v.items ≡ with_pieces parts (V.seen view.now) query.now.query (joined pieces.now) []) }
+    ensures rows { IfOk result (λ v. AllByRecursion (HasRows (width query.now.query)) v.items) }
+    ensures query { IsOk result → IsQuery query.now.query }
+{
+    let mut groups = Groups::new(alloc);
+    let mut scan = Scan::new(alloc, query)?;
+    add_joined_pieces(&mut groups, &mut scan, parts, view, pieces)?;
+    groups.into_groups()
+}
+
+/// Returns true if each row can count one more point.
+fn has_room(rows: &[Agg]) -> bool
+    ensures { result ≡ list_all has_room rows.now }
+{
+    rows.iter().all(|row| row.count() < MAX_COUNT)
+}
+
+/// Returns true if each row of all groups can count one more point.
+fn have_room<A: Allocator>(groups: &[GroupRows<'_, A>]) -> bool
+    ensures { result ≡ have_room groups.now }
+{
+    groups.iter().all(|group| has_room(group.rows()))
+}
+
+/// Returns the groups of the pieces of a plan, with their rows. Keeps these parts of raw points. Adjacent pieces of raw
+/// points are searched as one. If a row is full, which no history reaches, the order of points decides which are left
+/// out, so the pieces are then added again, one after the other.
+fn groups_given<'a, A: Allocator + Copy + 'a, V: View<A> + 'a>(
+    alloc: A,
+    parts: AggregateParts,
+    view: &'a V,
+    query: &Query<A>,
+    pieces: &[Piece],
+) -> Result<Vec<GroupRows<'a, A>, A>, AllocError>
+    ensures given { IfOk result (λ v. AreGroupsOf parts (V.seen view.now) query.now.query pieces.now v.items) }
+    ensures rows { IfOk result (λ v. AllByRecursion (HasRows (width query.now.query)) v.items) }
+    ensures query { IsOk result → IsQuery query.now.query }
+{
+    let groups = groups_joined(alloc, parts, view, query, pieces)?;
+    if have_room(&groups) {
+        return Ok(groups);
+    }
+    groups_in_turn(alloc, parts, view, query, pieces)
+}
+
+/// Returns the groups of the pieces of a plan, with all parts of their rows.
+fn groups_whole<'a, A: Allocator + Copy + 'a, V: View<A> + 'a>(
+    alloc: A,
+    view: &'a V,
+    query: &Query<A>,
+    pieces: &[Piece],
+) -> Result<Vec<GroupRows<'a, A>, A>, AllocError>
+    ensures given { IfOk result (λ v. v.items ≡ with_pieces Whole (V.seen view.now) query.now.query pieces.now []) }
+    ensures rows { IfOk result (λ v. AllByRecursion (HasRows (width query.now.query)) v.items) }
+    ensures query { IsOk result → IsQuery query.now.query }
+{
+    groups_given(alloc, AggregateParts::Whole, view, query, pieces)
 }
 
 /// Returns the groups of the pieces of a plan, with the values of the query's functions alone.
@@ -71,13 +142,7 @@ pub fn execute<'a, A: Allocator + Copy + 'a, V: View<A> + 'a>(
     if !is_fresh(view, checked) {
         return Err(ExecFault::Stale(view.settings(), view.marks()));
     }
-    let groups = groups_given(
-        alloc,
-        AggregateParts::Whole,
-        view,
-        checked.query(),
-        checked.pieces(),
-    )?;
+    let groups = groups_whole(alloc, view, checked.query(), checked.pieces())?;
     let query = checked.query().try_clone(alloc)?;
     Ok(Table::new(query, groups))
 }

@@ -34,6 +34,7 @@ mod filled;
 mod filling;
 mod fold;
 mod groups;
+mod joined;
 mod pieces;
 mod rows;
 mod selection;

@@ -10,6 +10,7 @@ ghost use Rattle.ts_core.specs.facts.Tags.{tag_values, value_among};
 ghost use Rattle.ts_ql.specs.Selects.{texts};
 ghost use Rattle.ts_store.specs.read.ViewResults.{view_cells_at};
 ghost use Rattle.ts_exec.specs.FirstOf.{rule_from};
+ghost use Rattle.ts_exec.specs.JoinedPieces.{joined};
 ghost use Rattle.ts_exec.specs.Borrowed.{borrowed};
 ghost use Rattle.ts_exec.specs.GroupTables.{group_values, with_rule_cell, with_cell_parts, with_source, with_pieces, is_cell_taken};
 
@@ -17,6 +18,7 @@ use crate::aggregate_parts::AggregateParts;
 use crate::buckets::{Buckets, width};
 use crate::column::ColumnRange;
 use crate::groups::Groups;
+use crate::joined::JoinedPieces;
 use crate::selection::selected_columns;
 use std::alloc::{AllocError, Allocator};
 use std::marker::Model;
@@ -364,7 +366,7 @@ fn add_piece<'a, A: Allocator + Copy + 'a, V: View<A> + 'a>(
     }
 }
 
-/// Adds the data of all pieces. Keeps these parts of raw points.
+/// Adds the data of all pieces, one after the other. Keeps these parts of raw points.
 pub(crate) fn add_pieces<'a, A: Allocator + Copy + 'a, V: View<A> + 'a>(
     groups: &mut Groups<'a, A>,
     scan: &mut Scan<'a, '_, A>,
@@ -376,6 +378,22 @@ pub(crate) fn add_pieces<'a, A: Allocator + Copy + 'a, V: View<A> + 'a>(
 {
     for piece in pieces {
         add_piece(groups, scan, parts, view, piece)?;
+    }
+    Ok(())
+}
+
+/// Adds the data of all pieces as `add_pieces` does, but joins adjacent pieces of raw points.
+pub(crate) fn add_joined_pieces<'a, A: Allocator + Copy + 'a, V: View<A> + 'a>(
+    groups: &mut Groups<'a, A>,
+    scan: &mut Scan<'a, '_, A>,
+    parts: AggregateParts,
+    view: &'a V,
+    pieces: &[Piece],
+) -> Result<(), AllocError>
+    ensures { OnOk result (groups.new ≡ with_pieces parts (V.seen view.now) scan.old (joined pieces.now) groups.old) }
+{
+    for piece in JoinedPieces::new(pieces) {
+        add_piece(groups, scan, parts, view, &piece)?;
     }
     Ok(())
 }

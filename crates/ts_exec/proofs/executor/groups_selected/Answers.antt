@@ -1,15 +1,13 @@
-use Rattle.std.proofs.Common.{rules, ◌≡◌, ◌∙◌, ap, map, true}
+use Rattle.std.proofs.Common.{rules, ◌≡◌, ◌∙◌, true}
 use Rattle.std.specs.List.{list_all}
 use Rattle.std.proofs.lemmas.List.Folds.{list_all-map}
 use Rattle.std.proofs.lemmas.Result.{IfOk-weaker}
-use Rattle.ts_core.specs.queries.Fills.{filled}
 use Rattle.ts_core.specs.store.Views.{ViewState}
 use Rattle.ts_ql.specs.Selects.{Projection, Select}
 use Rattle.ts_exec.specs.declared.aggregate_parts.AggregateParts.{AggregateParts}
 use Rattle.ts_exec.specs.Fillings.{functions_of}
-use Rattle.ts_exec.specs.GroupTables.{Table, group_with}
 use Rattle.ts_exec.specs.Selections.{suffice}
-use Rattle.ts_exec.proofs.PartsTaken.{selected-values}
+use Rattle.ts_exec.proofs.JoinedAnswers.{groups-values}
 use Rattle.ts_exec.proofs.executor.groups_selected.Goals as goal
 
 pub returns-clause-values : goal.returns-clause-values
@@ -19,5 +17,4 @@ returns-clause-values g c =
     let parts : AggregateParts = c.parts_for-parts.result in
     let each : list_all (λ (x : Projection). suffice parts x.function) s.columns ≡ true = search rules in
     let enough : list_all (suffice parts) (functions_of s.columns) ≡ true = list_all-map (suffice parts) (λ (x : Projection). x.function) s.columns ∙ each in
-    IfOk-weaker c.groups_given.result _ _ (λ v e fill.
-    ap (λ (t : Table). filled fill (functions_of s.columns) (map (group_with s.query) t)) e ∙ selected-values parts (functions_of s.columns) enough seen s.query c.args.pieces.now fill) c.groups_given.ensures.given
+    IfOk-weaker c.groups_given.result _ _ (λ v e. groups-values seen s.query parts (functions_of s.columns) enough c.args.pieces.now v.items e) c.groups_given.ensures.given

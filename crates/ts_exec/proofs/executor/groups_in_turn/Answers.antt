@@ -6,7 +6,7 @@ use Rattle.ts_core.specs.queries.Queries.{Query}
 use Rattle.ts_exec.specs.Answered.{HasRows}
 use Rattle.ts_exec.specs.GroupTables.{with_pieces, width}
 use Rattle.ts_exec.proofs.PartsTaken.{pieces-rows}
-use Rattle.ts_exec.proofs.executor.groups_given.Goals as goal
+use Rattle.ts_exec.proofs.executor.groups_in_turn.Goals as goal
 
 pub returns-clause-rows : goal.returns-clause-rows
 returns-clause-rows g c =
