@@ -9,6 +9,8 @@ mod PartsTaken
 -- JoinedPieces: adjacent pieces of raw points as one
 mod Joining
 mod JoinedAnswers
+-- ReducedConditions: equal conditions once
+mod Reduced
 -- Executions, Shares: the number of points of a plan over a view
 mod PointCounts
 mod CountSteps

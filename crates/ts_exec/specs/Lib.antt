@@ -11,5 +11,6 @@ pub mod Fillings
 -- used only by models and proofs of the code
 pub mod Slots
 pub mod JoinedPieces
+pub mod ReducedConditions
 pub mod Searches
 pub mod FirstOf

@@ -27,6 +27,7 @@ mod aggregate_parts;
 mod bounded;
 mod buckets;
 mod column;
+mod conditions;
 mod counting;
 mod executor;
 mod fault;

@@ -6,6 +6,7 @@ ghost use Rattle.ts_core.specs.queries.Queries.{meets};
 ghost use Rattle.ts_store.specs.read.ViewResults.{column_refs_where};
 ghost use Rattle.ts_exec.specs.GroupTables.{selected_column_refs, IsNarrowing};
 
+use crate::conditions::reduced;
 use std::alloc::{AllocError, Allocator};
 use ts_core::Key;
 use ts_ql::{Condition, Query};
@@ -64,8 +65,15 @@ fn candidates<'a, A: Allocator + Copy + 'a, V: View<A> + 'a>(
     }
 }
 
+/// Returns true if a series meets all conditions of a list of references.
+fn meets_each<A: Allocator + Copy>(key: &Key<A>, conditions: &[&Condition<A>]) -> bool
+    ensures { result ≡ list_all (λ c. meets key.now c.now) conditions.now }
+{
+    conditions.iter().all(|condition| is_met(key, condition))
+}
+
 /// Returns the columns of a query, in creation order: those of its measurement and field whose series meet its
-/// conditions.
+/// conditions. Tests equal conditions once. If the conditions want two values of one tag, looks at no series.
 pub(crate) fn selected_columns<'a, A: Allocator + Copy + 'a, V: View<A> + 'a>(
     alloc: A,
     query: &Query<A>,
@@ -73,8 +81,11 @@ pub(crate) fn selected_columns<'a, A: Allocator + Copy + 'a, V: View<A> + 'a>(
 ) -> Result<Vec<ViewColumn<'a, A>, A>, AllocError>
     ensures { IfOk result (λ v. v.items ≡ selected_column_refs query.now.query.conditions (column_refs_where (is_of query.now.query.measurement query.now.query.field) (V.seen view.now).columns)) }
 {
+    let Some(conditions) = reduced(alloc, query.conditions())? else {
+        return Ok(Vec::new(alloc));
+    };
     let mut found = candidates(alloc, query, view)?;
-    let conditions = query.conditions();
-    found.retain(|column| are_met(column.key, conditions));
+    let tests = conditions.as_slice();
+    found.retain(|column| meets_each(column.key, tests));
     Ok(found)
 }
