@@ -8,9 +8,8 @@ use Rattle.std.proofs.lemmas.List.{take_more}
 use Rattle.ts_core.specs.facts.Facts.{Text}
 use Rattle.ts_core.specs.lists.Numbered.{Gains}
 use Rattle.ts_core.proofs.lists.ListSteps.{map-push}
-use Rattle.std.specs.Hash.FoldHasher.{write}
-use Rattle.std.specs.declared.hash.FoldHasher.{FoldHasher}
-use Rattle.ts_cells.specs.RollupSeriesTable.{hash_of_texts}
+use Rattle.std.specs.declared.hash.DefaultHasher.{DefaultHasher}
+use Rattle.ts_cells.specs.RollupSeriesTable.{with_text, hash_of_texts}
 use Rattle.ts_cells.specs.Grids.{borrowed_texts, RollupSeries, RowOf, row_entries, entries_of, IsGrid}
 
 module _ {P : Type 0} where
@@ -56,9 +55,9 @@ texts_more xs x ts i d l e ih =
     map-push string_bytes xs x ∙ ap (λ zs. zs ++ string_bytes x ∷ []) ih ∙ ap (λ k. borrowed_texts (take i ts) ++ k ∷ []) e ∙ sym (map-push (λ (t : Bor Text). t.now) (take i ts) (get_or ts i d)) ∙ ap borrowed_texts (sym (take_more ts i d l))
 
 -- one more text is hashed
-hashed_push : (h : FoldHasher) (xs : List (Bor Text)) (t : Bor Text) → hash_of_texts h (borrowed_texts (xs ++ t ∷ [])) ≡ write (hash_of_texts h (borrowed_texts xs)) t.now
+hashed_push : (h : DefaultHasher) (xs : List (Bor Text)) (t : Bor Text) → hash_of_texts h (borrowed_texts (xs ++ t ∷ [])) ≡ with_text (hash_of_texts h (borrowed_texts xs)) t.now
 hashed_push h [] t = refl
-hashed_push h (x ∷ xs) t = hashed_push (write h x.now) xs t
+hashed_push h (x ∷ xs) t = hashed_push (with_text h x.now) xs t
 
-pub texts_hashed_more : (h : FoldHasher) (ts : List (Bor Text)) (i : ℕ) (d : Bor Text) → i < length ts → hash_of_texts h (borrowed_texts (take (i + 1) ts)) ≡ write (hash_of_texts h (borrowed_texts (take i ts))) (get_or ts i d).now
+pub texts_hashed_more : (h : DefaultHasher) (ts : List (Bor Text)) (i : ℕ) (d : Bor Text) → i < length ts → hash_of_texts h (borrowed_texts (take (i + 1) ts)) ≡ with_text (hash_of_texts h (borrowed_texts (take i ts))) (get_or ts i d).now
 texts_hashed_more h ts i d l = ap (λ xs. hash_of_texts h (borrowed_texts xs)) (take_more ts i d l) ∙ hashed_push h (take i ts) (get_or ts i d)

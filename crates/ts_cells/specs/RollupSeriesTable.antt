@@ -1,8 +1,10 @@
 -- The rollup series of a rule, indexed in creation order, found by their hashes, and sorted by their texts. (Own
 -- rules.)
 use Rattle.std.specs.Prelude.{◌≡◌, ℕ, ◌<◌, ◌+◌, T, List, [], ◌∷◌, map, length, get_or, Option, Some, None, if◌then◌else◌, nat_lt}
-use Rattle.std.specs.Hash.FoldHasher.{initial, write, finish}
-use Rattle.std.specs.declared.hash.FoldHasher.{FoldHasher}
+use Rattle.std.specs.Hash.DefaultHasher.{write, finish}
+use Rattle.std.specs.RandomState.{initial_hasher}
+use Rattle.std.specs.declared.hash.DefaultHasher.{DefaultHasher}
+use Rattle.std.specs.declared.hash.RandomState.{RandomState}
 use Rattle.std.specs.declared.cmp.Ordering.{Ordering}
 use Rattle.std.specs.declared.cmp.Ordering.TheVariants.{Less}
 use Rattle.std.specs.Ordering.{ordering_then}
@@ -48,17 +50,21 @@ pub record IsRanked (count : ℕ) (order ranks : List ℕ) : Type 0 where
   pub there : (p : ℕ) → p < count → get_or ranks (get_or order p 0) 0 ≡ p
   pub low : (j : ℕ) → j < count → get_or ranks j 0 < count
 
--- ---- hashes of rollup series; their values have no meaning
+-- ---- hashes of rollup series, by a seed; their values have no meaning
 
-abbrev pub hash_of_texts : FoldHasher → List Text → FoldHasher
+-- the state after a text, and after a byte that occurs in no text
+unfoldable pub with_text : DefaultHasher → Text → DefaultHasher
+with_text h text = write (write h text) (255 ∷ [])
+
+abbrev pub hash_of_texts : DefaultHasher → List Text → DefaultHasher
 hash_of_texts h [] = h
-hash_of_texts h (t ∷ ts) = hash_of_texts (write h t) ts
+hash_of_texts h (t ∷ ts) = hash_of_texts (with_text h t) ts
 
-unfoldable pub hash_of_rollup_series : RollupSeries → ℕ
-hash_of_rollup_series l = finish (hash_of_texts (write initial l.field) l.group)
+unfoldable pub hash_of_rollup_series : RandomState → RollupSeries → ℕ
+hash_of_rollup_series seed l = finish (hash_of_texts (with_text (initial_hasher seed) l.field) l.group)
 
 -- rollup series with their hashes and their order
-pub record AreFound (series_list : List RollupSeries) (hashes order ranks : List ℕ) : Type 0 where
-  pub table : IsTable hash_of_rollup_series series_list hashes
+pub record AreFound (seed : RandomState) (series_list : List RollupSeries) (hashes order ranks : List ℕ) : Type 0 where
+  pub table : IsTable (hash_of_rollup_series seed) series_list hashes
   pub ordered : IsOrdered series_list order
   pub ranked : IsRanked (length series_list) order ranks

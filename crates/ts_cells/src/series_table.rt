@@ -10,6 +10,7 @@ ghost use Rattle.ts_cells.specs.RollupSeriesTable.{found_cmp, IsOrdered, IsRanke
 use crate::rollup_series::{RollupSeries, hash_rollup_series};
 use std::alloc::{AllocError, Allocator};
 use std::cmp::Ordering;
+use std::hash::RandomState;
 use std::marker::Model;
 use ts_core::{Chains, next_id, reserve_eighth};
 
@@ -19,6 +20,7 @@ pub(crate) struct RollupSeriesTable<A: Allocator> {
     series_list: Vec<RollupSeries<A>, A>,
     /// Hash chains over the rollup series.
     chains: Chains<A>,
+    seed: RandomState,
     /// Indices of all rollup series, sorted by field and group. Iterators follow it.
     order: Vec<u32, A>,
     /// Position of each rollup series in `order`.
@@ -37,7 +39,7 @@ impl<A: Allocator> Model for RollupSeriesTable<A> {
 
     ghost view = { λ s. s.series_list.items };
 
-    ghost invariant = { λ s. AreFound s.series_list.items s.chains s.order.items s.ranks.items };
+    ghost invariant = { λ s. AreFound s.seed s.series_list.items s.chains s.order.items s.ranks.items };
 }
 
 /// Compares the rollup series with this index with that of a field and a group. A missing rollup series comes first.
@@ -88,13 +90,14 @@ fn shift(ranks: &mut [u32], at: u32, count: usize)
 }
 
 impl<A: Allocator + Copy> RollupSeriesTable<A> {
-    /// Creates an empty table. Does not allocate.
-    pub(crate) fn new(alloc: A) -> RollupSeriesTable<A>
+    /// Creates an empty table, with a seed of the hashes. Does not allocate.
+    pub(crate) fn new(alloc: A, seed: RandomState) -> RollupSeriesTable<A>
         ensures { result ≡ [] }
     {
         RollupSeriesTable {
             series_list: Vec::new(alloc),
             chains: Chains::new(alloc),
+            seed,
             order: Vec::new(alloc),
             ranks: Vec::new(alloc),
         }
@@ -121,7 +124,9 @@ impl<A: Allocator + Copy> RollupSeriesTable<A> {
         ensures found { IfSome result (λ n. IsAt self.now n (rollup_series_named field.now group.now)) }
         ensures absent { IfNone result (Among (rollup_series_named field.now group.now) self.now → ⊥) }
     {
-        let mut next = self.chains.newest(hash_rollup_series(field, group));
+        let mut next = self
+            .chains
+            .newest(hash_rollup_series(&self.seed, field, group));
         while let Some(at) = next {
             let series = &self.series_list[at as usize];
             if series.matches(field, group) {
@@ -154,7 +159,8 @@ impl<A: Allocator + Copy> RollupSeriesTable<A> {
             field,
             group,
         );
-        self.chains.push(hash_rollup_series(field, group))?;
+        self.chains
+            .push(hash_rollup_series(&self.seed, field, group))?;
         self.series_list.push(series).unwrap();
         self.order.insert(at, number).unwrap();
         self.ranks.push(at as u32).unwrap();

@@ -1,6 +1,7 @@
 -- Series by their tags: a walk along the chain of a hash, and one more series.
 use Rattle.std.proofs.Common.{◌≡◌, ℕ, zero, suc, ◌+◌, ◌<◌, nat_lt, nat_eq, true, false, cond, List, [], ◌∷◌, ◌++◌, length, get_or, Option, Some, None, unwrap_or, refl, sym, ◌∙◌, ap, subst, inl, inr, ⊎_elim, arith, eq-eqb, length-append, lt-ltb, eqb-true, ltb-true, ◌⊎◌, Result, Ok, Err, IfOk}
 use Rattle.std.proofs.lemmas.Option.{slice_get-get_or, same_Some}
+use Rattle.std.specs.declared.hash.RandomState.{RandomState}
 use Rattle.ts_core.specs.lists.Members.{Among}
 use Rattle.ts_core.specs.lists.Numbered.{IsAt}
 use Rattle.ts_core.specs.facts.Facts.{Text, Series}
@@ -151,18 +152,18 @@ at_push [] x (suc n) y h = absurd (cc)
 at_push (z ∷ zs) x zero y h = inl h
 at_push (z ∷ zs) x (suc n) y h = ⊎_elim {C = IsAt (z ∷ zs) (suc n) y ⊎ ((suc n ≡ length (z ∷ zs)) × (y ≡ x))} (λ k. inl k) (λ e. inr (ap suc e.0, e.1)) (at_push zs x n y h)
 
-module _ (series : List Series) (chains chains' : TagChains) (tagged : AreTagged series chains) (kept : KeepLeads chains chains') where
-  pub tagged_still : AreTagged series chains'
-  tagged_still n s at t a = kept (hash_of_tag s.measurement t) n (tagged n s at t a)
+module _ (seed : RandomState) (series : List Series) (chains chains' : TagChains) (tagged : AreTagged seed series chains) (kept : KeepLeads chains chains') where
+  pub tagged_still : AreTagged seed series chains'
+  tagged_still n s at t a = kept (hash_of_tag seed s.measurement t) n (tagged n s at t a)
 
-  pub tagged_more : (key : Series) → AllLead chains' key.measurement key.tags (length series) → AreTagged (series ++ key ∷ []) chains'
+  pub tagged_more : (key : Series) → AllLead seed chains' key.measurement key.tags (length series) → AreTagged seed (series ++ key ∷ []) chains'
   tagged_more key lead n s at =
-      ⊎_elim {C = AllLead chains' s.measurement s.tags n} (λ before. tagged_still n s before)
-      (λ e. subst (λ m. AllLead chains' s.measurement s.tags m) (sym e.0) (subst (λ (x : Series). AllLead chains' x.measurement x.tags (length series)) (sym e.1) lead))
+      ⊎_elim {C = AllLead seed chains' s.measurement s.tags n} (λ before. tagged_still n s before)
+      (λ e. subst (λ m. AllLead seed chains' s.measurement s.tags m) (sym e.0) (subst (λ (x : Series). AllLead seed chains' x.measurement x.tags (length series)) (sym e.1) lead))
       (at_push series key n s at)
 
 -- the series of a measurement with a tag are among those that its hash leads to
-pub among_led : (series : List Series) (chains : TagChains) → AreTagged series chains → (measurement : Text) (tag : Text × Text) (hash : ℕ) → hash ≡ hash_of_tag measurement tag → (found : List ℕ)
+pub among_led : (seed : RandomState) (series : List Series) (chains : TagChains) → AreTagged seed series chains → (measurement : Text) (tag : Text × Text) (hash : ℕ) → hash ≡ hash_of_tag seed measurement tag → (found : List ℕ)
     → ((n : ℕ) → LeadsTo chains hash n → Among n found) → AreAmongTagged series measurement tag found
-among_led series chains tagged measurement tag hash is found all n s at of has =
-    all n (subst (λ h. LeadsTo chains h n) (sym is) (subst (λ m. LeadsTo chains (hash_of_tag m tag) n) of (tagged n s at tag has)))
+among_led seed series chains tagged measurement tag hash is found all n s at of has =
+    all n (subst (λ h. LeadsTo chains h n) (sym is) (subst (λ m. LeadsTo chains (hash_of_tag seed m tag) n) of (tagged n s at tag has)))

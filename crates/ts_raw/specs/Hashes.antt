@@ -1,12 +1,18 @@
--- Hashes of names. Their values have no meaning. (Own rule.)
+-- Hashes of names, by a seed. Their values have no meaning. (Own rule.)
 use Rattle.std.specs.Prelude.{ℕ, List, [], ◌∷◌}
-use Rattle.std.specs.Hash.FoldHasher.{initial, write, finish}
-use Rattle.std.specs.declared.hash.FoldHasher.{FoldHasher}
+use Rattle.std.specs.Hash.DefaultHasher.{write, finish}
+use Rattle.std.specs.RandomState.{initial_hasher}
+use Rattle.std.specs.declared.hash.DefaultHasher.{DefaultHasher}
+use Rattle.std.specs.declared.hash.RandomState.{RandomState}
 use Rattle.ts_core.specs.facts.Facts.{Text, Series}
 
-abbrev pub hash_of_tags : FoldHasher → List (Text × Text) → FoldHasher
-hash_of_tags h [] = h
-hash_of_tags h (t ∷ ts) = hash_of_tags (write (write h t.0) t.1) ts
+-- the state after a text, and after a byte that occurs in no text
+unfoldable pub with_text : DefaultHasher → Text → DefaultHasher
+with_text h text = write (write h text) (255 ∷ [])
 
-unfoldable pub hash_of_series : Series → ℕ
-hash_of_series s = finish (hash_of_tags (write initial s.measurement) s.tags)
+abbrev pub hash_of_tags : DefaultHasher → List (Text × Text) → DefaultHasher
+hash_of_tags h [] = h
+hash_of_tags h (t ∷ ts) = hash_of_tags (with_text (with_text h t.0) t.1) ts
+
+unfoldable pub hash_of_series : RandomState → Series → ℕ
+hash_of_series seed s = finish (hash_of_tags (with_text (initial_hasher seed) s.measurement) s.tags)

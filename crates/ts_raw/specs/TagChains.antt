@@ -2,17 +2,19 @@
 -- caller tests the series. (Own rule.)
 use Rattle.std.specs.Prelude.{◌≡◌, ℕ, zero, suc, ◌<◌, ◌%◌, nat_lt, nat_eq, List, length, Option, Some, None, if◌then◌else◌, slice_index_or, ◌⊎◌}
 use Rattle.std.specs.Map.{lookup}
-use Rattle.std.specs.Hash.FoldHasher.{initial, write, finish}
+use Rattle.std.specs.Hash.DefaultHasher.{finish}
+use Rattle.std.specs.RandomState.{initial_hasher}
+use Rattle.std.specs.declared.hash.RandomState.{RandomState}
 use Rattle.ts_core.specs.lists.Members.{Among}
 use Rattle.ts_core.specs.facts.Facts.{Text, Series}
 use Rattle.ts_core.specs.lists.Numbered.{IsAt}
 use Rattle.ts_core.specs.lists.Tables.{IsTable}
-use Rattle.ts_raw.specs.Hashes.{hash_of_series}
+use Rattle.ts_raw.specs.Hashes.{with_text, hash_of_series}
 use Rattle.ts_raw.specs.declared.index.tags.TagLink.{TagLink}
 
 -- the hash of a tag of a measurement
-unfoldable pub hash_of_tag : Text → Text × Text → ℕ
-hash_of_tag measurement t = finish (write (write (write initial measurement) t.0) t.1) % 4_294_967_296
+unfoldable pub hash_of_tag : RandomState → Text → Text × Text → ℕ
+hash_of_tag seed measurement t = finish (with_text (with_text (with_text (initial_hasher seed) measurement) t.0) t.1) % 4_294_967_296
 
 -- hashes with the newest link of each, and all links
 pub record TagChains : Type 0 where
@@ -50,17 +52,23 @@ abbrev pub KeepLeads : TagChains → TagChains → Type 0
 KeepLeads before after = (hash n : ℕ) → LeadsTo before hash n → LeadsTo after hash n
 
 -- the chains of all these tags lead to the series n
-abbrev pub AllLead : TagChains → Text → List (Text × Text) → ℕ → Type 0
-AllLead chains measurement tags n = (t : Text × Text) → Among t tags → LeadsTo chains (hash_of_tag measurement t) n
+abbrev pub AllLead : RandomState → TagChains → Text → List (Text × Text) → ℕ → Type 0
+AllLead seed chains measurement tags n = (t : Text × Text) → Among t tags → LeadsTo chains (hash_of_tag seed measurement t) n
 
 -- each series is found by each of its tags
-abbrev pub AreTagged : List Series → TagChains → Type 0
-AreTagged series chains = (n : ℕ) (s : Series) → IsAt series n s → AllLead chains s.measurement s.tags n
+abbrev pub AreTagged : RandomState → List Series → TagChains → Type 0
+AreTagged seed series chains = (n : ℕ) (s : Series) → IsAt series n s → AllLead seed chains s.measurement s.tags n
 
 -- each series occurs once, with its hash, and is found by each of its tags
-pub record IsSeriesTable (series : List Series) (hashes : List ℕ) (chains : TagChains) : Type 0 where
-  pub table : IsTable hash_of_series series hashes
-  pub tagged : AreTagged series chains
+pub record IsSeriesTable (seed : RandomState) (series : List Series) (hashes : List ℕ) (chains : TagChains) : Type 0 where
+  pub table : IsTable (hash_of_series seed) series hashes
+  pub tagged : AreTagged seed series chains
+
+-- the series have their hashes by a function, and this is the hash of a key by the same one
+pub record IsHashed (series : List Series) (hashes : List ℕ) (key : Series) (hash : ℕ) : Type 0 where
+  pub hash_of : Series → ℕ
+  pub table : IsTable hash_of series hashes
+  pub is : hash ≡ hash_of key
 
 -- the series of a measurement that have a tag are among these
 abbrev pub AreAmongTagged : List Series → Text → Text × Text → List ℕ → Type 0

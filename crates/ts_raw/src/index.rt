@@ -25,6 +25,7 @@ use fields::FieldTable;
 use series::SeriesTable;
 pub use series_id::SeriesId;
 use std::alloc::{AllocError, Allocator};
+use std::hash::RandomState;
 use std::marker::Model;
 use tagged::{insert_in_order, tagged_columns};
 use ts_core::{FieldName, Key, KeyRef};
@@ -59,17 +60,22 @@ impl<A: Allocator> Model for Index<A> {
 }
 
 impl<A: Allocator + Copy> Index<A> {
-    /// Creates an empty index. Does not allocate.
-    pub fn new(alloc: A) -> Index<A>
+    /// Creates an empty index. `seed`: of the hashes of names; no answer depends on it. Does not allocate.
+    pub fn new(alloc: A, seed: RandomState) -> Index<A>
         ensures series { result.series ≡ [] }
         ensures columns { result.columns ≡ [] }
     {
         Index {
-            series: SeriesTable::new(alloc),
-            fields: FieldTable::new(alloc),
+            series: SeriesTable::new(alloc, seed),
+            fields: FieldTable::new(alloc, seed),
             columns: ColumnTable::new(alloc),
             guess: None,
         }
+    }
+
+    /// Returns the seed of the hashes of names.
+    pub fn seed(&self) -> RandomState {
+        self.series.seed()
     }
 
     /// Returns the number of registered series.

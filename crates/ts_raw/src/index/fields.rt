@@ -7,6 +7,7 @@ ghost use Rattle.ts_core.specs.lists.Numbered.{IsAt};
 
 use crate::index::hash::hash_field;
 use std::alloc::{AllocError, Allocator};
+use std::hash::RandomState;
 use std::marker::Model;
 use ts_core::{Chains, FieldName, next_id};
 
@@ -55,6 +56,7 @@ impl<A: Allocator + Copy> FieldKey<A> {
 pub(crate) struct FieldTable<A: Allocator> {
     keys: Vec<FieldKey<A>, A>,
     chains: Chains<A>,
+    seed: RandomState,
 }
 
 impl<A: Allocator> Model for FieldTable<A> {
@@ -66,17 +68,18 @@ impl<A: Allocator> Model for FieldTable<A> {
 
     ghost view = { λ t. t.keys.items };
 
-    ghost invariant = { λ t. IsTable hash_of_field t.keys.items t.chains };
+    ghost invariant = { λ t. IsTable (hash_of_field t.seed) t.keys.items t.chains };
 }
 
 impl<A: Allocator + Copy> FieldTable<A> {
-    /// Creates an empty table.
-    pub(crate) fn new(alloc: A) -> FieldTable<A>
+    /// Creates an empty table, with a seed of the hashes.
+    pub(crate) fn new(alloc: A, seed: RandomState) -> FieldTable<A>
         ensures { result ≡ [] }
     {
         FieldTable {
             keys: Vec::new(alloc),
             chains: Chains::new(alloc),
+            seed,
         }
     }
 
@@ -101,7 +104,9 @@ impl<A: Allocator + Copy> FieldTable<A> {
         ensures found { IfSome result (λ n. IsAt self.now n (field_key measurement.now field.now)) }
         ensures absent { IfNone result (Among (field_key measurement.now field.now) self.now → ⊥) }
     {
-        let mut next = self.chains.newest(hash_field(measurement, field));
+        let mut next = self
+            .chains
+            .newest(hash_field(&self.seed, measurement, field));
         while let Some(at) = next {
             let key = &self.keys[at as usize];
             if key.matches(measurement, field) {
@@ -123,7 +128,8 @@ impl<A: Allocator + Copy> FieldTable<A> {
         let number = next_id(self.keys.len())?;
         let key = FieldKey::new(*self.keys.allocator(), measurement, field)?;
         self.keys.reserve(1)?;
-        self.chains.push(hash_field(measurement, field))?;
+        self.chains
+            .push(hash_field(&self.seed, measurement, field))?;
         self.keys.push(key).unwrap();
         Ok(number)
     }

@@ -3,9 +3,8 @@ ghost use Rattle.std.specs.Prelude.{◌≡◌, ◌≤◌, ◌<◌, ◌↔◌, []
 ghost use Rattle.std.specs.Bool.{OnTrue};
 ghost use Rattle.ts_core.specs.lists.Members.{Among, AllDistinct};
 ghost use Rattle.ts_core.specs.text.Texts.{owned_pairs, borrowed_pairs};
-ghost use Rattle.ts_raw.specs.Hashes.{hash_of_series};
 ghost use Rattle.ts_raw.specs.Registering.{IsRegistered};
-ghost use Rattle.ts_raw.specs.TagChains.{AreAmongTagged};
+ghost use Rattle.ts_raw.specs.TagChains.{AreAmongTagged, IsHashed};
 ghost use Rattle.ts_core.specs.lists.Numbered.{IsAt};
 
 use crate::index::fault::IndexFault;
@@ -14,6 +13,7 @@ use crate::index::series_id::SeriesId;
 use crate::index::tags::TagTable;
 use std::alloc::{AllocError, Allocator};
 use std::cmp::Ordering;
+use std::hash::RandomState;
 use std::marker::Model;
 use ts_core::{Chains, Key, KeyRef, next_id};
 
@@ -25,6 +25,7 @@ pub(crate) struct SeriesTable<A: Allocator> {
     keys: Vec<Key<A>, A>,
     chains: Chains<A>,
     tags: TagTable<A>,
+    seed: RandomState,
     followers: Vec<u32, A>,
     last: u32,
 }
@@ -38,7 +39,7 @@ impl<A: Allocator> Model for SeriesTable<A> {
 
     ghost view = { λ t. t.keys.items };
 
-    ghost invariant = { λ t. IsSeriesTable t.keys.items t.chains t.tags };
+    ghost invariant = { λ t. IsSeriesTable t.seed t.keys.items t.chains t.tags };
 }
 
 /// Returns true if a tag has this key and this value.
@@ -72,18 +73,46 @@ fn is_same<A: Allocator + Copy>(key: &Key<A>, other: &KeyRef<'_>) -> bool
     key.measurement() == other.measurement() && are_same(key.tags(), other.tags())
 }
 
+/// Looks up the series of a key by its hash.
+fn lookup_by_hash<A: Allocator + Copy>(
+    keys: &[Key<A>],
+    chains: &Chains<A>,
+    hash: u64,
+    key: &KeyRef<'_>,
+) -> Option<SeriesId>
+    requires { IsHashed keys.now chains.now key.now hash }
+    ensures found { IfSome result (λ id. IsAt keys.now id key.now) }
+    ensures absent { IfNone result (Among key.now keys.now → ⊥) }
+{
+    let mut next = chains.newest(hash);
+    while let Some(at) = next {
+        let other = &keys[at as usize];
+        if other.compare(key) == Ordering::Equal {
+            return Some(SeriesId { number: at });
+        }
+        next = chains.older(at);
+    }
+    None
+}
+
 impl<A: Allocator + Copy> SeriesTable<A> {
-    /// Creates an empty table.
-    pub(crate) fn new(alloc: A) -> SeriesTable<A>
+    /// Creates an empty table, with a seed of the hashes.
+    pub(crate) fn new(alloc: A, seed: RandomState) -> SeriesTable<A>
         ensures { result ≡ [] }
     {
         SeriesTable {
             keys: Vec::new(alloc),
             chains: Chains::new(alloc),
             tags: TagTable::new(alloc),
+            seed,
             followers: Vec::new(alloc),
             last: 0,
         }
+    }
+
+    /// Returns the seed of the hashes.
+    pub(crate) fn seed(&self) -> RandomState {
+        self.seed
     }
 
     /// Returns the number of series.
@@ -114,23 +143,8 @@ impl<A: Allocator + Copy> SeriesTable<A> {
         ensures found { IfSome result (λ id. IsAt self.now id key.now) }
         ensures absent { IfNone result (Among key.now self.now → ⊥) }
     {
-        self.lookup_by_hash(hash_series(key), key)
-    }
-
-    fn lookup_by_hash(&self, hash: u64, key: &KeyRef<'_>) -> Option<SeriesId>
-        requires { hash ≡ hash_of_series key.now }
-        ensures found { IfSome result (λ id. IsAt self.now id key.now) }
-        ensures absent { IfNone result (Among key.now self.now → ⊥) }
-    {
-        let mut next = self.chains.newest(hash);
-        while let Some(at) = next {
-            let other = &self.keys[at as usize];
-            if other.compare(key) == Ordering::Equal {
-                return Some(SeriesId { number: at });
-            }
-            next = self.chains.older(at);
-        }
-        None
+        let hash = hash_series(&self.seed, key);
+        lookup_by_hash(self.keys.as_slice(), &self.chains, hash, key)
     }
 
     /// Tries the series that followed the last one before; returns it if it has this key.
@@ -155,12 +169,14 @@ impl<A: Allocator + Copy> SeriesTable<A> {
     ) -> Result<Vec<u32, A>, AllocError>
         ensures { IfOk result (λ v. AreAmongTagged self.now measurement.now (tag.now, value.now) v.items) }
     {
-        self.tags.series_of(hash_tag(measurement, tag, value))
+        self.tags
+            .series_of(hash_tag(&self.seed, measurement, tag, value))
     }
 
     /// Returns about how many series of a measurement have this value of a tag.
     pub(crate) fn count_with_tag(&self, measurement: &str, tag: &str, value: &str) -> usize {
-        self.tags.count(hash_tag(measurement, tag, value))
+        self.tags
+            .count(hash_tag(&self.seed, measurement, tag, value))
     }
 
     /// Returns the series of a key, registering it if needed. Fails with `TooManySeries` if it is new and `limit`
@@ -191,8 +207,8 @@ impl<A: Allocator + Copy> SeriesTable<A> {
         ensures full { (result ≡ Err IndexFault.TooManySeries) ↔ ((limit ≤ length self.old) × (Among key.now self.old → ⊥)) }
         ensures once { AllDistinct self.new }
     {
-        let hash = hash_series(key);
-        if let Some(series) = self.lookup_by_hash(hash, key) {
+        let hash = hash_series(&self.seed, key);
+        if let Some(series) = lookup_by_hash(self.keys.as_slice(), &self.chains, hash, key) {
             return Ok(series);
         }
         if self.keys.len() >= limit {
@@ -202,7 +218,8 @@ impl<A: Allocator + Copy> SeriesTable<A> {
         let copy = Key::new(*self.keys.allocator(), key)?;
         self.keys.reserve(1)?;
         self.followers.reserve(1)?;
-        self.tags.push_all(key.measurement(), key.tags(), number)?;
+        self.tags
+            .push_all(&self.seed, key.measurement(), key.tags(), number)?;
         self.chains.push(hash)?;
         self.keys.push(copy).unwrap();
         self.followers.push(number.saturating_add(1)).unwrap();

@@ -7,7 +7,7 @@ ghost use Rattle.ts_raw.specs.TagChains.{LeadsTo, KeepLeads, AllLead, next_of};
 use crate::index::hash::hash_tag;
 use std::alloc::{AllocError, Allocator};
 use std::collections::HashMap;
-use std::hash::{BuildHasherDefault, FoldHasher};
+use std::hash::{BuildHasherDefault, FoldHasher, RandomState};
 use std::marker::Model;
 use ts_core::{next_id, reserve_eighth};
 
@@ -98,21 +98,23 @@ impl<A: Allocator + Copy> TagTable<A> {
         Ok(())
     }
 
-    /// Prepends a series to the chains of its tags. When out of memory, it may be in some of them.
+    /// Prepends a series to the chains of its tags, whose hashes are by a seed. When out of memory, it may be in some of
+    /// them.
     pub(crate) fn push_all(
         &mut self,
+        seed: &RandomState,
         measurement: &str,
         tags: &[(&str, &str)],
         series: u32,
     ) -> Result<(), AllocError>
         ensures kept { KeepLeads self.old self.new }
-        ensures ok { OnOk result (AllLead self.new measurement.now (borrowed_pairs tags.now) series) }
+        ensures ok { OnOk result (AllLead seed.now self.new measurement.now (borrowed_pairs tags.now) series) }
     {
         match tags.split_first() {
             None => Ok(()),
             Some((tag, tags)) => {
-                self.push(hash_tag(measurement, tag.0, tag.1), series)?;
-                self.push_all(measurement, tags, series)
+                self.push(hash_tag(seed, measurement, tag.0, tag.1), series)?;
+                self.push_all(seed, measurement, tags, series)
             }
         }
     }

@@ -1,10 +1,11 @@
 use Rattle.std.proofs.Common.{◌≡◌, ap, sym, ◌∙◌, take, get_or, Bor, []}
 use Rattle.std.proofs.lemmas.List.{take_all}
-use Rattle.std.specs.Hash.FoldHasher.{initial, write, finish}
-use Rattle.std.specs.declared.hash.FoldHasher.{FoldHasher}
+use Rattle.std.specs.Hash.DefaultHasher.{finish}
+use Rattle.std.specs.RandomState.{initial_hasher}
+use Rattle.std.specs.declared.hash.DefaultHasher.{DefaultHasher}
 use Rattle.ts_core.specs.facts.Facts.{Text}
 use Rattle.ts_cells.specs.Grids.{borrowed_texts}
-use Rattle.ts_cells.specs.RollupSeriesTable.{hash_of_texts, hash_of_rollup_series}
+use Rattle.ts_cells.specs.RollupSeriesTable.{with_text, hash_of_texts, hash_of_rollup_series}
 use Rattle.ts_cells.proofs.RollupSeriesLemmas.{texts_hashed_more}
 use Rattle.ts_cells.proofs.rollup_series.hash_rollup_series.Goals as goal
 
@@ -13,13 +14,12 @@ no_text = record { ref_ptr = (0, 0); now = [] }
 
 pub loop-text-preserved : goal.loop-text-preserved
 loop-text-preserved c =
-    c.write-in-loop-text.ensures
-    ∙ ap (λ bs. write c.loop-text.hasher bs) c.as_bytes-in-loop-text.ensures.value
-    ∙ ap (λ (s : FoldHasher). write s (get_or c.args.group.now c.loop-text.text-index no_text).now) c.loop-text.invariant
-    ∙ sym (texts_hashed_more (write initial c.args.field.now) c.args.group.now c.loop-text.text-index no_text c.loop-text-test.true)
+    c.write_text-in-loop-text.ensures
+    ∙ ap (λ (s : DefaultHasher). with_text s (get_or c.args.group.now c.loop-text.text-index no_text).now) c.loop-text.invariant
+    ∙ sym (texts_hashed_more (with_text (initial_hasher c.args.seed.now) c.args.field.now) c.args.group.now c.loop-text.text-index no_text c.loop-text-test.true)
 
 pub returns : goal.returns
 unfolding hash_of_rollup_series
 returns c =
     let all : take c.loop-text.text-index c.args.group.now ≡ c.args.group.now = take_all c.loop-text.text-index c.args.group.now c.loop-text-test.false in
-    c.finish.ensures ∙ ap finish c.loop-text.invariant ∙ ap (λ ts. finish (hash_of_texts (write initial c.args.field.now) (borrowed_texts ts))) all
+    c.finish.ensures ∙ ap finish c.loop-text.invariant ∙ ap (λ ts. finish (hash_of_texts (with_text (initial_hasher c.args.seed.now) c.args.field.now) (borrowed_texts ts))) all

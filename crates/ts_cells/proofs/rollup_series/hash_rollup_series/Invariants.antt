@@ -1,8 +1,8 @@
 use Rattle.std.proofs.Common.{◌≡◌, take}
-use Rattle.std.specs.Hash.FoldHasher.{initial, write}
+use Rattle.std.specs.RandomState.{initial_hasher}
 use Rattle.ts_cells.specs.Grids.{borrowed_texts}
-use Rattle.ts_cells.specs.RollupSeriesTable.{hash_of_texts}
+use Rattle.ts_cells.specs.RollupSeriesTable.{with_text, hash_of_texts}
 use Rattle.ts_cells.proofs.rollup_series.hash_rollup_series.Given as goal
 
 abbrev pub invariant-loop-text : goal.invariant-loop-text
-invariant-loop-text l = l.hasher ≡ hash_of_texts (write initial l.field) (borrowed_texts (take l.text-index l.group))
+invariant-loop-text l = l.hasher ≡ hash_of_texts (with_text (initial_hasher l.seed) l.field) (borrowed_texts (take l.text-index l.group))

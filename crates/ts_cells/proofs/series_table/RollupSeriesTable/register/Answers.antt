@@ -79,9 +79,9 @@ invariant_of-self-2 g c =
     let bound : at ≤ length order = rw (c.as_slice-2.ensures.value, c.reserve_eighth-2.ensures.items) at c.index_in_order-at.ensures.bound in
     let slot : IsPartitionPoint (λ n. found_cmp (slice_get ls n) l ≡ Less) (λ n. found_cmp (slice_get ls n) l ≡ Greater) order at =
     rw (c.as_slice.ensures.value, c.as_slice-2.ensures.value, c.reserve_eighth.ensures.items, c.reserve_eighth-2.ensures.items) at c.index_in_order-at.ensures.slot in
-    let hashed : c.push.new.self ≡ hashes ++ hash_of_rollup_series l ∷ [] = c.in_ok-push.ensures.ok ∙ ap (λ n. hashes ++ n ∷ []) c.hash_rollup_series.ensures in
-    let found : AreFound (ls ++ l ∷ []) (hashes ++ hash_of_rollup_series l ∷ []) (insert order at (length ls)) c.shift.new.ranks = record {
-      table = table_more hash_of_rollup_series ls hashes l c.self.invariant.table (unknown g c);
+    let hashed : c.push.new.self ≡ hashes ++ hash_of_rollup_series c.self.inside.seed l ∷ [] = c.in_ok-push.ensures.ok ∙ ap (λ n. hashes ++ n ∷ []) c.hash_rollup_series.ensures in
+    let found : AreFound c.self.inside.seed (ls ++ l ∷ []) (hashes ++ hash_of_rollup_series c.self.inside.seed l ∷ []) (insert order at (length ls)) c.shift.new.ranks = record {
+      table = table_more (hash_of_rollup_series c.self.inside.seed) ls hashes l c.self.invariant.table (unknown g c);
       ordered = order_more ls order l at c.self.invariant.ordered (unknown g c) bound slot;
       ranked = ranked g c;
     } in
@@ -89,10 +89,10 @@ invariant_of-self-2 g c =
     let size : vec_len c.push-3.new.self ≡ length items = search rules in
     let seam : length c.shift.new.ranks ≡ vec_len c.push-3.new.self = c.shift.ensures.len ∙ ap length c.as_mut_slice.ensures.value ∙ sym size in
     let back : take (vec_len c.push-3.new.self) (c.shift.new.ranks ++ drop (length c.shift.new.ranks) items) ≡ c.shift.new.ranks = take_at c.shift.new.ranks (drop (length c.shift.new.ranks) items) (vec_len c.push-3.new.self) seam in
-    subst (AreFound c.push-2.new.self.items c.push.new.self c.insert.new.self.items) (sym back)
-    (subst (λ (xs : List RollupSeries). AreFound xs c.push.new.self c.insert.new.self.items c.shift.new.ranks) (sym (pushed g c))
-    (subst (λ hs. AreFound (ls ++ l ∷ []) hs c.insert.new.self.items c.shift.new.ranks) (sym hashed)
-    (subst (λ os. AreFound (ls ++ l ∷ []) (hashes ++ hash_of_rollup_series l ∷ []) os c.shift.new.ranks) (sym (ordered g c)) found)))
+    subst (AreFound c.self.inside.seed c.push-2.new.self.items c.push.new.self c.insert.new.self.items) (sym back)
+    (subst (λ (xs : List RollupSeries). AreFound c.self.inside.seed xs c.push.new.self c.insert.new.self.items c.shift.new.ranks) (sym (pushed g c))
+    (subst (λ hs. AreFound c.self.inside.seed (ls ++ l ∷ []) hs c.insert.new.self.items c.shift.new.ranks) (sym hashed)
+    (subst (λ os. AreFound c.self.inside.seed (ls ++ l ∷ []) (hashes ++ hash_of_rollup_series c.self.inside.seed l ∷ []) os c.shift.new.ranks) (sym (ordered g c)) found)))
 
 pub returns-clause-number : goal.returns-clause-number
 returns-clause-number g c =

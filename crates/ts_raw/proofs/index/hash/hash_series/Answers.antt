@@ -1,10 +1,11 @@
 use Rattle.std.proofs.Common.{◌≡◌, ap, sym, ◌∙◌, take, get_or, List, Bor, []}
 use Rattle.ts_core.specs.facts.Facts.{Text}
 use Rattle.std.proofs.lemmas.List.{take_all}
-use Rattle.std.specs.Hash.FoldHasher.{initial, write, finish}
-use Rattle.std.specs.declared.hash.FoldHasher.{FoldHasher}
+use Rattle.std.specs.Hash.DefaultHasher.{finish}
+use Rattle.std.specs.RandomState.{initial_hasher}
+use Rattle.std.specs.declared.hash.DefaultHasher.{DefaultHasher}
 use Rattle.ts_core.specs.text.Texts.{borrowed_pairs}
-use Rattle.ts_raw.specs.Hashes.{hash_of_tags, hash_of_series}
+use Rattle.ts_raw.specs.Hashes.{with_text, hash_of_tags, hash_of_series}
 use Rattle.ts_raw.proofs.Hashing.{tags_hashed_more}
 use Rattle.ts_raw.proofs.index.hash.hash_series.Goals as goal
 
@@ -13,12 +14,11 @@ no_tag = (record { ref_ptr = (0, 0); now = [] }, record { ref_ptr = (0, 0); now 
 
 pub loop-tag-preserved : goal.loop-tag-preserved
 loop-tag-preserved c =
-    let h : FoldHasher = write initial c.args.key.now.measurement in
+    let h : DefaultHasher = with_text (initial_hasher c.args.seed.now) c.args.key.now.measurement in
     let tags : List (Bor Text × Bor Text) = c.tags-tag-items.result.now in
-    c.write-in-loop-tag-2.ensures
-    ∙ ap (λ (s : FoldHasher). write s c.as_bytes-in-loop-tag-2.result.now) (c.write-in-loop-tag.ensures ∙ ap (λ bs. write c.loop-tag.hasher bs) c.as_bytes-in-loop-tag.ensures.value)
-    ∙ ap (λ bs. write (write c.loop-tag.hasher (get_or tags c.loop-tag.tag-index no_tag).0.now) bs) c.as_bytes-in-loop-tag-2.ensures.value
-    ∙ ap (λ (s : FoldHasher). write (write s (get_or tags c.loop-tag.tag-index no_tag).0.now) (get_or tags c.loop-tag.tag-index no_tag).1.now) c.loop-tag.invariant
+    c.write_text-in-loop-tag-2.ensures
+    ∙ ap (λ (s : DefaultHasher). with_text s (get_or tags c.loop-tag.tag-index no_tag).1.now) c.write_text-in-loop-tag.ensures
+    ∙ ap (λ (s : DefaultHasher). with_text (with_text s (get_or tags c.loop-tag.tag-index no_tag).0.now) (get_or tags c.loop-tag.tag-index no_tag).1.now) c.loop-tag.invariant
     ∙ sym (tags_hashed_more h tags c.loop-tag.tag-index no_tag c.loop-tag-test.true)
 
 pub returns : goal.returns
@@ -27,4 +27,4 @@ returns c =
     let tags : List (Bor Text × Bor Text) = c.tags-tag-items.result.now in
     let all : take c.loop-tag.tag-index tags ≡ tags = take_all c.loop-tag.tag-index tags c.loop-tag-test.false in
     c.finish.ensures ∙ ap finish c.loop-tag.invariant
-    ∙ ap (λ ts. finish (hash_of_tags (write initial c.args.key.now.measurement) ts)) (ap borrowed_pairs all ∙ c.tags-tag-items.ensures)
+    ∙ ap (λ ts. finish (hash_of_tags (with_text (initial_hasher c.args.seed.now) c.args.key.now.measurement) ts)) (ap borrowed_pairs all ∙ c.tags-tag-items.ensures)

@@ -31,9 +31,9 @@ invariant_of-self-2 g c =
     let before : List FieldKey = c.self.inside.keys.items in
     let hashes : List ℕ = c.self.inside.chains in
     let absent : Among key before → ⊥ = subst (λ (xs : List FieldKey). Among key xs → ⊥) (sym c.self.view_is) c.in_default.ensures.absent in
-    let hashed : c.push.new.self ≡ hashes ++ hash_of_field key ∷ [] = c.in_ok-push.ensures.ok ∙ ap (λ n. hashes ++ n ∷ []) c.hash_field.ensures in
-    subst (λ (xs : List FieldKey). IsTable hash_of_field xs c.push.new.self) (sym (pushed g c))
-    (subst (IsTable hash_of_field (before ++ key ∷ [])) (sym hashed) (table_more hash_of_field before hashes key c.self.invariant absent))
+    let hashed : c.push.new.self ≡ hashes ++ hash_of_field c.self.inside.seed key ∷ [] = c.in_ok-push.ensures.ok ∙ ap (λ n. hashes ++ n ∷ []) c.hash_field.ensures in
+    subst (λ (xs : List FieldKey). IsTable (hash_of_field c.self.inside.seed) xs c.push.new.self) (sym (pushed g c))
+    (subst (IsTable (hash_of_field c.self.inside.seed) (before ++ key ∷ [])) (sym hashed) (table_more (hash_of_field c.self.inside.seed) before hashes key c.self.invariant absent))
 
 pub returns-clause-registered : goal.returns-clause-registered
 returns-clause-registered g c =

@@ -16,17 +16,22 @@ use Rattle.ts_raw.proofs.index.series.SeriesTable.register_by_hash.Given.{Over}
 use Rattle.ts_raw.proofs.index.series.SeriesTable.register_by_hash.Goals as goal
 
 pub returns-in-Some-clause-registered : goal.returns-in-Some-clause-registered
-returns-in-Some-clause-registered g c = record {
-  number = search rules;
-  gains = inl (at_among c.args.self.now c.in-Some.series c.args.key.now c.in-Some.ensures.found, refl);
-  known = search rules;
-  kept = search rules;
-}
+returns-in-Some-clause-registered g c =
+    let found : IsAt c.args.self.now c.in-Some.series c.args.key.now =
+    subst (λ (xs : List Series). IsAt xs c.in-Some.series c.args.key.now) (c.as_slice.ensures.value ∙ c.self.view_is) c.in-Some.ensures.found in
+    record {
+      number = search rules;
+      gains = inl (at_among c.args.self.now c.in-Some.series c.args.key.now found, refl);
+      known = search rules;
+      kept = search rules;
+    }
 
 pub returns-in-Some-clause-full : goal.returns-in-Some-clause-full
 returns-in-Some-clause-full g c =
     let key : Series = c.args.key.now in
-    (λ e. absurd (cc), λ p. absurd (p.1 (at_among c.args.self.now c.in-Some.series key c.in-Some.ensures.found)))
+    let found : IsAt c.args.self.now c.in-Some.series key =
+    subst (λ (xs : List Series). IsAt xs c.in-Some.series key) (c.as_slice.ensures.value ∙ c.self.view_is) c.in-Some.ensures.found in
+    (λ e. absurd (cc), λ p. absurd (p.1 (at_among c.args.self.now c.in-Some.series key found)))
 
 -- the key is after the others
 pushed : (g : Over) (c : goal.After-unwrap-2 g) → c.push-2.new.self.items ≡ c.self.inside.keys.items ++ c.args.key.now ∷ []
@@ -38,25 +43,25 @@ pushed g c =
 pub invariant_of-self-in_err-push : goal.invariant_of-self-in_err-push
 invariant_of-self-in_err-push g c =
     let before : List Series = c.self.inside.keys.items in
-    subst (λ (xs : List Series). IsSeriesTable xs c.push.new.self c.push_all.new.self) (sym c.in_ok-reserve.ensures.items)
-    (subst (λ (hs : List ℕ). IsSeriesTable before hs c.push_all.new.self) (sym c.in_err-push.ensures.err)
-    record { table = c.self.invariant.table; tagged = tagged_still before c.self.inside.tags c.push_all.new.self c.self.invariant.tagged c.in_ok-push_all.ensures.kept })
+    subst (λ (xs : List Series). IsSeriesTable c.self.inside.seed xs c.push.new.self c.push_all.new.self) (sym c.in_ok-reserve.ensures.items)
+    (subst (λ (hs : List ℕ). IsSeriesTable c.self.inside.seed before hs c.push_all.new.self) (sym c.in_err-push.ensures.err)
+    record { table = c.self.invariant.table; tagged = tagged_still c.self.inside.seed before c.self.inside.tags c.push_all.new.self c.self.invariant.tagged c.in_ok-push_all.ensures.kept })
 
 pub invariant_of-self-2 : goal.invariant_of-self-2
 invariant_of-self-2 g c =
     let key : Series = c.args.key.now in
     let before : List Series = c.self.inside.keys.items in
     let hashes : List ℕ = c.self.inside.chains in
-    let absent : Among key before → ⊥ = subst (λ (xs : List Series). Among key xs → ⊥) (sym c.self.view_is) c.in_default.ensures.absent in
-    let hashed : c.push.new.self ≡ hashes ++ hash_of_series key ∷ [] = c.in_ok-push.ensures.ok ∙ ap (λ n. hashes ++ n ∷ []) c.hash_series-hash.ensures in
+    let absent : Among key before → ⊥ = subst (λ (xs : List Series). Among key xs → ⊥) c.as_slice.ensures.value c.in_default.ensures.absent in
+    let hashed : c.push.new.self ≡ hashes ++ hash_of_series c.self.inside.seed key ∷ [] = c.in_ok-push.ensures.ok ∙ ap (λ n. hashes ++ n ∷ []) c.hash_series-hash.ensures in
     let number : c.in_ok-number.number ≡ length before = search rules in
-    let lead : AllLead c.push_all.new.self key.measurement key.tags (length before) =
-    subst (λ n. AllLead c.push_all.new.self key.measurement key.tags n) number
-    (subst (λ (ts : List (Text × Text)). AllLead c.push_all.new.self key.measurement ts c.in_ok-number.number) c.tags.ensures
-    (subst (λ (m : Text). AllLead c.push_all.new.self m (borrowed_pairs c.tags.result.now) c.in_ok-number.number) c.measurement.ensures c.in_ok-push_all.ensures.ok)) in
-    subst (λ (xs : List Series). IsSeriesTable xs c.push.new.self c.push_all.new.self) (sym (pushed g c)) (record {
-      table = subst (IsTable hash_of_series (before ++ key ∷ [])) (sym hashed) (table_more hash_of_series before hashes key c.self.invariant.table absent);
-      tagged = tagged_more before c.self.inside.tags c.push_all.new.self c.self.invariant.tagged c.in_ok-push_all.ensures.kept key lead;
+    let lead : AllLead c.self.inside.seed c.push_all.new.self key.measurement key.tags (length before) =
+    subst (λ n. AllLead c.self.inside.seed c.push_all.new.self key.measurement key.tags n) number
+    (subst (λ (ts : List (Text × Text)). AllLead c.self.inside.seed c.push_all.new.self key.measurement ts c.in_ok-number.number) c.tags.ensures
+    (subst (λ (m : Text). AllLead c.self.inside.seed c.push_all.new.self m (borrowed_pairs c.tags.result.now) c.in_ok-number.number) c.measurement.ensures c.in_ok-push_all.ensures.ok)) in
+    subst (λ (xs : List Series). IsSeriesTable c.self.inside.seed xs c.push.new.self c.push_all.new.self) (sym (pushed g c)) (record {
+      table = subst (IsTable (hash_of_series c.self.inside.seed) (before ++ key ∷ [])) (sym hashed) (table_more (hash_of_series c.self.inside.seed) before hashes key c.self.invariant.table absent);
+      tagged = tagged_more c.self.inside.seed before c.self.inside.tags c.push_all.new.self c.self.invariant.tagged c.in_ok-push_all.ensures.kept key lead;
     })
 
 pub returns-in_err-push-clause-registered : goal.returns-in_err-push-clause-registered
@@ -66,7 +71,7 @@ returns-in_err-push-clause-registered g c =
     subst (λ (r : Result ℕ IndexFault). IsRegistered before c.reserve.new.self.items r c.args.key.now) (sym p.1) (record {
       number = tt;
       gains = tt;
-      known = λ there. absurd (c.in_default.ensures.absent there);
+      known = λ there. absurd (subst (λ (xs : List Series). Among c.args.key.now xs → ⊥) (c.as_slice.ensures.value ∙ c.self.view_is) c.in_default.ensures.absent there);
       kept = c.in_ok-reserve.ensures.items ∙ c.self.view_is;
     })
 
@@ -77,7 +82,7 @@ returns-clause-registered g c =
     let number : c.in_ok-number.number ≡ length before = search rules in
     record {
       number = subst (λ (xs : List Series). IsAt xs c.in_ok-number.number key) (sym (pushed g c)) (subst (λ n. IsAt (before ++ key ∷ []) n key) (sym number) (at_end before key));
-      gains = inr (c.in_default.ensures.absent, pushed g c ∙ ap (λ (xs : List Series). xs ++ key ∷ []) c.self.view_is);
+      gains = inr (subst (λ (xs : List Series). Among key xs → ⊥) (c.as_slice.ensures.value ∙ c.self.view_is) c.in_default.ensures.absent, pushed g c ∙ ap (λ (xs : List Series). xs ++ key ∷ []) c.self.view_is);
       known = search rules;
       kept = search rules;
     }

@@ -10,5 +10,5 @@ returns g c =
     if_ok c.series_of.result
     (λ v all.
     subst (λ (series : List Series). AreAmongTagged series c.args.measurement.now tag v.items) c.self.view_is
-    (among_led c.self.inside.keys.items c.self.inside.tags c.self.invariant.tagged c.args.measurement.now tag c.hash_tag.result c.hash_tag.ensures v.items all))
+    (among_led c.self.inside.seed c.self.inside.keys.items c.self.inside.tags c.self.invariant.tagged c.args.measurement.now tag c.hash_tag.result c.hash_tag.ensures v.items all))
     c.series_of.ensures
