@@ -1,7 +1,7 @@
 -- Copying a block with one point more, and parts of a block.
 use Rattle.std.proofs.Common.{◌≡◌, ℕ, suc, ◌+◌, ◌-◌, ◌<◌, ◌≤◌, nat_eq, ℤ, ◌<ℤ◌, ◌≤ℤ◌, int_lt, int_cmp, Less, Equal, Greater, List, [], ◌∷◌, ◌++◌, length, get_or, take, drop, IsOk, Ok, true, false, Bool, cond, append_assoc, length-append, refl, sym, ◌∙◌, ap, subst, arith, FitsSigned, w64, ⊎_elim}
 use Rattle.std.proofs.Math.Seq.{take-append_seam, drop-append_seam}
-use Rattle.std.proofs.lemmas.List.{map-append}
+use Rattle.std.proofs.lemmas.List.{map-append, nil_from_length}
 use Rattle.std.proofs.lemmas.Int.{ints}
 use Rattle.std.proofs.lemmas.Bool.{cases_lt}
 use Rattle.std.specs.List.{AllByRecursion}
@@ -157,7 +157,7 @@ module _ (t u : ℤ) (n : ℕ) (place : Place) where
 copied_text : (a s v z w : List ℕ) → ((((a ++ s) ++ v) ++ z) ++ w) ≡ a ++ (s ++ (v ++ (z ++ w)))
 copied_text a s v z w = simp append_assoc
 
-put_after : (t v : ℤ) (xs ys : List (ℤ × ℤ)) → AllByRecursion (λ (q : ℤ × ℤ). q.0 <ℤ t) xs → put int_cmp t v (xs ++ ys) ≡ xs ++ put int_cmp t v ys
+pub put_after : (t v : ℤ) (xs ys : List (ℤ × ℤ)) → AllByRecursion (λ (q : ℤ × ℤ). q.0 <ℤ t) xs → put int_cmp t v (xs ++ ys) ≡ xs ++ put int_cmp t v ys
 put_after t v [] ys h = refl
 put_after t v (x ∷ xs) ys h =
     let l : x.0 <ℤ t = h.0 in
@@ -182,10 +182,6 @@ less_false t u h = grind (arith, ints, h)
 
 both_ways : (t u : ℤ) → t ≤ℤ u → u ≤ℤ t → t ≡ u
 both_ways t u a b = omega (arith, ints)
-
-none_there : (ys : List (ℤ × ℤ)) → length ys ≡ 0 → ys ≡ []
-none_there [] e = refl
-none_there (y ∷ ys) e = absurd (omega arith)
 
 apart : (b : Bool) → b ≡ true → b ≡ false → ⊥
 apart b x y = cc
@@ -214,7 +210,7 @@ module _ (points : List (ℤ × ℤ)) (are : ArePoints points) (t v : ℤ) (limi
       ⊎_elim {C = t ≤ℤ q.0}
       (λ (a : place.index < limit). pl.reached a)
       (λ (a : limit ≤ place.index).
-      let none : l ≡ [] = none_there l (let b = pl.index_is in let c = size in omega arith) in
+      let none : l ≡ [] = nil_from_length l (let b = pl.index_is in let c = size in omega arith) in
       subst (λ z. t ≤ℤ z) (ap last_time pl.cut ∙ last_joined e q l ∙ ap (λ (x : List (ℤ × ℤ)). last_of q.0 (times_of x)) none) r)
       (cases_lt place.index limit)
 

@@ -45,7 +45,7 @@ fn search(slots: &[(u32, u32)], series: u32) -> Result<usize, usize>
 }
 
 /// Searches the same way, but tries the end first: cells mostly arrive in the order of their rollup series.
-fn find(slots: &[(u32, u32)], series: u32) -> Result<usize, usize>
+fn find_from_end(slots: &[(u32, u32)], series: u32) -> Result<usize, usize>
     requires { AreSortedSlots slots.now }
     ensures bound { IsSearchInRange result (length slots.now) }
     ensures slot { MatchResult result (HoldsAt (λ e. nat_cmp e.0 series ≡ Ordering.Equal) slots.now) (IsPartitionPoint (λ e. nat_cmp e.0 series ≡ Ordering.Less) (λ e. nat_cmp e.0 series ≡ Ordering.Greater) slots.now) }
@@ -53,6 +53,19 @@ fn find(slots: &[(u32, u32)], series: u32) -> Result<usize, usize>
     match slots.last() {
         Some(last) if last.0 >= series => search(slots, series),
         _ => Err(slots.len()),
+    }
+}
+
+/// Searches the same way, but first tries the index at which it is if no rollup series before it lacks an entry.
+fn find(slots: &[(u32, u32)], series: u32) -> Result<usize, usize>
+    requires { AreSortedSlots slots.now }
+    ensures bound { IsSearchInRange result (length slots.now) }
+    ensures slot { MatchResult result (HoldsAt (λ e. nat_cmp e.0 series ≡ Ordering.Equal) slots.now) (IsPartitionPoint (λ e. nat_cmp e.0 series ≡ Ordering.Less) (λ e. nat_cmp e.0 series ≡ Ordering.Greater) slots.now) }
+{
+    let at = series as usize;
+    match slots.get(at) {
+        Some(entry) if entry.0 == series => Ok(at),
+        _ => find_from_end(slots, series),
     }
 }
 

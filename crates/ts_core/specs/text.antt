@@ -4,3 +4,4 @@ pub mod FaultTexts
 pub mod Texts
 pub mod Numbers
 pub mod Cursors
+pub mod Steps

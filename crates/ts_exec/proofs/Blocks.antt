@@ -9,6 +9,7 @@ use Rattle.ts_core.specs.aggregates.Aggregates.{Aggregate, empty_aggregate, aggr
 use Rattle.ts_core.specs.aggregates.MergeLaws.{aggregate_laws}
 use Rattle.ts_core.specs.aggregates.SoundLaws.{sound_laws}
 use Rattle.ts_core.proofs.aggregates.RemaindersLemmas.{fold-possible}
+use Rattle.ts_core.proofs.lists.ListSteps.{all_append}
 use Rattle.ts_core.proofs.queries.Boundaries.{within_parts}
 use Rattle.ts_core.proofs.aggregates.AggregatesLemmas.{count_of_fold}
 use Rattle.ts_raw.specs.Summaries.{IsFront}
@@ -62,10 +63,6 @@ merged_count parts part (p ∷ ps) =
     let one = point_count parts p.0 p.1 in
     let rest = merged_count parts (merged part (part_of_point parts p.0 p.1)) ps in
     omega arith
-
-pub all_append : {X : Type 0} (P : X → Type 0) (xs ys : List X) → AllByRecursion P xs → AllByRecursion P ys → AllByRecursion P (xs ++ ys)
-all_append P [] ys h k = k
-all_append P (x ∷ xs) ys h k = (h.0, all_append P xs ys h.1 k)
 
 -- ---- one more block
 

@@ -19,7 +19,7 @@ use Rattle.ts_raw.proofs.TagLemmas.{same_member}
 use Rattle.ts_exec.specs.declared.aggregate_parts.AggregateParts.{AggregateParts}
 use Rattle.ts_exec.specs.declared.aggregate_parts.AggregateParts.TheVariants.{Whole}
 use Rattle.ts_exec.specs.GroupTables.{Table, rows_or, rows_for, width, group_with, with_pieces, given}
-use Rattle.ts_exec.specs.JoinedPieces.{joined_onto, joined, has_room, have_room, AreGroupsOf}
+use Rattle.ts_exec.specs.JoinedPieces.{joined_onto, joined_pieces, has_room, have_room, AreGroupsOf}
 use Rattle.ts_exec.specs.Selections.{suffice, HaveSameValues}
 use Rattle.ts_exec.specs.Shares.{Share, with_shares, pieces_shares}
 use Rattle.ts_exec.proofs.Entries.{shown_some}
@@ -100,7 +100,7 @@ module _ (seen : ViewState) (q : Query) where
       ∙ joined_same false (λ x y. x || y) (λ x. refl) or_comm or_assoc (λ (s : Share). same_group g s.group) seen q p bs
       ∙ sym (any_is g (pieces_shares seen q (p ∷ bs)))
 
-  joined-whole : (ps : List Piece) → have_room (with_pieces Whole seen q (joined ps) []) ≡ true → with_pieces Whole seen q (joined ps) [] ≡ with_pieces Whole seen q ps []
+  joined-whole : (ps : List Piece) → have_room (with_pieces Whole seen q (joined_pieces ps) []) ≡ true → with_pieces Whole seen q (joined_pieces ps) [] ≡ with_pieces Whole seen q ps []
   joined-whole [] h = refl
   joined-whole (p ∷ bs) h =
       let n : ℕ = width q in
@@ -123,6 +123,6 @@ module _ (seen : ViewState) (q : Query) where
       (λ e fill. ap (λ (u : Table). filled fill fs (map (group_with q) u)) e ∙ selected-values parts fs enough seen q ps fill)
       (λ e fill.
       ap (λ (u : Table). filled fill fs (map (group_with q) u)) e.0
-      ∙ selected-values parts fs enough seen q (joined ps) fill
-      ∙ ap (λ (u : Table). filled fill fs (map (group_with q) u)) (joined-whole ps (whole-room parts seen q (joined ps) (subst (λ u. have_room u ≡ true) e.0 e.1))))
+      ∙ selected-values parts fs enough seen q (joined_pieces ps) fill
+      ∙ ap (λ (u : Table). filled fill fs (map (group_with q) u)) (joined-whole ps (whole-room parts seen q (joined_pieces ps) (subst (λ u. have_room u ≡ true) e.0 e.1))))
       h

@@ -1,14 +1,14 @@
 -- Shares of adjacent pieces of raw points: those of the joined piece in another order, so with the same groups, and the
 -- same rows if none is left out.
 use Rattle.std.proofs.Common.{◌≡◌, ℕ, ◌+◌, ◌<◌, ◌≤◌, ◌^◌, nat_lt, ℤ, ◌≤ℤ◌, ◌<ℤ◌, int_le, Bool, true, false, cond, ◌&&◌, List, [], ◌∷◌, ◌++◌, map, filter, get_or, refl, sym, ◌∙◌, ap, ap₂, subst, true≢false, arith}
-use Rattle.std.proofs.lemmas.Int.{ints, by_lt_z}
 use Rattle.std.proofs.lemmas.Bool.{and_parts}
 use Rattle.std.specs.List.{list_all, AllByRecursion}
 use Rattle.std.specs.Ordering.{int_eq, int_cmp}
 use Rattle.std.specs.FinMap.{int_cmp-IsAntisymmetric}
 use Rattle.ts_core.proofs.facts.Ids.{equal_of}
 use Rattle.ts_core.proofs.lists.Comparisons.{le_from}
-use Rattle.ts_core.proofs.plans.Covered.{within_true, within_below, within_above}
+use Rattle.ts_core.proofs.plans.AssembledRows.{within-part}
+use Rattle.ts_core.proofs.lists.ListSteps.{all_append}
 use Rattle.ts_core.proofs.store.Cuts.{Part}
 use Rattle.ts_core.proofs.aggregates.AggregatesLemmas.{merged_within-fits}
 use Rattle.ts_core.specs.facts.Facts.{Text, is_of, is_within}
@@ -26,7 +26,6 @@ use Rattle.ts_store.specs.read.ViewResults.{ColumnRef, column_refs_where, no_poi
 use Rattle.ts_exec.specs.JoinedPieces.{is_raw, are_adjacent, joined_onto}
 use Rattle.ts_exec.specs.RowParts.{BucketGrid, bucket_grid}
 use Rattle.ts_exec.specs.Shares.{Share, is_share, total_at, point_share, column_ref_shares, column_refs_shares, source_shares, pieces_shares}
-use Rattle.ts_exec.proofs.Blocks.{all_append}
 use Rattle.ts_exec.proofs.Shares.{held_at, held-fits}
 
 -- ---- adjacent pieces
@@ -55,20 +54,6 @@ adjacent p b e =
       low = le_from p.from p.to ends.0;
       high = le_from b.from b.to ends.1;
     }
-
--- a time of a range is in one of its halves
-three : {u v w x y z : Bool} → u ≡ x → v ≡ y → w ≡ z → Part x y z → Part u v w
-three {u} {v} {w} {x} {y} {z} e f h p = subst (λ r. Part r v w) (sym e) (subst (λ r. Part x r w) (sym f) (subst (λ r. Part x y r) (sym h) p))
-
-halves : (a b c t : ℤ) → a ≤ℤ b → b ≤ℤ c → Part (is_within a b t) (is_within b c t) (is_within a c t)
-halves a b c t low high =
-    by_lt_z t b
-    (λ (l : t <ℤ b). by_lt_z t a
-    (λ (m : t <ℤ a). three (within_below a b t m) (within_below b c t l) (within_below a c t m) tt)
-    (λ (m : a ≤ℤ t). three (within_true a b t m l) (within_below b c t l) (within_true a c t m (omega (arith, ints))) tt))
-    (λ (l : b ≤ℤ t). by_lt_z t c
-    (λ (m : t <ℤ c). three (within_above a b t l) (within_true b c t l m) (within_true a c t (omega (arith, ints)) m) tt)
-    (λ (m : c ≤ℤ t). three (within_above a b t l) (within_above b c t m) (within_above a c t m) tt))
 
 -- ---- what shares add up to, in any order
 
@@ -100,7 +85,7 @@ module _ {M : Type 0} (empty : M) (merge : M → M → M) (unit : (x : M) → me
     points_halves share [] = sym (unit empty)
     points_halves share (p ∷ ps) =
         into (is_within a c p.0) (points_between a c ps)
-        ∙ point_step (is_within a b p.0) (is_within b c p.0) (is_within a c p.0) (halves a b c p.0 low high) (one (share p)) (sum_of (map share (points_between a b ps))) (sum_of (map share (points_between b c ps))) (sum_of (map share (points_between a c ps))) (points_halves share ps)
+        ∙ point_step (is_within a b p.0) (is_within b c p.0) (is_within a c p.0) (within-part a b c p.0 low high) (one (share p)) (sum_of (map share (points_between a b ps))) (sum_of (map share (points_between b c ps))) (sum_of (map share (points_between a c ps))) (points_halves share ps)
         ∙ sym (ap₂ merge (into (is_within a b p.0) (points_between a b ps)) (into (is_within b c p.0) (points_between b c ps)))
       where
         into : (z : Bool) (xs : List (ℤ × ℤ)) → sum_of (map share (cond z (p ∷ xs) xs)) ≡ cond z (merge (one (share p)) (sum_of (map share xs))) (sum_of (map share xs))

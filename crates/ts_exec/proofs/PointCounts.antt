@@ -5,6 +5,7 @@ use Rattle.std.proofs.lemmas.Int.{ints}
 use Rattle.std.specs.List.{list_all, AllByRecursion}
 use Rattle.std.specs.Ordering.{int_eq}
 use Rattle.std.proofs.lemmas.Bool.{and_parts}
+use Rattle.ts_core.proofs.lists.ListSteps.{all_append}
 use Rattle.ts_core.specs.facts.Facts.{Text, Fact, is_of, is_within}
 use Rattle.ts_core.specs.aggregates.Partials.{fold_by}
 use Rattle.ts_core.specs.aggregates.Aggregates.{Aggregate, empty_aggregate, merged}
@@ -31,7 +32,6 @@ use Rattle.ts_store.specs.read.ViewResults.{ColumnRef, column_refs_where, points
 use Rattle.ts_exec.specs.RowParts.{BucketGrid, bucket_grid, row_index_at}
 use Rattle.ts_exec.specs.GroupTables.{is_cell_taken}
 use Rattle.ts_exec.specs.Shares.{Share, is_share, total_at, points_of_shares, point_share, column_ref_shares, column_refs_shares, cell_share, rule_shares, source_shares, pieces_shares}
-use Rattle.ts_exec.proofs.Blocks.{all_append}
 use Rattle.ts_exec.proofs.Walked.{taken-within}
 use Rattle.ts_exec.proofs.Given.{all_shares_total, few}
 

@@ -23,9 +23,9 @@ abbrev pub joined_onto : Piece → List Piece → List Piece
 joined_onto p [] = p ∷ []
 joined_onto p (b ∷ bs) = if are_adjacent p b then joined_onto (extended p b) bs else (p ∷ joined_onto b bs)
 
-abbrev pub joined : List Piece → List Piece
-joined [] = []
-joined (p ∷ ps) = joined_onto p ps
+abbrev pub joined_pieces : List Piece → List Piece
+joined_pieces [] = []
+joined_pieces (p ∷ ps) = joined_onto p ps
 
 -- ---- no raw point was left out
 
@@ -38,4 +38,4 @@ have_room t = list_all (λ e. list_all has_room e.1) t
 
 -- the groups of the pieces one after another; or those of the joined pieces, if each row has room
 abbrev pub AreGroupsOf : AggregateParts → ViewState → Query → List Piece → Table → Type 0
-AreGroupsOf parts seen q ps t = (t ≡ with_pieces parts seen q ps []) ⊎ ((t ≡ with_pieces parts seen q (joined ps) []) × (have_room t ≡ true))
+AreGroupsOf parts seen q ps t = (t ≡ with_pieces parts seen q ps []) ⊎ ((t ≡ with_pieces parts seen q (joined_pieces ps) []) × (have_room t ≡ true))

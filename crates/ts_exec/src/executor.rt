@@ -7,7 +7,7 @@ ghost use Rattle.ts_exec.specs.Answered.{HasRows};
 ghost use Rattle.ts_exec.specs.Executions.{IsCurrent, IsExecutionOf, IsSelectionOf};
 ghost use Rattle.ts_exec.specs.Fillings.{functions_of};
 ghost use Rattle.ts_exec.specs.GroupTables.{with_pieces, width, group_with, given};
-ghost use Rattle.ts_exec.specs.JoinedPieces.{joined, has_room, have_room, AreGroupsOf};
+ghost use Rattle.ts_exec.specs.JoinedPieces.{joined_pieces, has_room, have_room, AreGroupsOf};
 ghost use Rattle.ts_exec.specs.Selections.{HaveSameValues};
 
 use crate::aggregate_parts::{AggregateParts, parts_for};
@@ -48,7 +48,7 @@ fn groups_joined<'a, A: Allocator + Copy + 'a, V: View<A> + 'a>(
     query: &Query<A>,
     pieces: &[Piece],
 ) -> Result<Vec<GroupRows<'a, A>, A>, AllocError>
-    ensures given { IfOk result (λ v. v.items ≡ with_pieces parts (V.seen view.now) query.now.query (joined pieces.now) []) }
+    ensures given { IfOk result (λ v. v.items ≡ with_pieces parts (V.seen view.now) query.now.query (joined_pieces pieces.now) []) }
     ensures rows { IfOk result (λ v. AllByRecursion (HasRows (width query.now.query)) v.items) }
     ensures query { IsOk result → IsQuery query.now.query }
 {

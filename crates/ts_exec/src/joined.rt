@@ -1,7 +1,7 @@
 //! Joins adjacent pieces of raw points, so that their columns are searched once.
 ghost use Rattle.std.specs.Prelude.{◌≡◌, ◌∷◌};
 ghost use Rattle.std.specs.Iterator.{YieldsFirst, item_count};
-ghost use Rattle.ts_exec.specs.JoinedPieces.{are_adjacent, joined, joined_onto};
+ghost use Rattle.ts_exec.specs.JoinedPieces.{are_adjacent, joined_pieces, joined_onto};
 
 use std::marker::Model;
 use ts_check::{Piece, PieceSource};
@@ -20,7 +20,7 @@ fn are_adjacent(piece: &Piece, next: &Piece) -> bool
 
 /// Extends a piece by the adjacent ones at the start of `pieces`; returns the others.
 fn extend<'p>(piece: &mut Piece, pieces: &'p [Piece]) -> &'p [Piece]
-    ensures { joined_onto piece.old pieces.now ≡ piece.new ∷ joined result.now }
+    ensures { joined_onto piece.old pieces.now ≡ piece.new ∷ joined_pieces result.now }
 {
     let mut left = pieces;
     while let Some((next, others)) = left.split_first() {
@@ -43,17 +43,17 @@ pub(crate) struct JoinedPieces<'p> {
 impl<'p> Model for JoinedPieces<'p> {
     ghost use Rattle.std.specs.Prelude.{List};
     ghost use Rattle.ts_core.specs.plans.Pieces.{Piece as PieceValue};
-    ghost use Rattle.ts_exec.specs.JoinedPieces.{joined};
+    ghost use Rattle.ts_exec.specs.JoinedPieces.{joined_pieces};
 
     ghost Value = { List PieceValue };
 
-    ghost view = { λ j. joined j.left.now };
+    ghost view = { λ j. joined_pieces j.left.now };
 }
 
 impl<'p> JoinedPieces<'p> {
     /// Joins these pieces.
     pub(crate) fn new(pieces: &'p [Piece]) -> JoinedPieces<'p>
-        ensures { result ≡ joined pieces.now }
+        ensures { result ≡ joined_pieces pieces.now }
     {
         JoinedPieces { left: pieces }
     }

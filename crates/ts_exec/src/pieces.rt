@@ -10,7 +10,7 @@ ghost use Rattle.ts_core.specs.facts.Tags.{tag_values, value_among};
 ghost use Rattle.ts_ql.specs.Selects.{texts};
 ghost use Rattle.ts_store.specs.read.ViewResults.{view_cells_at};
 ghost use Rattle.ts_exec.specs.FirstOf.{rule_from};
-ghost use Rattle.ts_exec.specs.JoinedPieces.{joined};
+ghost use Rattle.ts_exec.specs.JoinedPieces.{joined_pieces};
 ghost use Rattle.ts_exec.specs.Borrowed.{borrowed};
 ghost use Rattle.ts_exec.specs.GroupTables.{group_values, with_rule_cell, with_cell_parts, with_source, with_pieces, is_cell_taken};
 
@@ -390,7 +390,7 @@ pub(crate) fn add_joined_pieces<'a, A: Allocator + Copy + 'a, V: View<A> + 'a>(
     view: &'a V,
     pieces: &[Piece],
 ) -> Result<(), AllocError>
-    ensures { OnOk result (groups.new ≡ with_pieces parts (V.seen view.now) scan.old (joined pieces.now) groups.old) }
+    ensures { OnOk result (groups.new ≡ with_pieces parts (V.seen view.now) scan.old (joined_pieces pieces.now) groups.old) }
 {
     for piece in JoinedPieces::new(pieces) {
         add_piece(groups, scan, parts, view, &piece)?;

@@ -1,5 +1,5 @@
 //! Images loaded from a source: read up to their form, then tested for contradictions.
-ghost use Rattle.std.specs.Prelude.{◌≤◌, ◌^◌, IfOk};
+ghost use Rattle.std.specs.Prelude.{◌≤◌, ◌^◌, min, IfOk};
 ghost use Rattle.ts_image.specs.ImageTests.{IsPossible, settings_of_image};
 ghost use Rattle.ts_image.specs.RuleParts.{settings_of_parts};
 ghost use Rattle.ts_image.specs.ImageReading.{image_of};
@@ -18,12 +18,12 @@ use std::io::Read;
 use ts_core::{Settings, Source};
 use ts_store::Store;
 
-/// Limit of the reads of `load`: 2^32.
+/// Limit of the reads of an image: 2^32, so that each offset in it fits in 64 bits.
 const MOST_READS: u64 = 4_294_967_296;
 
 /// An image without contradictions, and its settings.
 #[derive(Drop)]
-pub struct LoadedImage<A: Allocator> {
+pub(crate) struct LoadedImage<A: Allocator> {
     pub version: Version,
     pub settings: Settings<A>,
     pub parts: ImageParts<A>,
@@ -50,7 +50,7 @@ fn possible_settings<A: Allocator + Copy>(
 }
 
 /// Reads an image to the end of the input, with at most `reads` reads, and tests it for contradictions.
-pub fn load_parts<R: Read, A: Allocator + Copy>(
+fn load_parts<R: Read, A: Allocator + Copy>(
     alloc: A,
     source: &mut Source<R>,
     reads: u64,
@@ -69,9 +69,8 @@ pub fn load_parts<R: Read, A: Allocator + Copy>(
     }
 }
 
-/// Loads a store from an image to the end of the input, with at most `reads` reads. `seed`: of the hashes of names; no
-/// answer depends on it.
-pub fn load_within<R: Read, A: Allocator + Copy>(
+/// Loads a store from an image to the end of the input, with at most `reads` reads.
+fn load_at_most<R: Read, A: Allocator + Copy>(
     alloc: A,
     seed: RandomState,
     source: &mut Source<R>,
@@ -86,7 +85,22 @@ pub fn load_within<R: Read, A: Allocator + Copy>(
     Ok(store)
 }
 
-/// Loads a store like `load_within`, with at most 2^32 reads.
+/// Loads a store from an image to the end of the input, with at most `reads` reads, and at most 2^32. `seed`: of the
+/// hashes of names; no answer depends on it.
+pub fn load_within<R: Read, A: Allocator + Copy>(
+    alloc: A,
+    seed: RandomState,
+    source: &mut Source<R>,
+    reads: u64,
+) -> Result<Store<A>, LoadFault>
+    ensures loads { LoadsStore source.old (min reads (2 ^ 32)) result source.new }
+    ensures stands { IfOk result (StandsAsSaved source.old) }
+{
+    load_at_most(alloc, seed, source, reads.min(MOST_READS))
+}
+
+/// Loads a store from an image to the end of the input, with at most 2^32 reads. `seed`: of the hashes of names; no
+/// answer depends on it.
 pub fn load<R: Read, A: Allocator + Copy>(
     alloc: A,
     seed: RandomState,
@@ -95,5 +109,5 @@ pub fn load<R: Read, A: Allocator + Copy>(
     ensures loads { LoadsStore source.old (2 ^ 32) result source.new }
     ensures stands { IfOk result (StandsAsSaved source.old) }
 {
-    load_within(alloc, seed, source, MOST_READS)
+    load_at_most(alloc, seed, source, MOST_READS)
 }

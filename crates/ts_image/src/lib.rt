@@ -68,7 +68,7 @@ mod store_making;
 mod version;
 
 pub use cell_reading::{CellKeyParts, CellParts, ExtremesParts, MarksParts};
-pub use image_loading::{LoadedImage, load, load_parts, load_within};
+pub use image_loading::{load, load_within};
 pub use image_reading::ImageParts;
 pub use load_fault::LoadFault;
 pub use rule_reading::{RuleParts, SettingsParts};

@@ -18,7 +18,7 @@ use Rattle.ts_line.specs.Scan.{is_stop, end_of}
 use Rattle.ts_line.specs.PartTexts.{unescaped, piece_at}
 use Rattle.ts_line.specs.Values.{is_integer, is_unsigned, is_boolean, is_float, behind_quotes, is_value_end, then_is, integer_value, value_begun_at, integer_by}
 use Rattle.ts_line.specs.Fields.{next_field, with_field, fields_at}
-use Rattle.ts_line.specs.ReadSteps.{◌>>=◌}
+use Rattle.ts_core.specs.text.Steps.{◌>>=◌}
 use Rattle.ts_line.specs.Spelling.{is_closed, written_piece, field_spelling, more_fields_text, IsWrittenField, field_from, with_fields}
 use Rattle.ts_core.proofs.text.NumberLemmas.{within_fits}
 use Rattle.ts_line.proofs.PartFacts.{bind_ok, not_err, cut, first_of, slice_len, within, end_within, part_closes}

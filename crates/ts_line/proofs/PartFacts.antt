@@ -6,7 +6,7 @@ use Rattle.ts_core.specs.facts.Facts.{Text}
 use Rattle.ts_line.specs.declared.fault.LineFault.{LineFault}
 use Rattle.ts_line.specs.declared.scan.Stops.{Stops}
 use Rattle.ts_line.specs.Scan.{is_stop, is_escaped, ends, part_len, end_of, spaces, spaces_end}
-use Rattle.ts_line.specs.ReadSteps.{◌>>=◌}
+use Rattle.ts_core.specs.text.Steps.{◌>>=◌}
 use Rattle.ts_line.specs.Spelling.{are_spaces, is_closed}
 
 -- ---- steps that may find a fault

@@ -11,7 +11,7 @@ use Rattle.ts_line.specs.declared.scan.Stops.TheVariants.{Space, Comma}
 use Rattle.ts_line.specs.Parts.{LinePart, Parts}
 use Rattle.ts_line.specs.Scan.{is_stop, end_of, spaces_end}
 use Rattle.ts_line.specs.PartTexts.{piece_at}
-use Rattle.ts_line.specs.ReadSteps.{◌>>=◌}
+use Rattle.ts_core.specs.text.Steps.{◌>>=◌}
 use Rattle.ts_line.specs.TagParts.{tags_at, next_tag}
 use Rattle.ts_line.specs.Fields.{fields_at}
 use Rattle.ts_line.specs.Lines.{content, measurement_at, time_at, parts_at, line_of}

@@ -13,7 +13,7 @@ use Rattle.ts_line.specs.Parts.{LinePart}
 use Rattle.ts_line.specs.Scan.{is_stop, end_of}
 use Rattle.ts_line.specs.PartTexts.{piece_at}
 use Rattle.ts_line.specs.TagParts.{pair_at, has_key, next_tag, tags_at}
-use Rattle.ts_line.specs.ReadSteps.{◌>>=◌}
+use Rattle.ts_core.specs.text.Steps.{◌>>=◌}
 use Rattle.ts_line.specs.Spelling.{IsWrittenPart, written_piece, tags_text, tags_from, tag_key, AreTags}
 use Rattle.ts_line.proofs.TagsSpelled.{piece_key, flat, map_snoc}
 use Rattle.ts_line.proofs.PartFacts.{bind_ok, not_err, cut, first_of, slice_len, within, end_within, part_closes}

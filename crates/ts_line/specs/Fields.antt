@@ -8,7 +8,7 @@ use Rattle.ts_line.specs.declared.scan.Stops.TheVariants.{Equals}
 use Rattle.ts_line.specs.Parts.{LinePart}
 use Rattle.ts_line.specs.Scan.{end_of}
 use Rattle.ts_line.specs.PartTexts.{piece_at}
-use Rattle.ts_line.specs.ReadSteps.{◌>>=◌}
+use Rattle.ts_core.specs.text.Steps.{◌>>=◌}
 use Rattle.ts_line.specs.Values.{value_begun_at}
 
 -- the field at `start`, and the offset after it

@@ -12,7 +12,7 @@ use Rattle.ts_line.specs.Parts.{LinePart, Parts}
 use Rattle.ts_core.specs.text.Numbers.{is_number, is_from_to}
 use Rattle.ts_line.specs.Scan.{is_backslash, end_of, spaces_end}
 use Rattle.ts_line.specs.PartTexts.{piece_at}
-use Rattle.ts_line.specs.ReadSteps.{◌>>=◌}
+use Rattle.ts_core.specs.text.Steps.{◌>>=◌}
 use Rattle.ts_line.specs.TagParts.{tags_at}
 use Rattle.ts_line.specs.Fields.{fields_at}
 

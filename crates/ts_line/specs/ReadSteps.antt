@@ -4,12 +4,6 @@ use Rattle.ts_line.specs.declared.fault.LineFault.{LineFault}
 use Rattle.ts_line.specs.declared.fault.ReadLineError.{ReadLineError}
 use Rattle.ts_line.specs.declared.fault.ReadLineError.TheVariants as errors
 
--- a step that may fail, and the next one
-infixl 10 ◌>>=◌
-abbrev pub ◌>>=◌ : {A B : Type 0} → Result A LineFault → (A → Result B LineFault) → Result B LineFault
-(Ok x) >>= f = f x
-(Err e) >>= f = Err e
-
 -- a failing call returns the step's error, unless it ran out of memory
 abbrev pub FailsIfMemory : {Y : Type 0} → ReadLineError → Result Y LineFault → Type 0
 FailsIfMemory errors.OutOfMemory read = ⊤

@@ -9,7 +9,7 @@ use Rattle.ts_line.specs.declared.scan.Stops.TheVariants.{Equals}
 use Rattle.ts_line.specs.Parts.{LinePart}
 use Rattle.ts_line.specs.Scan.{end_of}
 use Rattle.ts_line.specs.PartTexts.{piece_at}
-use Rattle.ts_line.specs.ReadSteps.{◌>>=◌}
+use Rattle.ts_core.specs.text.Steps.{◌>>=◌}
 
 -- a key and a value, neither empty, with one equals sign between them, and the offset after the tag
 unfoldable pub pair_at : Text → ℕ → Result ((LinePart × LinePart) × ℕ) LineFault

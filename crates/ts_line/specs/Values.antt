@@ -9,7 +9,7 @@ use Rattle.ts_line.specs.FaultText.{fault_at}
 use Rattle.ts_line.specs.declared.scan.Stops.TheVariants.{Plain}
 use Rattle.ts_core.specs.text.Numbers.{are_digits, is_number, without_minus, whole_of}
 use Rattle.ts_line.specs.Scan.{end_of}
-use Rattle.ts_line.specs.ReadSteps.{◌>>=◌}
+use Rattle.ts_core.specs.text.Steps.{◌>>=◌}
 
 -- ---- forms
 

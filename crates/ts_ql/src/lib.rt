@@ -10,7 +10,7 @@
 //! parse(alloc, "SELECT MEDIAN(v) FROM cpu", now)  // Err: OutOfProfile("MEDIAN") at byte 7
 //! ```
 //!
-//! To add a function: touch words.rt and specs/Words.antt. To add a clause: its states in state.rt, its tokens in
+//! To add a function: touch keywords.rt and specs/Keywords.antt. To add a clause: its states in state.rt, its tokens in
 //! shape.rt, its builder in statement.rt, and specs/Grammar.antt, Productions.antt and Meanings.antt. To change an
 //! error's number or message: ts_core's `FaultCode`.
 #![tactic(auto)]

@@ -31,7 +31,9 @@ use Rattle.ts_raw.proofs.PointMaps.{rising-put, timed-put, from_sorted-put}
 use Rattle.ts_raw.proofs.PointRanges.{drop-before}
 use Rattle.ts_raw.proofs.PushLemmas.{none_counted, coded_less, all_within, others_by}
 use Rattle.ts_raw.proofs.BlockLists.{mark_at, mark_stays, take_next}
-use Rattle.ts_raw.proofs.RewriteLemmas.{counts_are, count_front, coded_join, rising_first, put_after, put_within, last_after_drop, length_put}
+use Rattle.ts_block.proofs.SplicingLemmas.{put_after}
+use Rattle.ts_raw.proofs.RewriteLemmas.{counts_are, count_front, coded_join, rising_first, put_within, last_after_drop, length_put}
+use Rattle.ts_raw.proofs.SplicedLemmas.{few_points}
 
 -- ---- the removed points are within the first block
 
@@ -40,13 +42,9 @@ unfolding coded_points
 cut_within bytes [] cut h = omega arith
 cut_within bytes (m ∷ ms) cut h = let a = length-append (block_points_at bytes m) (coded_points bytes ms) in omega arith
 
-few_in : (ps : List (ℤ × ℤ)) → ArePoints ps → (length ps ≤ 256) × (0 < length ps)
-few_in [] h = absurd h
-few_in (p ∷ ps) h = let a = h.0 in (omega arith, omega arith)
-
 pub cut_few : (bytes : List ℕ) (ms : List BlockHandle) (cut : ℕ) → AreBlocks bytes ms → CutFits cut (blocks_at bytes ms) → cut ≤ 255
 cut_few bytes [] cut marked h = omega arith
-cut_few bytes (m ∷ ms) cut marked h = let a = (few_in (block_points_at bytes m) marked.0.block.points_are).0 in omega arith
+cut_few bytes (m ∷ ms) cut marked h = let a = (few_points (block_points_at bytes m) marked.0.block.points_are).0 in omega arith
 
 pub no_points : (bytes : List ℕ) (ms : List BlockHandle) (capacity handles_capacity : ℕ) → bytes ≡ [] → ms ≡ [] → IsColumn bytes ms 0 0 0 capacity handles_capacity None None
 no_points bytes ms c d b m = subst (λ (x : List BlockHandle). IsColumn bytes x 0 0 0 c d None None) (sym m) (record {
@@ -264,7 +262,7 @@ module _ (bytes : List ℕ) (ms : List BlockHandle) (total cut : ℕ) (p : ℤ �
       (here, here)
   whole (suc k) e =
       let fits : cut ≤ length F = front_cut ms r.at (λ z. let n = e in omega arith) w.within f in
-      let some : 0 < length P = (few_in P is_old.block.points_are).1 in
+      let some : 0 < length P = (few_points P is_old.block.points_are).1 in
       let all : F ++ (put int_cmp p.0 p.1 P ++ B) ≡ put int_cmp p.0 p.1 (F ++ (P ++ B)) = sym (put_within p.0 p.1 F P B less some reach) in (
         all,
         drop-append-le cut F (put int_cmp p.0 p.1 P ++ B) fits
@@ -303,7 +301,7 @@ module _ (bytes : List ℕ) (ms : List BlockHandle) (total cut : ℕ) (p : ℤ �
   replaced_points = ap (drop (cut_after r.at cut)) new_is ∙ (whole r.at refl).1 ∙ ap (λ (x : List (ℤ × ℤ)). put int_cmp p.0 p.1 (drop cut x)) (sym old_is)
 
   cut_again : (at : ℕ) → r.at ≡ at → CutFits (cut_after at cut) (blocks_at bytes (handles_replaced r ms))
-  cut_again zero e = subst (λ k. CutFits 0 (blocks_at bytes (take k ms ++ (blocks_of r ++ drop (r.at + 1) ms)))) (sym e) ((few_in (block_points_at bytes r.first) w.blocks.0.block.points_are).1)
+  cut_again zero e = subst (λ k. CutFits 0 (blocks_at bytes (take k ms ++ (blocks_of r ++ drop (r.at + 1) ms)))) (sym e) ((few_points (block_points_at bytes r.first) w.blocks.0.block.points_are).1)
   cut_again (suc k) e = subst (λ j. CutFits cut (blocks_at bytes (take j ms ++ (blocks_of r ++ drop (r.at + 1) ms)))) (sym e) (same_first ms f (subst (λ j. j < length ms) e w.within))
     where
       same_first : (ns : List BlockHandle) → CutFits cut (blocks_at bytes ns) → suc k < length ns → CutFits cut (blocks_at bytes (take (suc k) ns ++ (blocks_of r ++ drop (r.at + 1) ms)))
@@ -423,7 +421,7 @@ module _ (bytes : List ℕ) (ms : List BlockHandle) (cut at : ℕ) (t : ℤ) (c 
           omega arith
       first_or_none (suc k) e =
           let fits : cut ≤ length G = subst (λ j. cut ≤ length (coded_points bytes (take j ms))) (sym e) (front_cut ms k (omega arith) f) in
-          let some = (few_in (block_points_at bytes (get_or ms at d)) (mark_at bytes ms at d c.marked h).block.points_are).1 in
+          let some = (few_points (block_points_at bytes (get_or ms at d)) (mark_at bytes ms at d c.marked h).block.points_are).1 in
           omega arith
 
   -- the index of the first of them in its block

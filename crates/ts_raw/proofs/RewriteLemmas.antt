@@ -8,6 +8,7 @@ use Rattle.std.specs.FinMap.Entries.{below_all, by_order}
 use Rattle.ts_core.proofs.lists.Places.{both_of}
 use Rattle.ts_block.specs.Blocks.{times_of, AreLater, ArePoints, last_of}
 use Rattle.ts_block.specs.Appending.{last_time}
+use Rattle.ts_block.proofs.SplicingLemmas.{put_after}
 use Rattle.ts_raw.specs.declared.block_handle.BlockHandle.{BlockHandle}
 use Rattle.ts_raw.specs.Columns.{AreTimed}
 use Rattle.ts_raw.specs.PlainColumns.{IsRising}
@@ -37,13 +38,6 @@ length_put t v (x ∷ ps) =
     ]
 
 -- ---- a point is put among the points of its block alone
-
-pub put_after : (t v : ℤ) (xs ys : List (ℤ × ℤ)) → AllByRecursion (λ (q : ℤ × ℤ). q.0 <ℤ t) xs → put int_cmp t v (xs ++ ys) ≡ xs ++ put int_cmp t v ys
-put_after t v [] ys h = refl
-put_after t v (x ∷ xs) ys h =
-    let l = h.0 in
-    let e : int_cmp t x.0 ≡ Greater = grind (arith, ints, l) in
-    ap (λ r. by_order r ((t, v) ∷ x ∷ (xs ++ ys)) ((x.0, v) ∷ (xs ++ ys)) (x ∷ put int_cmp t v (xs ++ ys))) e ∙ ap (λ (z : List (ℤ × ℤ)). x ∷ z) (put_after t v xs ys h.1)
 
 put_before : (t v : ℤ) (u : ℤ) (ps : List (ℤ × ℤ)) (ys : List (ℤ × ℤ)) → t ≤ℤ last_of u (times_of ps) → (w : ℤ) → put int_cmp t v ((u, w) ∷ (ps ++ ys)) ≡ put int_cmp t v ((u, w) ∷ ps) ++ ys
 put_before t v u [] ys h w =

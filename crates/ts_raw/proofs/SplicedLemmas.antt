@@ -16,7 +16,8 @@ use Rattle.ts_raw.specs.CodedPoints.{IsBlockHandle, AreBlocks, CutFits, blocks_a
 use Rattle.ts_raw.specs.Rewriting.{IsEncoded, AreHalves, cut_in_block}
 use Rattle.ts_raw.proofs.PushLemmas.{points_less}
 use Rattle.ts_raw.proofs.BlockLists.{mark_stays, mark_at}
-use Rattle.ts_raw.proofs.RewriteLemmas.{put_first, put_after}
+use Rattle.ts_block.proofs.SplicingLemmas.{put_after}
+use Rattle.ts_raw.proofs.RewriteLemmas.{put_first, last_after_drop}
 
 -- ---- aggregates
 
@@ -57,19 +58,9 @@ two_coded bytes m n ps qs a b = ((a.handle, (b.handle, tt)), λ i. a.points_are 
 pub last_of_encoded : (bytes : List ℕ) (m : BlockHandle) (ps : List (ℤ × ℤ)) → IsEncoded bytes m ps → m.last ≡ last_time ps
 last_of_encoded bytes m ps h = h.handle.last_is ∙ ap last_time h.points_are
 
--- the last time of the points behind some
-last_behind : (k : ℕ) (ps : List (ℤ × ℤ)) → k < length ps → last_time (drop k ps) ≡ last_time ps
-last_behind k [] l = absurd (omega arith)
-last_behind k (p ∷ ps) l = go k p ps l
-  where
-    go : (k : ℕ) (p : ℤ × ℤ) (ps : List (ℤ × ℤ)) → k < length (p ∷ ps) → last_time (drop k (p ∷ ps)) ≡ last_time (p ∷ ps)
-    go zero p ps l = refl
-    go (suc k) p [] l = absurd (omega arith)
-    go (suc k) p (q ∷ ps) l = go k q ps (omega arith)
-
 module _ (bytes : List ℕ) (m n : BlockHandle) (points : List (ℤ × ℤ)) (h : AreHalves bytes m n points) (t v : ℤ) where
   pub second_last : n.last ≡ last_time points
-  second_last = last_of_encoded bytes n (drop h.half points) h.second_is ∙ last_behind h.half points h.less
+  second_last = last_of_encoded bytes n (drop h.half points) h.second_is ∙ last_after_drop h.half points h.less
 
   pub first_few : m.count < 256
   first_few =
@@ -105,7 +96,7 @@ module _ (bytes : List ℕ) (m n : BlockHandle) (points : List (ℤ × ℤ)) (h 
         (both.0, both.1 ∙ ap (λ (x : List (ℤ × ℤ)). xs ++ put int_cmp t v x) h.second_is.points_are ∙ sym (put_after t v xs ys (points_less t xs are (subst (λ z. z <ℤ t) (last_of_encoded bytes m xs h.first_is) l))) ∙ ap (put int_cmp t v) (take-append-drop h.half points))
 
 pub rest_last : (bytes new : List ℕ) (m n : BlockHandle) (k : ℕ) → IsBlockHandle bytes m → k < m.count → IsEncoded new n (drop k (block_points_at bytes m)) → m.last ≡ n.last
-rest_last bytes new m n k h l e = h.last_is ∙ sym (last_behind k (block_points_at bytes m) (let a = h.count_is in omega arith)) ∙ sym (last_of_encoded new n (drop k (block_points_at bytes m)) e)
+rest_last bytes new m n k h l e = h.last_is ∙ sym (last_after_drop k (block_points_at bytes m) (let a = h.count_is in omega arith)) ∙ sym (last_of_encoded new n (drop k (block_points_at bytes m)) e)
 
 -- the removed points of a block are not all of it
 pub cut_less : (bytes : List ℕ) (ms : List BlockHandle) (at cut : ℕ) (d : BlockHandle) → AreBlocks bytes ms → CutFits cut (blocks_at bytes ms) → at < length ms → cut_in_block at cut < (get_or ms at d).count

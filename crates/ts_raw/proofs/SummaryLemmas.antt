@@ -37,10 +37,6 @@ all_within_range low high a ps is h =
     let all = aggregate_of_points-is ps in
     extremes_within low high (aggregate_of_points ps).extremes ps (subst (λ (x : Aggregate). AreWithin low high x.extremes) is h) all.extremes
 
-pub none_left : (ps : List (ℤ × ℤ)) → length ps ≡ 0 → ps ≡ []
-none_left [] e = refl
-none_left (p ∷ ps) e = absurd (omega arith)
-
 some_points : (ps : List (ℤ × ℤ)) → ArePoints ps → 0 < length ps
 some_points [] h = absurd h
 some_points (p ∷ ps) h = omega arith

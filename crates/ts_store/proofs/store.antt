@@ -4,8 +4,8 @@ pub mod Stands
 pub mod InventoriesKept
 -- SizedStores
 pub mod SizesKept
--- CellIndices
-pub mod IndicesKept
+-- PossibleCells
+pub mod PossibleCellsKept
 -- ColumnStates
 pub mod ColumnsLemmas
 -- BlocksHeld

@@ -2,7 +2,7 @@
 pub mod InventoriesGrown
 -- SizedStores
 pub mod NamesKept
--- CellIndices
+-- PossibleCells
 pub mod SeriesLimit
 pub mod LivesGrown
 -- ColumnStates, Registered, PointsRead: columns and their points

@@ -7,4 +7,4 @@ pub mod BlocksHeld
 pub mod ColumnStates
 pub mod CellCounts
 pub mod SizedStores
-pub mod CellIndices
+pub mod PossibleCells

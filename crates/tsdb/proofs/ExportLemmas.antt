@@ -2,15 +2,12 @@
 use Rattle.std.proofs.Common.{◌<◌, List, [], ◌∷◌, ◌++◌, length, map}
 use Rattle.std.specs.Prelude.{flat_map}
 use Rattle.std.specs.List.{AllByRecursion}
+use Rattle.ts_core.proofs.lists.ListSteps.{all_append}
 use Rattle.ts_core.specs.facts.Facts.{Series}
 use Rattle.ts_core.specs.store.StoreData.{StoreData}
 use Rattle.ts_store.specs.image.SavedContent.{SavedColumn, SavedSeries}
 use Rattle.ts_image.specs.Saving.{HasItsColumns}
 use Rattle.tsdb.specs.Exports.{ExportColumn, export_column, series_columns}
-
-all_both : {X : Type 0} (P : X → Type 0) (xs ys : List X) → AllByRecursion P xs → AllByRecursion P ys → AllByRecursion P (xs ++ ys)
-all_both P [] ys v w = w
-all_both P (x ∷ xs) ys v w = (v.0, all_both P xs ys v.1 w)
 
 module _ (k : StoreData) where
   abbrev pub IsThere : ExportColumn → Type 0
@@ -22,4 +19,4 @@ module _ (k : StoreData) where
 
   pub all_there : (all : List SavedSeries) → AllByRecursion (HasItsColumns k) all → AllByRecursion IsThere (flat_map series_columns all)
   all_there [] w = tt
-  all_there (s ∷ ss) w = all_both IsThere (series_columns s) (flat_map series_columns ss) (series_there s.series s.columns w.0) (all_there ss w.1)
+  all_there (s ∷ ss) w = all_append IsThere (series_columns s) (flat_map series_columns ss) (series_there s.series s.columns w.0) (all_there ss w.1)

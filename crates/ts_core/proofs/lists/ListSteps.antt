@@ -11,6 +11,10 @@ pub all_push : {X : Type 0} (P : X → Type 0) (xs : List X) (x : X) → AllByRe
 all_push P [] x a p = (p, tt)
 all_push P (z ∷ xs) x a p = (a.0, all_push P xs x a.1 p)
 
+pub all_append : {X : Type 0} (P : X → Type 0) (xs ys : List X) → AllByRecursion P xs → AllByRecursion P ys → AllByRecursion P (xs ++ ys)
+all_append P [] ys a b = b
+all_append P (x ∷ xs) ys a b = (a.0, all_append P xs ys a.1 b)
+
 pub any-map : {X Y : Type 0} (p : Y → Bool) (f : X → Y) (xs : List X) → list_any p (map f xs) ≡ list_any (λ x. p (f x)) xs
 any-map p f [] = refl
 any-map p f (x ∷ xs) = ap (λ b. p (f x) || b) (any-map p f xs)

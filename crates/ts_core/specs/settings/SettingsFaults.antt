@@ -63,9 +63,6 @@ rule_fault_code RepeatedName = coded.RepeatedRuleName
 rule_fault_code BadName = coded.BadRuleName
 rule_fault_code KeptTags = coded.BadKeptTags
 
-abbrev pub rule_fault_text : RuleFault → Text
-rule_fault_text fault = fault_text (rule_fault_code fault) detailed.Alone
-
 abbrev pub settings_fault_text : SettingsFault → Text
 settings_fault_text Form = fault_text coded.BadSettingsText detailed.Alone
 settings_fault_text TooManyRules = fault_text coded.TooManyRules detailed.Alone

@@ -3,7 +3,7 @@ ghost use Rattle.std.specs.Prelude.{◌≡◌, IsNone, map, [], string_bytes};
 ghost use Rattle.std.specs.List.{AllByRecursion, list_all};
 ghost use Rattle.ts_core.specs.text.FaultTexts.{IsAppended};
 ghost use Rattle.ts_core.specs.settings.Settings.{IsPossibleRule};
-ghost use Rattle.ts_core.specs.settings.SettingsFaults.{is_name_byte, is_rule_name, is_named, is_interval, are_distinct, are_kept_tags, outlasts, fault_of_rule, rules_fault, settings_fault, added_fault, rule_fault_code, rule_fault_text, settings_fault_text, settings_error_text, unknown_rule_text};
+ghost use Rattle.ts_core.specs.settings.SettingsFaults.{is_name_byte, is_rule_name, is_named, is_interval, are_distinct, are_kept_tags, outlasts, fault_of_rule, rules_fault, settings_fault, added_fault, rule_fault_code, settings_fault_text, settings_error_text, unknown_rule_text};
 ghost use Rattle.ts_core.specs.declared.settings.settings_fault.SettingsError.TheVariants as errors;
 
 use crate::settings::Rule;
@@ -215,14 +215,6 @@ impl RuleFault {
             RuleFault::BadName => FaultCode::BadRuleName,
             RuleFault::KeptTags => FaultCode::BadKeptTags,
         }
-    }
-
-    /// Appends the message to `text`, without the rule's index. When out of memory, `text` may end in part of the
-    /// message. Does not allocate if `text` has the capacity.
-    pub fn text_to<A: Allocator>(&self, text: &mut String<A>) -> Result<(), AllocError>
-        ensures { IsAppended (rule_fault_text self.now) text.old text.new result }
-    {
-        self.code().text_to(FaultDetail::Alone, text)
     }
 }
 

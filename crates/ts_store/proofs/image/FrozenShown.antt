@@ -18,7 +18,7 @@ use Rattle.ts_core.proofs.lists.Comparisons.{lt_true}
 use Rattle.ts_core.proofs.aggregates.IndicesFit.{indices_fit}
 use Rattle.ts_core.proofs.lists.MembersLemmas.{Among-map}
 use Rattle.ts_cells.specs.Walks.{CellWithPart, entry_of, entries_within}
-use Rattle.ts_store.specs.store.CellIndices.{IsBucketIndex, HasIndices, HaveIndices}
+use Rattle.ts_store.specs.store.PossibleCells.{IsBucketIndex, HasPossibleCells, HavePossibleCells}
 use Rattle.ts_store.specs.store.ColumnStates.{StoreContent}
 use Rattle.ts_store.specs.read.LiveCells.{rollup_at}
 use Rattle.ts_store.specs.rollup.Rollups.{RollupState, new_rollup, AreRollups, cells_of}
@@ -79,7 +79,7 @@ pub facts_frozen : (held : StoreContent) (r : Rule) (n : ℕ) (s : RollupState) 
 facts_frozen held r n s low to ks near wide read entries =
     let is : s ≡ rollup_at held.rollups n = read ∙ get_or_default held.rollups n s new_rollup near.there in
     walk_frozen (rollup_at held.rollups n).grid.cells low to ks
-    (λ k a. let below = index_near r k.index near.second near.offset (near.indices k a) in omega (arith, ints, below, wide))
+    (λ k a. let below = index_near r k.index near.second near.offset (near.possible k a).index in omega (arith, ints, below, wide))
     (entries ∙ ap (λ (t : RollupState). entries_within low to t.grid.cells) is)
 
 -- ---- of a store
@@ -89,15 +89,15 @@ at_all P [] n x at h = absurd (none-some x at)
 at_all P (y ∷ xs) zero x at h = subst P (same_Some y x at) h.0
 at_all P (y ∷ xs) (suc n) x at h = at_all P xs n x at h.1
 
-indices_at : (rs : List Rule) (ss : List RollupState) (n : ℕ) (r : Rule) (s : RollupState) → HaveIndices rs (cells_of ss) → IsAt rs n r → IsAt ss n s → HasIndices r s.grid.cells
-indices_at [] ss n r s all at here = absurd (none-some r at)
-indices_at (x ∷ rs) [] n r s all at here = absurd (none-some s here)
-indices_at (x ∷ rs) (y ∷ ss) zero r s all at here = subst (λ q. HasIndices q s.grid.cells) (same_Some x r at) (subst (λ (t : RollupState). HasIndices x t.grid.cells) (same_Some y s here) all.0)
-indices_at (x ∷ rs) (y ∷ ss) (suc n) r s all at here = indices_at rs ss n r s all.1 at here
+possible_at : (rs : List Rule) (ss : List RollupState) (n : ℕ) (r : Rule) (s : RollupState) → HavePossibleCells rs (cells_of ss) → IsAt rs n r → IsAt ss n s → HasPossibleCells r s.grid.cells
+possible_at [] ss n r s all at here = absurd (none-some r at)
+possible_at (x ∷ rs) [] n r s all at here = absurd (none-some s here)
+possible_at (x ∷ rs) (y ∷ ss) zero r s all at here = subst (λ q. HasPossibleCells q s.grid.cells) (same_Some x r at) (subst (λ (t : RollupState). HasPossibleCells x t.grid.cells) (same_Some y s here) all.0)
+possible_at (x ∷ rs) (y ∷ ss) (suc n) r s all at here = possible_at rs ss n r s all.1 at here
 
-pub store_near : (rs : List Rule) (names : List Column) (held : StoreContent) (n : ℕ) (r : Rule) → AreRollups rs names held.rollups → HaveIndices rs (cells_of held.rollups) → AllByRecursion (λ (q : Rule). pos 1000000000 ≤ℤ q.interval) rs → AllByRecursion IsPossibleRule rs
+pub store_near : (rs : List Rule) (names : List Column) (held : StoreContent) (n : ℕ) (r : Rule) → AreRollups rs names held.rollups → HavePossibleCells rs (cells_of held.rollups) → AllByRecursion (λ (q : Rule). pos 1000000000 ≤ℤ q.interval) rs → AllByRecursion IsPossibleRule rs
     → n < length rs → r ≡ get_or rs n r → HasNearCells held r n
-store_near rs names held n r rollups indices seconds possible there read =
+store_near rs names held n r rollups cells seconds possible there read =
     let below : n < length held.rollups = let l = rollups-length rs names held.rollups rollups in omega (arith, l, there) in
     let at : IsAt rs n r = slice_get-get_or rs n r there ∙ ap Some (sym read) in
     let here : IsAt held.rollups n (rollup_at held.rollups n) = slice_get-get_or held.rollups n new_rollup below in
@@ -105,7 +105,7 @@ store_near rs names held n r rollups indices seconds possible there read =
       there = below;
       second = at_all (λ (q : Rule). pos 1000000000 ≤ℤ q.interval) rs n r at seconds;
       offset = (at_all IsPossibleRule rs n r at possible).offset;
-      indices = indices_at rs held.rollups n r (rollup_at held.rollups n) indices at here;
+      possible = possible_at rs held.rollups n r (rollup_at held.rollups n) cells at here;
     }
 
 pub cells_at_rule : (ss : List RollupState) (n : ℕ) → (rollup_at ss n).grid.cells ≡ get_or (cells_of ss) n finmap.empty

@@ -108,7 +108,7 @@ module _ (settings : Settings) (marks : Marks) (running : Bool) (count : ℕ) (h
     counts = counts-built count (facts_of held.columns) after.columns settings.rules marks.lows (cells_of held.rollups) (cells_of after.rollups) (lows-length marks.raw settings.rules marks.lows can.lows) fills.cells
         (subst (λ (cs : List ColumnPoints). HoldFew count cs settings.rules (cells_of held.rollups)) (sym same_columns) can.counts);
     live = subst (λ (cs : List ColumnPoints). AreLive cs settings.rules (cells_of after.rollups)) (sym same_columns) fills.live;
-    indices = fills.indices can.indices;
+    possible = fills.possible can.possible;
     sized = record {
       settings = well;
       accepted = can.accepted;

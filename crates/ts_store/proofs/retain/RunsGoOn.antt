@@ -26,12 +26,12 @@ use Rattle.ts_store.proofs.retain.WaitingColumns.{same_waiting, within_more, all
 use Rattle.ts_store.specs.rollup.Rollups.{RollupState, AreRollups, cells_of}
 use Rattle.ts_store.specs.read.ViewResults.{no_points}
 use Rattle.ts_store.specs.store.SizedStores.{IsSized}
-use Rattle.ts_store.specs.store.CellIndices.{HaveIndices}
+use Rattle.ts_store.specs.store.PossibleCells.{HavePossibleCells}
 use Rattle.ts_store.specs.retain.RollupSteps.{content_with_cells, FreezeFit, content_moved}
 use Rattle.ts_store.proofs.retain.CountsMoved.{counts-fit, counts-moved}
 use Rattle.ts_store.proofs.retain.RollupMoves.{cells_with, rollups_with, moved-length}
 use Rattle.ts_store.proofs.rollup.RollupsGrow.{rollups-length}
-use Rattle.ts_store.proofs.store.IndicesKept.{indices_moved, indices_gone}
+use Rattle.ts_store.proofs.store.PossibleCellsKept.{possible_moved, possible_gone}
 use Rattle.ts_store.proofs.store.SizesKept.{sized_begun, sized_moved, sized_gone, sized_ended}
 use Rattle.ts_store.specs.retain.WholeRuns.{AreAbove, FirstLoses, MovesFirst, RemovesCells}
 use Rattle.ts_store.proofs.retain.BatchesLeft.{batches_left-loses, batches_left-moved, of-loses, expired-loses, counts-removed, batches_left-above}
@@ -121,8 +121,8 @@ module _ (settings : Settings) (marks : Marks) (n : ℕ) where
           (counts-moved n marks.raw s held.columns kept.sized.columns (at_among held.columns number s at) settings.rules (cells_of held.rollups) kept.counts);
       live = subst (λ (ms : List CellMap). AreLive after.columns settings.rules ms) (sym cells)
           (lives_left s.column marks.raw held.columns s.points kept.sized.columns (at_among held.columns number s at) settings.rules (cells_of held.rollups) kept.live);
-      indices = subst (λ (ms : List CellMap). HaveIndices settings.rules ms) (sym cells)
-          (indices_moved s.column (points_below marks.raw s.points) (facts_of (map (kept_points s.column marks.raw) held.columns)) settings.rules (cells_of held.rollups) kept.indices);
+      possible = subst (λ (ms : List CellMap). HavePossibleCells settings.rules ms) (sym cells)
+          (possible_moved s.column (points_below marks.raw s.points) (facts_of (map (kept_points s.column marks.raw) held.columns)) settings.rules (cells_of held.rollups) kept.possible);
       sized = subst IsSized is_moved (sized_moved before s.column s.points rest kept.sized);
     }
 
@@ -159,7 +159,7 @@ module _ (settings : Settings) (marks : Marks) (n : ℕ) where
           few = (kept.few.0, subst (λ (cs : List ColumnPoints). run.end ≤ length cs) (sym columns) kept.few.1);
           counts = subst (λ (cs : List ColumnPoints). HoldFew n cs settings.rules (cells_of left.rollups)) (sym columns) (counts-removed n held.columns settings.rules marks.lows (cells_of held.rollups) (cells_of left.rollups) loses kept.counts);
           live = subst (λ (cs : List ColumnPoints). AreLive cs settings.rules (cells_of left.rollups)) (sym columns) (lives_go held.columns settings.rules (cells_of held.rollups) (cells_of left.rollups) (of-loses marks.lows (cells_of held.rollups) (cells_of left.rollups) loses) kept.live);
-          indices = indices_gone settings.rules (cells_of held.rollups) (cells_of left.rollups) (of-loses marks.lows (cells_of held.rollups) (cells_of left.rollups) loses) kept.indices;
+          possible = possible_gone settings.rules (cells_of held.rollups) (cells_of left.rollups) (of-loses marks.lows (cells_of held.rollups) (cells_of left.rollups) loses) kept.possible;
           sized = subst IsSized is_removed (sized_gone full (cells_of left.rollups) (expired-loses marks.lows (cells_of held.rollups) (cells_of left.rollups) loses) kept.sized);
         }
 
@@ -190,7 +190,7 @@ module _ (settings : Settings) (marks : Marks) (n : ℕ) where
       few = tt;
       counts = kept.counts;
       live = kept.live;
-      indices = kept.indices;
+      possible = kept.possible;
       sized = subst IsSized is_ended (sized_ended open_run kept.sized);
     }
 
@@ -221,7 +221,7 @@ module _ (settings : Settings) (marks : Marks) (n : ℕ) where
       few = (omega arith, omega arith);
       counts = kept.counts;
       live = kept.live;
-      indices = kept.indices;
+      possible = kept.possible;
       sized = subst IsSized (sym is_begun) (sized_begun idle now kept.sized);
     }
 
@@ -289,7 +289,7 @@ module _ (settings : Settings) (marks : Marks) (n : ℕ) (held after : StoreCont
           few = (takes.within held.columns kept.few).0;
           counts = kept.counts;
           live = kept.live;
-          indices = kept.indices;
+          possible = kept.possible;
           sized = subst IsSized (sym same) kept.sized;
         };
         none = none.1;

@@ -20,11 +20,12 @@ use Rattle.ts_cells.specs.CellChanges.{inserted_if_absent}
 use Rattle.ts_cells.specs.Grids.{no_rollup_series, cell_at}
 use Rattle.ts_cells.proofs.GridMoves.{get-inserted_if_absent}
 use Rattle.ts_store.specs.image.BuildingParts.{MakesCells}
-use Rattle.ts_store.specs.store.CellIndices.{IsBucketIndex, HasIndices}
+use Rattle.ts_store.specs.store.PossibleCells.{IsPossibleCell, HasPossibleCells}
 use Rattle.ts_store.specs.write.LinesPut.{OfEachRule, IsOfFacts, GainsCells}
 use Rattle.ts_store.specs.rollup.Rollups.{RollupState, IsRollupSeriesOf, rollup_series_under, cells_of, with_grid_cells, cell_created_in}
 use Rattle.ts_store.proofs.write.CellsMade.{each_same, each_more, gains_nothing}
 use Rattle.ts_store.proofs.store.ColumnsLemmas.{in_column}
+use Rattle.ts_store.proofs.store.PossibleCellsKept.{cell_possible}
 use Rattle.ts_store.proofs.write.CellsCreatedLemmas.{roomy_there}
 
 -- ---- one cell
@@ -65,10 +66,10 @@ pub record IsMadeBut (left facts : List Fact) (r : Rule) (low : ℤ) (m n : Cell
   pub within : (f : Fact) → Among f left → Among f facts
   pub gains : GainsCells facts r low m n
   pub there : (f : Fact) → Among f facts → Among f left ⊎ HasCellOf f r low n
-  pub indices : HasIndices r m → HasIndices r n
+  pub possible : HasPossibleCells r m → HasPossibleCells r n
 
 pub made-none : (facts : List Fact) (r : Rule) (low : ℤ) (m : CellMap) → IsMadeBut facts facts r low m m
-made-none facts r low m = record { within = λ f a. a; gains = gains_nothing facts r low m; there = λ f a. inl a; indices = λ h. h }
+made-none facts r low m = record { within = λ f a. a; gains = gains_nothing facts r low m; there = λ f a. inl a; possible = λ h. h }
 
 pub made-as : (left left' facts : List Fact) (r : Rule) (low : ℤ) (m n n' : CellMap) → left' ≡ left → n' ≡ n → IsMadeBut left facts r low m n → IsMadeBut left' facts r low m n'
 made-as left left' facts r low m n n' d e h = subst (λ (xs : List Fact). IsMadeBut xs facts r low m n') (sym d) (subst (IsMadeBut left facts r low m) (sym e) h)
@@ -79,7 +80,7 @@ made-skip f left facts r low m n has h = record {
   gains = h.gains;
   there = λ g a.
       ⊎_elim {C = Among g left ⊎ HasCellOf g r low n} (λ q. ⊎_elim {C = Among g left ⊎ HasCellOf g r low n} (λ e. inr (subst (λ (x : Fact). HasCellOf x r low n) (sym e) has)) (λ z. inl z) q) (λ z. inr z) (h.there g a);
-  indices = h.indices;
+  possible = h.possible;
 }
 
 pub made-more : (f : Fact) (left facts : List Fact) (r : Rule) (low : ℤ) (m n : CellMap) → IsTime f.time → is_rolled r f ≡ true → low ≤ℤ (cell_of r f).index
@@ -105,13 +106,13 @@ made-more f left facts r low m n valid rolled above h =
           ⊎_elim {C = Among g left ⊎ HasCellOf g r low o}
           (λ z. ⊎_elim {C = Among g left ⊎ HasCellOf g r low o} (λ e. inr (λ rl ab none. roomy_there n q (ap (λ (x : Fact). finmap.get o (cell_of r x)) (sym e) ∙ none))) (λ y. inl y) z)
           (λ has. inr (λ rl ab none. has rl ab (missing n o (capacity-stays n q) (cell_of r g) none))) (h.there g a);
-      indices = λ valids k a.
-          elim (finmap.get n k) as (λ x. finmap.get n k ≡ x → IsBucketIndex r k.index) [
-            | None ↦ λ e. elim (finmap.get o k) as (λ x. finmap.get o k ≡ x → IsBucketIndex r k.index) [
+      possible = λ before k a.
+          elim (finmap.get n k) as (λ x. finmap.get n k ≡ x → IsPossibleCell r k) [
+            | None ↦ λ e. elim (finmap.get o k) as (λ x. finmap.get o k ≡ x → IsPossibleCell r k) [
               | None ↦ λ none. absurd (key_not o k a none)
-              | Some p ↦ λ some. subst (λ (z : Cell). IsBucketIndex r z.index) (sym (capacity-new n q k p e some).1) (f.time, valid, refl)
+              | Some p ↦ λ some. subst (IsPossibleCell r) (sym (capacity-new n q k p e some).1) (cell_possible r f valid)
             ] refl
-            | Some x ↦ λ e. h.indices valids k (key_there n k (λ none. none-some x (sym none ∙ e)))
+            | Some x ↦ λ e. h.possible before k (key_there n k (λ none. none-some x (sym none ∙ e)))
           ] refl;
     }
 
@@ -135,7 +136,7 @@ pub made-all : (facts : List Fact) (r : Rule) (low : ℤ) (m n : CellMap) → Is
 made-all facts r low m n h = record {
   gains = h.gains;
   there = λ f a. ⊎_elim {C = HasCellOf f r low n} (λ z. absurd z) (λ has. has) (h.there f a);
-  indices = h.indices;
+  possible = h.possible;
 }
 
 -- the points as they were given
@@ -149,13 +150,13 @@ made-apart c ps r low m apart = record {
   there = λ f a rolled above none.
       let of : f.column ≡ c = (in_column c ps f a).0 in
       true≢false (sym rolled ∙ ap (λ (d : Column). same_text d.series.measurement r.measurement) of ∙ apart);
-  indices = λ h. h;
+  possible = λ h. h;
 }
 
 -- ---- more facts
 
 makes-nothing : (r : Rule) (low : ℤ) (m : CellMap) → MakesCells [] r low m m
-makes-nothing r low m = record { gains = gains_nothing [] r low m; there = λ f a. absurd a; indices = λ h. h }
+makes-nothing r low m = record { gains = gains_nothing [] r low m; there = λ f a. absurd a; possible = λ h. h }
 
 of_left : (fs gs : List Fact) (r : Rule) (k : Cell) → IsOfFacts fs r k → IsOfFacts (fs ++ gs) r k
 of_left fs gs r k h = (h.0, Among-left h.0 fs gs h.1, h.2)
@@ -174,7 +175,7 @@ makes-then fs gs r low m n o a b = record {
   };
   there = λ f h rolled above none.
       ⊎_elim {C = ⊥} (λ x. a.there f x rolled above (missing n o b.gains.stays (cell_of r f) none)) (λ x. b.there f x rolled above none) (Among-append f fs gs h);
-  indices = λ h. b.indices (a.indices h);
+  possible = λ h. b.possible (a.possible h);
 }
 
 pub all-made-none : (rs : List Rule) (lows : List ℤ) (ms : List CellMap) → OfEachRule (MakesCells []) rs lows ms ms

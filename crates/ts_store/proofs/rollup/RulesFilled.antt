@@ -20,7 +20,7 @@ use Rattle.ts_store.specs.image.Building.{HaveCells}
 use Rattle.ts_store.specs.image.BuildingParts.{IsIdle, AreIdle, MakesCells, FillsCells, KeepsFrozen, KeepFrozen, IsFilledBut, AreFilledBut}
 use Rattle.ts_raw.specs.Columns.{ColumnState}
 use Rattle.ts_raw.specs.Indexed.{Indexed}
-use Rattle.ts_store.specs.store.CellIndices.{HaveIndices}
+use Rattle.ts_store.specs.store.PossibleCells.{HavePossibleCells}
 use Rattle.ts_store.specs.store.ColumnStates.{IsSoundContent, content_of, columns_in, with_points, point_maps}
 use Rattle.ts_store.specs.write.LinesPut.{OfEachRule, IsOfFacts, PutsCells}
 use Rattle.ts_store.specs.rollup.Rollups.{RollupState, AreRollups, HaveRollupSeries, IsRollupSeriesOf, rollup_series_at, cells_of}
@@ -236,14 +236,14 @@ has_cells-had facts (r ∷ rs) (low ∷ lows) (m ∷ ms) (n ∷ ns) h = (
   has_cells-had facts rs lows ms ns (others-of (PutsCells facts) r rs low lows m ms n ns h),
 )
 
-pub indices-had : (facts : List Fact) (rs : List Rule) (lows : List ℤ) (ms os : List CellMap) → length lows ≡ length rs → OfEachRule (MakesCells facts) rs lows ms os → HaveIndices rs ms → HaveIndices rs os
-indices-had facts [] lows ms os l h v = tt
-indices-had facts (r ∷ rs) lows ms [] l h v = tt
-indices-had facts (r ∷ rs) [] ms (o ∷ os) l h v = absurd (omega (arith, l))
-indices-had facts (r ∷ rs) (low ∷ lows) [] (o ∷ os) l h v = absurd (let e = h.0 in omega (arith, e))
-indices-had facts (r ∷ rs) (low ∷ lows) (m ∷ ms) (o ∷ os) l h v = (
-  let made : MakesCells facts r low m o = h.1 0 r low m o refl refl refl refl in made.indices v.0,
-  indices-had facts rs lows ms os (omega (arith, l)) (others-of (MakesCells facts) r rs low lows m ms o os h) v.1,
+pub possible-had : (facts : List Fact) (rs : List Rule) (lows : List ℤ) (ms os : List CellMap) → length lows ≡ length rs → OfEachRule (MakesCells facts) rs lows ms os → HavePossibleCells rs ms → HavePossibleCells rs os
+possible-had facts [] lows ms os l h v = tt
+possible-had facts (r ∷ rs) lows ms [] l h v = tt
+possible-had facts (r ∷ rs) [] ms (o ∷ os) l h v = absurd (omega (arith, l))
+possible-had facts (r ∷ rs) (low ∷ lows) [] (o ∷ os) l h v = absurd (let e = h.0 in omega (arith, e))
+possible-had facts (r ∷ rs) (low ∷ lows) (m ∷ ms) (o ∷ os) l h v = (
+  let made : MakesCells facts r low m o = h.1 0 r low m o refl refl refl refl in made.possible v.0,
+  possible-had facts rs lows ms os (omega (arith, l)) (others-of (MakesCells facts) r rs low lows m ms o os h) v.1,
 )
 
 still-keys : (m n : CellMap) → KeepsFrozen m n → (k : Cell) → Among k (finmap.keys n) → Among k (finmap.keys m)
@@ -253,12 +253,12 @@ still-keys m n keeps k a =
       | Some p ↦ λ e. none-some p.frozen (ap (option_map (λ (y : CellParts). y.frozen)) (sym none) ∙ sym (keeps k) ∙ ap (option_map (λ (y : CellParts). y.frozen)) e)
     ] refl)
 
-pub indices-kept : (rs : List Rule) (ms ns : List CellMap) → KeepFrozen ms ns → HaveIndices rs ms → HaveIndices rs ns
-indices-kept [] ms ns keeps v = tt
-indices-kept (r ∷ rs) [] [] keeps v = tt
-indices-kept (r ∷ rs) [] (n ∷ ns) keeps v = absurd keeps
-indices-kept (r ∷ rs) (m ∷ ms) [] keeps v = absurd keeps
-indices-kept (r ∷ rs) (m ∷ ms) (n ∷ ns) keeps v = (λ k a. v.0 k (still-keys m n keeps.0 k a), indices-kept rs ms ns keeps.1 v.1)
+pub possible-kept : (rs : List Rule) (ms ns : List CellMap) → KeepFrozen ms ns → HavePossibleCells rs ms → HavePossibleCells rs ns
+possible-kept [] ms ns keeps v = tt
+possible-kept (r ∷ rs) [] [] keeps v = tt
+possible-kept (r ∷ rs) [] (n ∷ ns) keeps v = absurd keeps
+possible-kept (r ∷ rs) (m ∷ ms) [] keeps v = absurd keeps
+possible-kept (r ∷ rs) (m ∷ ms) (n ∷ ns) keeps v = (λ k a. v.0 k (still-keys m n keeps.0 k a), possible-kept rs ms ns keeps.1 v.1)
 
 -- created cells have no live part
 idle-made : (facts : List Fact) (rs : List Rule) (lows : List ℤ) (ms os : List CellMap) → length lows ≡ length rs → length ms ≡ length rs → OfEachRule (MakesCells facts) rs lows ms os → AreIdle ms → AreIdle os
@@ -303,7 +303,7 @@ module _ (rs : List Rule) (lows : List ℤ) (index : Indexed) (ss : List ColumnS
         cells = cells;
         has_cells = has_cells-had facts rs lows (cells_of us) (cells_of ws) cells;
         live = live;
-        indices = λ v. indices-kept rs (cells_of vs) (cells_of ws) frozen (indices-had facts rs lows (cells_of us) (cells_of vs) many made v);
+        possible = λ v. possible-kept rs (cells_of vs) (cells_of ws) frozen (possible-had facts rs lows (cells_of us) (cells_of vs) many made v);
         known = known_of index ss ws held;
         once = facts-distinct index.columns (point_maps ss) held.sound.columns_once;
       }

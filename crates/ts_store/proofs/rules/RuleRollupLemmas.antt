@@ -21,7 +21,7 @@ use Rattle.ts_core.proofs.store.StateLemmas.{same_head}
 use Rattle.ts_raw.specs.Columns.{ColumnState}
 use Rattle.ts_raw.specs.Indexed.{Indexed}
 use Rattle.ts_store.specs.image.BuildingParts.{AreIdle, FillsCells, KeepFrozen}
-use Rattle.ts_store.specs.store.CellIndices.{HasIndices}
+use Rattle.ts_store.specs.store.PossibleCells.{HasPossibleCells}
 use Rattle.ts_store.specs.store.ColumnStates.{IsSoundContent, content_of, columns_in}
 use Rattle.ts_store.specs.store.Inventories.{AreFilled}
 use Rattle.ts_store.specs.write.LinesPut.{IsOfFacts, PutsCells}
@@ -76,8 +76,8 @@ module _ (facts : List Fact) (r : Rule) (low : ℤ) (m : CellMap) (puts : PutsCe
 
 -- ---- the whole
 
-no_indices : (r : Rule) → HasIndices r finmap.empty
-no_indices r = λ k a. absurd (key_not finmap.empty k a (get-empty cell_cmp k))
+none_possible : (r : Rule) → HasPossibleCells r finmap.empty
+none_possible r = λ k a. absurd (key_not finmap.empty k a (get-empty cell_cmp k))
 
 pub rollup_made : (index : Indexed) (ss : List ColumnState) (us : List RollupState) (r : Rule) (low : ℤ) (s t : RollupState) → IsSoundContent index ss → HasFirstRollupSeries r index.columns (length index.columns) s
     → t ≡ with_grid_cells t.grid.cells s → FillsCells (r ∷ []) (low ∷ []) (content_of index ss (s ∷ [])) (content_of index ss (t ∷ [])) → IsRollupOf (content_of index ss us) r low t
@@ -89,7 +89,7 @@ rollup_made index ss us r low s t held first same fills =
       series_list = subst (λ (x : RollupState). HaveRollupSeries r x.grid.series_list (map column_of (content_of index ss us).columns) x.series_list) (sym same) (subst (λ (cs : List Column). HaveRollupSeries r s.grid.series_list cs s.series_list) (sym (names_held index ss held.each)) series_list);
       fresh = fresh_of facts r low t.grid.cells puts fills.live.0;
       filled = filled_of facts r low t.grid.cells puts;
-      indices = (fills.indices (subst (HasIndices r) (sym first.cells) (no_indices r), tt)).0;
+      possible = (fills.possible (subst (HasPossibleCells r) (sym first.cells) (none_possible r), tt)).0;
     }
 
 -- ---- one rollup, created and filled

@@ -30,7 +30,7 @@ use Rattle.ts_core.proofs.moves.RulesMove.{rule_comes, lives_push, left_added, e
 use Rattle.ts_core.proofs.settings.SettingsLaws.{settings_are}
 use Rattle.ts_core.proofs.moves.MovesStand.{key_there}
 use Rattle.ts_store.specs.store.CellCounts.{HoldsFew, HoldFew}
-use Rattle.ts_store.specs.store.CellIndices.{HasIndices, HaveIndices}
+use Rattle.ts_store.specs.store.PossibleCells.{HasPossibleCells, HavePossibleCells}
 use Rattle.ts_store.specs.store.ColumnStates.{StoreContent}
 use Rattle.ts_store.specs.retain.OpenRuns.{Run, data_of_parts, IsSoundStore}
 use Rattle.ts_store.specs.rollup.Rollups.{RollupState, HaveRollupSeries, AreRollups, cells_of}
@@ -52,11 +52,11 @@ counts_push n columns [] (x ∷ ms) r m e one h = absurd (omega (arith, e))
 counts_push n columns (q ∷ rs) [] r m e one h = absurd (omega (arith, e))
 counts_push n columns (q ∷ rs) (x ∷ ms) r m e one h = (h.0, counts_push n columns rs ms r m (omega (arith, e)) one h.1)
 
-indices_push : (rs : List Rule) (ms : List CellMap) (r : Rule) (m : CellMap) → length ms ≡ length rs → HasIndices r m → HaveIndices rs ms → HaveIndices (rs ++ r ∷ []) (ms ++ m ∷ [])
-indices_push [] [] r m e one h = (one, tt)
-indices_push [] (x ∷ ms) r m e one h = absurd (omega (arith, e))
-indices_push (q ∷ rs) [] r m e one h = absurd (omega (arith, e))
-indices_push (q ∷ rs) (x ∷ ms) r m e one h = (h.0, indices_push rs ms r m (omega (arith, e)) one h.1)
+possible_push : (rs : List Rule) (ms : List CellMap) (r : Rule) (m : CellMap) → length ms ≡ length rs → HasPossibleCells r m → HavePossibleCells rs ms → HavePossibleCells (rs ++ r ∷ []) (ms ++ m ∷ [])
+possible_push [] [] r m e one h = (one, tt)
+possible_push [] (x ∷ ms) r m e one h = absurd (omega (arith, e))
+possible_push (q ∷ rs) [] r m e one h = absurd (omega (arith, e))
+possible_push (q ∷ rs) (x ∷ ms) r m e one h = (h.0, possible_push rs ms r m (omega (arith, e)) one h.1)
 
 sized_push : (P : RuleCells → Type 0) (rs : List Rule) (lows : List ℤ) (ms : List CellMap) (r : Rule) (low : ℤ) (m : CellMap) → length lows ≡ length rs → length ms ≡ length rs → P (rule_cells r low m) → AllByRecursion P (rules_of rs lows ms)
     → AllByRecursion P (rules_of (rs ++ r ∷ []) (lows ++ low ∷ []) (ms ++ m ∷ []))
@@ -141,7 +141,7 @@ module _ (settings : Settings) (marks : Marks) (n : ℕ) (held : StoreContent) (
       few = kept.few;
       counts = counts_push n held.columns settings.rules (cells_of held.rollups) r cells kept.sized.cells few kept.counts;
       live = lives_push held.columns settings.rules (cells_of held.rollups) r cells kept.sized.cells rollup.fresh.live kept.live;
-      indices = indices_push settings.rules (cells_of held.rollups) r cells kept.sized.cells rollup.indices kept.indices;
+      possible = possible_push settings.rules (cells_of held.rollups) r cells kept.sized.cells rollup.possible kept.possible;
       sized = record {
         settings = with_rule-fault settings r kept.sized.settings ∙ well;
         accepted = kept.sized.accepted;

@@ -11,7 +11,7 @@ use Rattle.ts_core.specs.moves.RuleMoves.{IsEven, IsRuleAt, kept_beside, rule_dr
 use Rattle.ts_core.proofs.settings.RuleLaws.{without_rule-faultless}
 use Rattle.ts_core.proofs.moves.RulesMove.{rule_goes, lives_kept, left_dropped, even_dropped}
 use Rattle.ts_store.specs.store.CellCounts.{HoldFew}
-use Rattle.ts_store.specs.store.CellIndices.{HaveIndices}
+use Rattle.ts_store.specs.store.PossibleCells.{HavePossibleCells}
 use Rattle.ts_store.specs.store.ColumnStates.{StoreContent}
 use Rattle.ts_store.specs.retain.OpenRuns.{Run, data_of_parts, IsSoundStore}
 use Rattle.ts_store.specs.rollup.Rollups.{RollupState, AreRollups, cells_of}
@@ -49,17 +49,17 @@ module _ (p : Rule → Bool) where
         | false ↦ counts_beside n columns rs ms h.1
       ]
 
-  none_placed : (rs : List Rule) → HaveIndices rs []
-  none_placed [] = tt
-  none_placed (r ∷ rs) = tt
+  none_there : (rs : List Rule) → HavePossibleCells rs []
+  none_there [] = tt
+  none_there (r ∷ rs) = tt
 
-  indices_beside : (rs : List Rule) (ms : List CellMap) → HaveIndices rs ms → HaveIndices (filter p rs) (kept_beside p rs ms)
-  indices_beside [] ms h = tt
-  indices_beside (r ∷ rs) [] h = none_placed (filter p (r ∷ rs))
-  indices_beside (r ∷ rs) (m ∷ ms) h =
-      elim (p r) as (λ b. HaveIndices (cond b (r ∷ filter p rs) (filter p rs)) (cond b (m ∷ kept_beside p rs ms) (kept_beside p rs ms))) [
-        | true ↦ (h.0, indices_beside rs ms h.1)
-        | false ↦ indices_beside rs ms h.1
+  possible_beside : (rs : List Rule) (ms : List CellMap) → HavePossibleCells rs ms → HavePossibleCells (filter p rs) (kept_beside p rs ms)
+  possible_beside [] ms h = tt
+  possible_beside (r ∷ rs) [] h = none_there (filter p (r ∷ rs))
+  possible_beside (r ∷ rs) (m ∷ ms) h =
+      elim (p r) as (λ b. HavePossibleCells (cond b (r ∷ filter p rs) (filter p rs)) (cond b (m ∷ kept_beside p rs ms) (kept_beside p rs ms))) [
+        | true ↦ (h.0, possible_beside rs ms h.1)
+        | false ↦ possible_beside rs ms h.1
       ]
 
   sized_beside : (P : RuleCells → Type 0) (rs : List Rule) (lows : List ℤ) (ms : List CellMap) → length lows ≡ length rs → length ms ≡ length rs → AllByRecursion P (rules_of rs lows ms)
@@ -118,7 +118,7 @@ module _ (settings : Settings) (marks : Marks) (n : ℕ) (held : StoreContent) (
     few = kept.few;
     counts = counts_beside stays n held.columns settings.rules (cells_of held.rollups) kept.counts;
     live = lives_kept stays held.columns settings.rules (cells_of held.rollups) kept.live;
-    indices = indices_beside stays settings.rules (cells_of held.rollups) kept.indices;
+    possible = possible_beside stays settings.rules (cells_of held.rollups) kept.possible;
     sized = record {
       settings = without_rule-faultless settings name kept.sized.settings;
       accepted = kept.sized.accepted;

@@ -45,7 +45,7 @@ use Rattle.ts_store.specs.write.Refusals.{is_registered, is_too_many, write_faul
 use Rattle.ts_store.specs.retain.OpenRuns.{Run, waiting_in, IsWithin, data_of_parts, IsSoundStore}
 use Rattle.ts_store.specs.store.CellCounts.{HoldFew}
 use Rattle.ts_store.specs.store.SizedStores.{IsSized}
-use Rattle.ts_store.specs.store.CellIndices.{HaveIndices}
+use Rattle.ts_store.specs.store.PossibleCells.{HavePossibleCells}
 use Rattle.ts_store.specs.rollup.Rollups.{new_rollup, AreRollups, cells_of}
 use Rattle.ts_store.specs.write.LinesInColumns.{PutsLine, GrowsForLine}
 use Rattle.ts_store.specs.write.LivePuts.{StayLive}
@@ -56,7 +56,7 @@ use Rattle.ts_store.proofs.store.ColumnsLemmas.{in_column}
 use Rattle.ts_store.proofs.store.CountsKept.{counts-put, counts-grown, counts-new}
 use Rattle.ts_store.proofs.store.SizesKept.{puts_names, sized_new, sized_grown, sized_put}
 use Rattle.ts_store.proofs.write.LivesGrown.{lives_grown}
-use Rattle.ts_store.proofs.store.IndicesKept.{indices_new, taken_valid, indices_gained, indices_put}
+use Rattle.ts_store.proofs.store.PossibleCellsKept.{possible_new, taken_valid, possible_gained, possible_put}
 use Rattle.ts_store.proofs.write.NamesKept.{gains_named, may_gain_named, all_keys, first_keys}
 use Rattle.ts_store.proofs.write.SeriesLimit.{registered-there, registered-not, gains_few, may_gain_few}
 
@@ -91,7 +91,7 @@ kept_new settings marks held well m h =
       few = tt;
       counts = subst (λ (x : StoreContent). HoldFew 0 x.columns rs (cells_of x.rollups)) (sym h) (subst (λ ms. HoldFew 0 [] rs ms) (sym (new_cells rs)) (counts-new rs));
       live = subst (λ (x : StoreContent). AreLive x.columns rs (cells_of x.rollups)) (sym h) (subst (λ ms. AreLive [] rs ms) (sym (new_cells rs)) (no_live [] rs));
-      indices = subst (λ (x : StoreContent). HaveIndices rs (cells_of x.rollups)) (sym h) (subst (HaveIndices rs) (sym (new_cells rs)) (indices_new rs));
+      possible = subst (λ (x : StoreContent). HavePossibleCells rs (cells_of x.rollups)) (sym h) (subst (HavePossibleCells rs) (sym (new_cells rs)) (possible_new rs));
       sized = subst IsSized (sym (data_new settings marks held m h)) (sized_new settings well);
     }
 
@@ -177,8 +177,8 @@ kept_left settings marks n before after run p kept registers named keys g =
       few = within_more run before.columns after.columns made (ap (map column_of) g.columns.columns ∙ names_with before.columns made) kept.few;
       counts = counts-grown n before.columns after.columns same [] settings.rules marks.lows (cells_of before.rollups) (cells_of after.rollups) kept.sized.lows g.has_cells kept.counts;
       live = lives_grown marks.raw before.columns after.columns same settings.rules marks.lows [] (cells_of before.rollups) (cells_of after.rollups) kept.sized.lows g.has_cells kept.sized.rules kept.live;
-      indices = ⊎_elim {C = HaveIndices settings.rules (cells_of after.rollups)} (λ e. subst (HaveIndices settings.rules) (sym e) kept.indices)
-          (λ taken. indices_gained (line_facts p) (taken_valid least_time (line_facts p) taken) settings.rules marks.lows (cells_of before.rollups) (cells_of after.rollups) kept.sized.lows g.cells kept.indices) g.taken;
+      possible = ⊎_elim {C = HavePossibleCells settings.rules (cells_of after.rollups)} (λ e. subst (HavePossibleCells settings.rules) (sym e) kept.possible)
+          (λ taken. possible_gained (line_facts p) (taken_valid least_time (line_facts p) taken) settings.rules marks.lows (cells_of before.rollups) (cells_of after.rollups) kept.sized.lows g.cells kept.possible) g.taken;
       sized = sized_waits settings marks n run (waiting_in run before.columns) (waiting_in run after.columns) after.series after.columns (cells_of after.rollups)
           (sized_grown k after.series after.columns (cells_of after.rollups) [] (may_gain_few before.series after.series (series_of p) kept.sized.series registers g.series) g.known.once g.known.registered
           (may_gain_named before.series after.series (series_of p) named g.series kept.sized.named) (first_keys p before.columns after.columns keys g.columns kept.sized.keys) same g.has_cells kept.sized);
@@ -274,7 +274,7 @@ kept_accepted settings marks n before after run p kept registers named keys put 
       few = within_more run before.columns after.columns made (line_names settings.rules before.columns put.cells_between after.columns ns fs put.facts) kept.few;
       counts = counts-put n settings.rules columns put.cells_between after.columns ns fs put.facts (counts-grown n before.columns columns same fs settings.rules marks.lows ms put.cells_between kept.sized.lows put.has_cells kept.counts);
       live = lives_line settings.rules fs columns after.columns put.cells_between ns sized.once put.facts cells_between;
-      indices = indices_put fs (taken_valid least_time fs put.taken) settings.rules marks.lows ms ns kept.sized.lows put.cells kept.indices;
+      possible = possible_put fs (taken_valid least_time fs put.taken) settings.rules marks.lows ms ns kept.sized.lows put.cells kept.possible;
       sized = sized_waits settings marks (n + length fs) run (waiting_in run before.columns) (waiting_in run after.columns) after.series after.columns ns
           (sized_put (grown after.series columns put.cells_between k) after.columns fs ms ns put.has_cells put.facts few sized);
     }

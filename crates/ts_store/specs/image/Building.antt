@@ -15,7 +15,7 @@ use Rattle.ts_core.specs.store.StoreStates.{ColumnPoints, facts_of}
 use Rattle.ts_core.specs.store.StoreCodes.{coded_store_data}
 use Rattle.ts_core.specs.store.StoreData.{CellMap, StoreData, AreLive}
 use Rattle.ts_store.specs.store.CellCounts.{HoldFew}
-use Rattle.ts_store.specs.store.CellIndices.{HaveIndices}
+use Rattle.ts_store.specs.store.PossibleCells.{HavePossibleCells}
 use Rattle.ts_store.specs.write.LinesPut.{OfEachRule, PutsCells}
 
 -- a store under construction
@@ -101,14 +101,14 @@ AreLowIndices mark [] (low ∷ lows) = ⊥
 AreLowIndices mark (r ∷ rs) [] = ⊥
 AreLowIndices mark (r ∷ rs) (low ∷ lows) = IsLowIndex mark r low × AreLowIndices mark rs lows
 
--- No count overflows, each rule has a low index, and the bucket of each cell has a valid time. No column waits unless a
+-- No count overflows, each rule has a low index, and each cell is one that its rule can have. No column waits unless a
 -- run is in progress.
 pub record IsBuildable (b : Built) : Type 0 where
   pub accepted : b.accepted ≤ 2 ^ 62
   pub facts : length (facts_of b.columns) ≤ b.accepted
   pub lows : AreLowIndices b.marks.raw b.settings.rules b.marks.lows
   pub counts : HoldFew b.accepted b.columns b.settings.rules b.cells
-  pub indices : HaveIndices b.settings.rules b.cells
+  pub possible : HavePossibleCells b.settings.rules b.cells
   pub idle : b.running ≡ false → AllByRecursion (λ (w : Bool). w ≡ false) b.waits
 
 -- ---- the store of the parts

@@ -12,7 +12,7 @@ use Rattle.ts_core.specs.store.StoreStates.{CellParts, column_of, facts_of}
 use Rattle.ts_core.specs.store.StoreData.{CellMap, AreLive}
 use Rattle.ts_line.specs.Names.{IsKey, IsStatable}
 use Rattle.ts_store.specs.image.Building.{Built, HaveCells}
-use Rattle.ts_store.specs.store.CellIndices.{HasIndices, HaveIndices}
+use Rattle.ts_store.specs.store.PossibleCells.{HasPossibleCells, HavePossibleCells}
 use Rattle.ts_store.specs.store.ColumnStates.{StoreContent, AreKnown}
 use Rattle.ts_store.specs.write.LinesPut.{OfEachRule, PutsCells, GainsCells}
 use Rattle.ts_store.specs.rollup.Rollups.{AreRollups, cells_of}
@@ -53,12 +53,12 @@ pub record IsInOrder (settings : Settings) (held : StoreContent) (passed : List 
 abbrev pub HasCellsOf : List Fact → Rule → ℤ → CellMap → Type 0
 HasCellsOf facts r low m = (f : Fact) → Among f facts → is_rolled r f ≡ true → low ≤ℤ (cell_of r f).index → finmap.get m (cell_of r f) ≡ None → ⊥
 
--- the missing cells of these facts are created, without content, but none below the low index, and none whose bucket
--- has no valid time
+-- the missing cells of these facts are created, without content, but none below the low index, and none that the rule
+-- can't have
 pub record MakesCells (facts : List Fact) (r : Rule) (low : ℤ) (m n : CellMap) : Type 0 where
   pub gains : GainsCells facts r low m n
   pub there : HasCellsOf facts r low n
-  pub indices : HasIndices r m → HasIndices r n
+  pub possible : HasPossibleCells r m → HasPossibleCells r n
 
 -- no cell is created or removed, and each frozen part stays
 abbrev pub KeepsFrozen : CellMap → CellMap → Type 0
@@ -86,6 +86,6 @@ pub record FillsCells (rules : List Rule) (lows : List ℤ) (old new : StoreCont
   pub cells : OfEachRule (PutsCells (facts_of old.columns)) rules lows (cells_of old.rollups) (cells_of new.rollups)
   pub has_cells : HaveCells rules lows (facts_of old.columns) (cells_of new.rollups)
   pub live : AreLive old.columns rules (cells_of new.rollups)
-  pub indices : HaveIndices rules (cells_of old.rollups) → HaveIndices rules (cells_of new.rollups)
+  pub possible : HavePossibleCells rules (cells_of old.rollups) → HavePossibleCells rules (cells_of new.rollups)
   pub known : AreKnown new
   pub once : AllDistinct (facts_of new.columns)

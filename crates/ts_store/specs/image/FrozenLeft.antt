@@ -4,7 +4,7 @@ use Rattle.std.specs.Int.{w64}
 use Rattle.ts_core.specs.settings.Settings.{Rule}
 use Rattle.ts_core.specs.store.StoreStates.{CellParts}
 use Rattle.ts_cells.specs.Walks.{CellWithPart}
-use Rattle.ts_store.specs.store.CellIndices.{HasIndices}
+use Rattle.ts_store.specs.store.PossibleCells.{HasPossibleCells}
 use Rattle.ts_store.specs.store.ColumnStates.{StoreContent}
 use Rattle.ts_store.specs.read.LiveCells.{rollup_at}
 use Rattle.ts_store.specs.image.SavedContent.{FrozenCell}
@@ -24,4 +24,4 @@ pub record HasNearCells (held : StoreContent) (r : Rule) (n : ℕ) : Type 0 wher
   pub there : n < length held.rollups
   pub second : pos 1000000000 ≤ℤ r.interval
   pub offset : FitsSigned w64 r.offset
-  pub indices : HasIndices r (rollup_at held.rollups n).grid.cells
+  pub possible : HasPossibleCells r (rollup_at held.rollups n).grid.cells

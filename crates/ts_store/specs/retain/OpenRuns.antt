@@ -12,7 +12,7 @@ use Rattle.ts_core.specs.store.StoreData.{StoreData, AreLive}
 use Rattle.ts_store.specs.store.ColumnStates.{StoreContent}
 use Rattle.ts_store.specs.store.CellCounts.{HoldFew}
 use Rattle.ts_store.specs.rollup.Rollups.{AreRollups, cells_of}
-use Rattle.ts_store.specs.store.CellIndices.{HaveIndices}
+use Rattle.ts_store.specs.store.PossibleCells.{HavePossibleCells}
 use Rattle.ts_store.specs.store.SizedStores.{IsSized}
 
 -- An open run: the index of the column that it moves next, the number of columns when it began, and a flag per column.
@@ -83,5 +83,5 @@ pub record IsSoundStore (k : StoreData) (held : StoreContent) (run : Option Run)
   pub few : IsWithin run held.columns
   pub counts : HoldFew k.accepted k.columns k.settings.rules k.cells
   pub live : AreLive k.columns k.settings.rules k.cells
-  pub indices : HaveIndices k.settings.rules k.cells
+  pub possible : HavePossibleCells k.settings.rules k.cells
   pub sized : IsSized k

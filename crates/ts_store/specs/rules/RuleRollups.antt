@@ -6,7 +6,7 @@ use Rattle.ts_core.specs.facts.Facts.{Column}
 use Rattle.ts_core.specs.settings.Settings.{Rule}
 use Rattle.ts_core.specs.store.StoreStates.{column_of, facts_of}
 use Rattle.ts_core.specs.moves.RuleMoves.{IsFresh}
-use Rattle.ts_store.specs.store.CellIndices.{HasIndices}
+use Rattle.ts_store.specs.store.PossibleCells.{HasPossibleCells}
 use Rattle.ts_store.specs.store.ColumnStates.{StoreContent}
 use Rattle.ts_store.specs.store.Inventories.{AreFilled}
 use Rattle.ts_store.specs.rollup.Rollups.{RollupState, HaveRollupSeries}
@@ -22,7 +22,7 @@ pub record IsRollupOf (held : StoreContent) (r : Rule) (low : ℤ) (s : RollupSt
   pub series_list : HaveRollupSeries r s.grid.series_list (map column_of held.columns) s.series_list
   pub fresh : IsFresh r low (facts_of held.columns) s.grid.cells
   pub filled : AreFilled (facts_of held.columns) r low (finmap.keys s.grid.cells)
-  pub indices : HasIndices r s.grid.cells
+  pub possible : HasPossibleCells r s.grid.cells
 
 -- the rollup of one more rule
 abbrev pub with_rollup : RollupState → StoreContent → StoreContent

@@ -11,7 +11,7 @@ pub frozen_cells-requires : goal.frozen_cells-requires
 frozen_cells-requires g c =
     let inside = c.self.inside in
     let there : c.args.rule < length inside.settings.rules = subst (λ (k : StoreData). c.args.rule < length k.settings.rules) (sym c.self.view_is) c.requires in
-    store_near inside.settings.rules (map column_of inside.facts.columns) inside.facts c.args.rule c.index-rules-rule.result c.self.invariant.rollups c.self.invariant.indices c.rules.ensures.valid.seconds c.rules.ensures.possible there
+    store_near inside.settings.rules (map column_of inside.facts.columns) inside.facts c.args.rule c.index-rules-rule.result c.self.invariant.rollups c.self.invariant.possible c.rules.ensures.valid.seconds c.rules.ensures.possible there
     (c.index-rules-rule.is ∙ ap (λ (rs : List Rule). get_or rs c.args.rule c.index-rules-rule.result) c.rules.ensures.value)
 
 pub returns : goal.returns

@@ -1,7 +1,7 @@
 use Rattle.std.proofs.Common.{subst}
 use Rattle.ts_core.specs.store.StoreData.{StoreData, AreLive}
 use Rattle.ts_store.specs.store.CellCounts.{HoldFew}
-use Rattle.ts_store.specs.store.CellIndices.{HaveIndices}
+use Rattle.ts_store.specs.store.PossibleCells.{HavePossibleCells}
 use Rattle.ts_store.specs.store.SizedStores.{IsSized}
 use Rattle.ts_store.proofs.store.Store.laws.Goals as goal
 
@@ -14,5 +14,5 @@ returns-clause-counts g c = subst (λ (k : StoreData). HoldFew k.accepted k.colu
 pub returns-clause-live : goal.returns-clause-live
 returns-clause-live g c = subst (λ (k : StoreData). AreLive k.columns k.settings.rules k.cells) c.self.view_is c.self.invariant.live
 
-pub returns-clause-indices : goal.returns-clause-indices
-returns-clause-indices g c = subst (λ (k : StoreData). HaveIndices k.settings.rules k.cells) c.self.view_is c.self.invariant.indices
+pub returns-clause-possible : goal.returns-clause-possible
+returns-clause-possible g c = subst (λ (k : StoreData). HavePossibleCells k.settings.rules k.cells) c.self.view_is c.self.invariant.possible

@@ -1,7 +1,7 @@
 use Rattle.std.proofs.Common.{rules, ◌≡◌, ◌<◌, ◌-◌, ℕ, length, get_or, Less, sym}
 use Rattle.std.specs.Cmp.{nat_cmp_is}
 use Rattle.ts_cells.proofs.SlotLemmas.{past_last}
-use Rattle.ts_cells.proofs.slot_map.find.Goals as goal
+use Rattle.ts_cells.proofs.slot_map.find_from_end.Goals as goal
 
 pub returns-in_default-clause-slot : goal.returns-in_default-clause-slot
 returns-in_default-clause-slot c =

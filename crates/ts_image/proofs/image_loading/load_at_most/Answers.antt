@@ -1,6 +1,6 @@
 use Rattle.std.proofs.lemmas.Result.{err_from_is_err_and}
 use Rattle.ts_image.proofs.Loading.{no_store, store_loaded, no_memory_for_store, as_saved}
-use Rattle.ts_image.proofs.image_loading.load_within.Goals as goal
+use Rattle.ts_image.proofs.image_loading.load_at_most.Goals as goal
 
 pub returns-in_err-image : goal.returns-in_err-image
 returns-in_err-image g c =
