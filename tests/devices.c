@@ -7,6 +7,7 @@
 //   SHORT_READ=N, SHORT_WRITE=N each read or write takes at most N bytes
 //   FAIL_FILE_READ=N ..         the same of files: FAIL_FILE_WRITE, ZERO_FILE_WRITE, SHORT_FILE_READ, SHORT_FILE_WRITE
 //   FAIL_SYNC=N, FAIL_RENAME=N  the Nth flush of a file or folder fails, or the Nth change of a name
+//   FAIL_RANDOM=N               the Nth request for random bytes fails
 //   MOMENT=FILE                 the clock shows the number in the file, in nanoseconds of the Unix epoch
 //   REPORT=FILE                 gets the number of allocations, reads and writes at the end of the program, the size of the refused
 //                               allocation, and the number of reads before it
@@ -145,6 +146,11 @@ int fsync(int file) {
 int rename(const char *from, const char *to) {
   static long before;
   return is_failed("FAIL_RENAME", &before) ? -1 : syscall(SYS_rename, from, to);
+}
+
+int getentropy(void *room, size_t size) {
+  static long before;
+  return is_failed("FAIL_RANDOM", &before) || syscall(SYS_getrandom, room, size, 0) != (long)size ? -1 : 0;
 }
 
 int clock_gettime(clockid_t clock, struct timespec *now) {
