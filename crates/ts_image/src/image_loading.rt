@@ -13,6 +13,7 @@ use crate::settings_making::make_settings;
 use crate::store_making::make_store;
 use crate::version::Version;
 use std::alloc::{AllocError, Allocator};
+use std::hash::RandomState;
 use std::io::Read;
 use ts_core::{Settings, Source};
 use ts_store::Store;
@@ -71,6 +72,7 @@ fn load_parts<R: Read, A: Allocator + Copy>(
 /// Loads a store from an image to the end of the input, with at most `reads` reads.
 fn load_at_most<R: Read, A: Allocator + Copy>(
     alloc: A,
+    seed: RandomState,
     source: &mut Source<R>,
     reads: u64,
 ) -> Result<Store<A>, LoadFault>
@@ -79,29 +81,32 @@ fn load_at_most<R: Read, A: Allocator + Copy>(
     ensures stands { IfOk result (StandsAsSaved source.old) }
 {
     let image = load_parts(alloc, source, reads)?;
-    let store = make_store(alloc, image)?;
+    let store = make_store(alloc, seed, image)?;
     Ok(store)
 }
 
-/// Loads a store from an image to the end of the input, with at most `reads` reads, and at most 2^32.
+/// Loads a store from an image to the end of the input, with at most `reads` reads, and at most 2^32. `seed`: of the
+/// hashes of names; no answer depends on it.
 pub fn load_within<R: Read, A: Allocator + Copy>(
     alloc: A,
+    seed: RandomState,
     source: &mut Source<R>,
     reads: u64,
 ) -> Result<Store<A>, LoadFault>
     ensures loads { LoadsStore source.old (min reads (2 ^ 32)) result source.new }
     ensures stands { IfOk result (StandsAsSaved source.old) }
 {
-    load_at_most(alloc, source, reads.min(MOST_READS))
+    load_at_most(alloc, seed, source, reads.min(MOST_READS))
 }
 
-/// Loads a store from an image to the end of the input, with at most 2^32 reads.
+/// Loads a store like `load_within`, with at most 2^32 reads.
 pub fn load<R: Read, A: Allocator + Copy>(
     alloc: A,
+    seed: RandomState,
     source: &mut Source<R>,
 ) -> Result<Store<A>, LoadFault>
     ensures loads { LoadsStore source.old (2 ^ 32) result source.new }
     ensures stands { IfOk result (StandsAsSaved source.old) }
 {
-    load_at_most(alloc, source, MOST_READS)
+    load_at_most(alloc, seed, source, MOST_READS)
 }

@@ -22,7 +22,7 @@
 //!
 //! ```text
 //! save(alloc, &store, &mut sink)?;            // the store's image is written; or a SaveFault
-//! let store = load(alloc, &mut source)?;      // a Store; or a LoadFault
+//! let store = load(alloc, seed, &mut source)?;      // a Store; or a LoadFault
 //! ```
 #![tactic(auto)]
 

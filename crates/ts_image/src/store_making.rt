@@ -27,6 +27,7 @@ use crate::part_making::{borrow_strings, borrow_tags, make_marks, make_part, mak
 use crate::series_reading::{ColumnParts, KeyParts, SeriesParts};
 use arrayvec::ArrayVec;
 use std::alloc::{AllocError, Allocator};
+use std::hash::RandomState;
 use ts_core::{KeyRef, Settings};
 use ts_raw::SeriesId;
 use ts_store::{Store, StoreBuilder};
@@ -192,9 +193,10 @@ fn add_all_cells<A: Allocator + Copy>(
     Ok(())
 }
 
-/// Begins a store with the settings, marks and numbers of an image.
+/// Begins a store with the settings, marks and numbers of an image, and a seed of the hashes of names.
 fn begin<A: Allocator + Copy>(
     alloc: A,
+    seed: RandomState,
     settings: Settings<A>,
     parts: &ImageParts<A>,
 ) -> Result<StoreBuilder<A>, AllocError>
@@ -202,12 +204,14 @@ fn begin<A: Allocator + Copy>(
     ensures { IfOk result (λ b. b ≡ new_built settings (image_of parts.now).marks (image_of parts.now).accepted ((image_of parts.now).runs == 1)) }
 {
     let marks = make_marks(alloc, &parts.marks)?;
-    StoreBuilder::new(alloc, settings, marks, parts.accepted, parts.runs == 1)
+    let running = parts.runs == 1;
+    StoreBuilder::new(alloc, settings, marks, parts.accepted, running, seed)
 }
 
-/// Creates a store from an image that was tested. Consumes its parts.
+/// Creates a store from an image that was tested, with a seed of the hashes of names. Consumes its parts.
 pub(crate) fn make_store<A: Allocator + Copy>(
     alloc: A,
+    seed: RandomState,
     image: LoadedImage<A>,
 ) -> Result<Store<A>, AllocError>
     requires possible { IsPossible image.version (image_of image.parts) }
@@ -219,7 +223,7 @@ pub(crate) fn make_store<A: Allocator + Copy>(
         parts,
         ..
     } = image;
-    let mut builder = begin(alloc, settings, &parts)?;
+    let mut builder = begin(alloc, seed, settings, &parts)?;
     let ImageParts { series, cells, .. } = parts;
     add_all_series(alloc, &mut builder, series)?;
     add_all_cells(alloc, &mut builder, &cells)?;

@@ -16,6 +16,7 @@ use crate::machine::Machine;
 use crate::reply::{Reply, TEXT_CAPACITY};
 use crate::run_fault::RunFault;
 use std::alloc::Global;
+use std::hash::RandomState;
 use std::io::{Read, Write};
 use ts_core::{OutputBuffer, Refused, Sink, Source};
 
@@ -81,9 +82,10 @@ fn answer_all<R: Read, W: Write>(
 }
 
 /// Answers each line of a script on the sink, beginning with an empty store and the time 0. Reads at most `reads`
-/// times. Allocates all buffers before the first line.
+/// times. Allocates all buffers before the first line. `seed`: of the hashes of names; no answer depends on it.
 pub fn run_within<R: Read, W: Write>(
     alloc: Global,
+    seed: RandomState,
     source: &mut Source<R>,
     sink: &mut Sink<W>,
     reads: u64,
@@ -93,7 +95,7 @@ pub fn run_within<R: Read, W: Write>(
     let mut lines = LineReader::new(alloc, reads)?;
     let mut text = String::with_capacity(alloc, TEXT_CAPACITY)?;
     let mut answers = OutputBuffer::new(alloc, BUFFER_SIZE)?;
-    let mut machine = Machine::new(alloc)?;
+    let mut machine = Machine::new(alloc, seed)?;
     answer_all(
         &mut machine,
         &mut lines,
@@ -107,10 +109,11 @@ pub fn run_within<R: Read, W: Write>(
 /// Answers each line of a script on the sink like `run_within`, with at most 2^32 reads.
 pub fn run<R: Read, W: Write>(
     alloc: Global,
+    seed: RandomState,
     source: &mut Source<R>,
     sink: &mut Sink<W>,
 ) -> Result<(), RunFault>
     ensures { IsReplay read_limit source.old sink.old result source.new sink.new }
 {
-    run_within(alloc, source, sink, READ_LIMIT)
+    run_within(alloc, seed, source, sink, READ_LIMIT)
 }

@@ -6,7 +6,7 @@
 //! ```text
 //! let mut source = Source::new(rt.reader());
 //! let mut sink = Sink::new(io::writer(&rt));
-//! run(rt.alloc(), &mut source, &mut sink)     // printf 'write cpu v=5i 1\ncount cpu v 0 10\n' prints ok and 1
+//! run(rt.alloc(), seed, &mut source, &mut sink)     // printf 'write cpu v=5i 1\ncount cpu v 0 10\n' prints ok and 1
 //! ```
 //!
 //! line_reader.rt cuts bytes into lines, command.rt parses a line, machine.rt takes one step, and reply.rt sends its

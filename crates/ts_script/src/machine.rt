@@ -18,6 +18,7 @@ use crate::reloading::{ReloadFault, reloaded};
 use crate::reply::Reply;
 use bumpalo::Bump;
 use std::alloc::{AllocError, Global};
+use std::hash::RandomState;
 use std::marker::Model;
 use std::str;
 use ts_core::{Settings, SettingsError, Time, TimeUnit};
@@ -25,10 +26,12 @@ use ts_reply::{Epoch, answer, explain};
 use ts_store::{LineOutcome, Store, View};
 
 /// State of a script: the settings of its commands, and its store. A command `settings` may still come until the first
-/// line that isn't skipped. `arena` holds the tags and fields of a line.
+/// line that isn't skipped. `arena` holds the tags and fields of a line. `seed` is that of the hashes of names in each
+/// store of the script.
 #[derive(Drop)]
 pub struct Machine {
     alloc: Global,
+    seed: RandomState,
     moment: Time,
     precision: TimeUnit,
     epoch: Epoch,
@@ -51,17 +54,19 @@ impl Model for Machine {
 
 impl Machine {
     /// Creates a machine with an empty store, at time 0, with timestamps in nanoseconds, and times of replies as text.
-    pub fn new(alloc: Global) -> Result<Machine, AllocError>
+    /// `seed`: of the hashes of names; no answer depends on it.
+    pub fn new(alloc: Global, seed: RandomState) -> Result<Machine, AllocError>
         ensures { IfOk result (λ m. IsMachineIn start m) }
     {
         Ok(Machine {
             alloc,
+            seed,
             moment: Time::new(0).unwrap(),
             precision: TimeUnit::Nanoseconds,
             epoch: Epoch::Text,
             fresh: true,
             certificate: None,
-            store: Store::new(alloc, Settings::open(alloc))?,
+            store: Store::new(alloc, Settings::open(alloc), seed)?,
             arena: Bump::new(alloc),
         })
     }
@@ -140,7 +145,7 @@ impl Machine {
         if !self.fresh {
             return Reply::Unknown;
         }
-        match store_with(self.alloc, text) {
+        match store_with(self.alloc, self.seed, text) {
             Ok(store) => {
                 self.store = store;
                 Reply::Nothing
@@ -206,7 +211,7 @@ impl Machine {
     fn reload(&mut self) -> Reply
         ensures { (s : State) → IsMachineIn s self.old → TransitionTo ReloadCommand s (text_of result) self.new }
     {
-        match reloaded(self.alloc, &self.store) {
+        match reloaded(self.alloc, self.seed, &self.store) {
             Ok(store) => {
                 self.store = store;
                 Reply::Reloaded

@@ -6,15 +6,21 @@ ghost use Rattle.ts_script.specs.ScriptReplies.{line, text_of};
 
 use crate::reply::Reply;
 use std::alloc::{AllocError, Global};
+use std::hash::RandomState;
 use ts_core::{Settings, SettingsError, SettingsFault};
 use ts_store::Store;
 
-/// Creates an empty store with the settings of a text, or returns their first error.
-pub(crate) fn store_with(alloc: Global, text: &str) -> Result<Store<Global>, SettingsError>
+/// Creates an empty store with the settings of a text and a seed of the hashes of names, or returns the first error of
+/// the settings.
+pub(crate) fn store_with(
+    alloc: Global,
+    seed: RandomState,
+    text: &str,
+) -> Result<Store<Global>, SettingsError>
     ensures { IsOpening text.now result }
 {
     let settings = Settings::read(alloc, alloc, text)?;
-    match Store::new(alloc, settings) {
+    match Store::new(alloc, settings, seed) {
         Ok(store) => Ok(store),
         Err(_) => Err(SettingsError::OutOfMemory),
     }

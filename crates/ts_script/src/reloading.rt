@@ -4,6 +4,7 @@ ghost use Rattle.ts_core.specs.store.StoreData.{OfEachHistory};
 ghost use Rattle.ts_script.specs.ReloadResults.{IsImageIn, DoesNotFit, IsReloadOf, save_failed, load_failed};
 
 use std::alloc::Global;
+use std::hash::RandomState;
 use ts_core::{Sink, Source};
 use ts_image::{LoadFault, SaveFault, load, save};
 use ts_store::Store;
@@ -57,8 +58,12 @@ fn saved(alloc: Global, store: &Store<Global>) -> Result<Vec<u8>, SaveFault>
 }
 
 /// Returns a store that is loaded from the image of this one. For a store with a history, fails only when out of
-/// memory.
-pub fn reloaded(alloc: Global, store: &Store<Global>) -> Result<Store<Global>, ReloadFault>
+/// memory. `seed`: of the hashes of names; no answer depends on it.
+pub fn reloaded(
+    alloc: Global,
+    seed: RandomState,
+    store: &Store<Global>,
+) -> Result<Store<Global>, ReloadFault>
     ensures reloaded { IfOk result (IsReloadOf store.now) }
     ensures memory { OfEachHistory store.now (λ opening h. IfErr result (λ e. e ≡ ReloadFault.OutOfMemory)) }
 {
@@ -69,7 +74,7 @@ pub fn reloaded(alloc: Global, store: &Store<Global>) -> Result<Store<Global>, R
         Err(fault) => return Err(ReloadFault::of_save(fault)),
     };
     let mut source = Source::new(bytes.as_slice());
-    match load(alloc, &mut source) {
+    match load(alloc, seed, &mut source) {
         Ok(store) => Ok(store),
         Err(fault) => Err(ReloadFault::of_load(fault)),
     }

@@ -15,6 +15,7 @@ ghost use Rattle.ts_store.specs.rollup.Rollups.{new_rollup, Extends, KeepsLists,
 
 use series_columns::SeriesColumns;
 use std::alloc::{AllocError, Allocator};
+use std::hash::RandomState;
 use std::marker::Model;
 use ts_cells::{Cells, Parts, RollupSeriesId, Walk};
 use ts_core::{Agg, Key, Rule, reserve_eighth};
@@ -50,16 +51,17 @@ impl<A: Allocator> Model for Rollup<A> {
     ghost invariant = { λ r. IsRollup r.cells.series_list r.series_list.items (lists_in r.columns.items) r.next (has_spare r.series_list) (capacities_in r.columns.items) };
 }
 
-/// Creates empty rollups for this number of rules.
+/// Creates empty rollups for this number of rules, with a seed of the hashes of their names.
 pub(crate) fn new_rollups<A: Allocator + Copy>(
     alloc: A,
+    seed: RandomState,
     rules: usize,
 ) -> Result<Vec<Rollup<A>, A>, AllocError>
     ensures { IfOk result (λ rollups. rollups.items ≡ replicate rules new_rollup) }
 {
     let mut rollups = Vec::with_capacity(alloc, rules)?;
     for _ in 0..rules {
-        rollups.push(Rollup::new(alloc))?;
+        rollups.push(Rollup::new(alloc, seed))?;
     }
     Ok(rollups)
 }
@@ -118,12 +120,12 @@ fn rollup_series_for<A: Allocator + Copy>(
 }
 
 impl<A: Allocator + Copy> Rollup<A> {
-    /// Creates an empty rollup. Does not allocate.
-    pub(crate) fn new(alloc: A) -> Rollup<A>
+    /// Creates an empty rollup, with a seed of the hashes of its names. Does not allocate.
+    pub(crate) fn new(alloc: A, seed: RandomState) -> Rollup<A>
         ensures { result ≡ new_rollup }
     {
         Rollup {
-            cells: Cells::new(alloc),
+            cells: Cells::new(alloc, seed),
             series_list: Vec::new(alloc),
             columns: Vec::new(alloc),
             next: None,

@@ -1,12 +1,12 @@
 //! Images over devices that transfer bytes in pieces, or fail.
 
-use crate::images::{IMAGE_LEN, saved, worked_image, worked_store};
+use crate::images::{IMAGE_LEN, load_seeded, saved, worked_image, worked_store};
 use std::alloc::Global;
 use std::test::Fail;
 use ts_core::{Sink, Source};
-use ts_image::{LoadFault, SaveFault, load, load_within, save};
+use ts_image::{LoadFault, SaveFault, load_within, save};
 use ts_store::Store;
-use ts_testkit::{Failure, NEVER, PieceReader, PieceWriter};
+use ts_testkit::{Failure, NEVER, PieceReader, PieceWriter, fixed_seed};
 
 /// Lengths of pieces, and the number of them in which the image is read or written.
 const PIECES: [(usize, usize); 4] = [(1, IMAGE_LEN), (2, 269), (100, 6), (1_000, 1)];
@@ -14,7 +14,7 @@ const PIECES: [(usize, usize); 4] = [(1, IMAGE_LEN), (2, 269), (100, 6), (1_000,
 /// Loads an image from a reader; returns the number of its calls, too.
 fn load_from(alloc: Global, reader: PieceReader<'_>) -> (Result<Store<Global>, LoadFault>, usize) {
     let mut source = Source::new(reader);
-    let result = load(alloc, &mut source);
+    let result = load_seeded(alloc, &mut source);
     (result, source.into_inner().calls)
 }
 
@@ -73,8 +73,9 @@ fn a_failed_read_stops_a_load(rt: HostRuntime) -> Result<(), Fail> {
 
 /// Returns the fault of loading bytes one by one with at most `reads` reads, if there is one.
 fn fault_within(alloc: Global, bytes: &[u8], reads: u32) -> Option<LoadFault> {
+    let seed = fixed_seed()?;
     let mut source = Source::new(PieceReader::new(bytes, 1, NEVER));
-    load_within(alloc, &mut source, u64::from(reads)).err()
+    load_within(alloc, seed, &mut source, u64::from(reads)).err()
 }
 
 /// Returns true if bytes need more reads than these.

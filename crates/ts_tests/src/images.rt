@@ -2,9 +2,11 @@
 
 use crate::stores::{NEW_LINES, ONE_RULE, at_second, fill_and_retain, store_of, write_all};
 use std::alloc::{Allocator, Global};
+use std::io::Read;
 use ts_core::{Sink, Source, Time};
 use ts_image::{LoadFault, load, save};
 use ts_store::Store;
+use ts_testkit::fixed_seed;
 
 /// Lengths of the fields of the image of `worked_store`, by the description of the form. A text is its length in eight
 /// bytes and its bytes.
@@ -60,7 +62,18 @@ pub(crate) fn worked_image(alloc: Global) -> Option<Vec<u8>> {
     saved(alloc, alloc, &store)
 }
 
+/// Loads an image with the seed of tests.
+pub(crate) fn load_seeded<R: Read, A: Allocator + Copy>(
+    alloc: A,
+    source: &mut Source<R>,
+) -> Result<Store<A>, LoadFault> {
+    match fixed_seed() {
+        Some(seed) => load(alloc, seed, source),
+        None => Err(LoadFault::Device),
+    }
+}
+
 /// Loads the image in some bytes.
 pub(crate) fn loaded(alloc: Global, bytes: &[u8]) -> Result<Store<Global>, LoadFault> {
-    load(alloc, &mut Source::new(bytes))
+    load_seeded(alloc, &mut Source::new(bytes))
 }

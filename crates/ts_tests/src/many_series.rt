@@ -16,6 +16,7 @@ use ts_ql::{Query, parse};
 use ts_raw::{Column, ColumnId, Index, PlainColumn, Points};
 use ts_reply::{Epoch, Outcome, reply_json};
 use ts_store::{CellWalk, Columns, Store, View};
+use ts_testkit::fixed_seed;
 
 /// Number of series.
 const SERIES: usize = 100_000;
@@ -326,7 +327,7 @@ fn right_in(
 /// Returns both numbers for an empty store and an empty index.
 fn right_of_both(alloc: Global) -> Option<(Option<usize>, Option<usize>)> {
     let mut store = store_of(alloc, alloc, SETTINGS)?;
-    let mut index = Index::new(alloc);
+    let mut index = Index::new(alloc, fixed_seed()?);
     Some(right_in(alloc, &mut store, &mut index))
 }
 

@@ -5,7 +5,7 @@ use std::alloc::{AllocError, Global};
 use std::test::Fail;
 use ts_core::{Sink, Source};
 use ts_script::{RunFault, run, run_within};
-use ts_testkit::{Failure, NEVER, PieceReader, PieceWriter};
+use ts_testkit::{Failure, NEVER, PieceReader, PieceWriter, fixed_seed};
 
 /// The lines of the script, and the output of each.
 const SCRIPT: [(&str, &str); 11] = [
@@ -97,9 +97,12 @@ fn run_up_to(
     sink: &mut Sink<PieceWriter>,
     reads: Option<u64>,
 ) -> Result<(), RunFault> {
+    let Some(seed) = fixed_seed() else {
+        return Err(RunFault::OutOfMemory);
+    };
     match reads {
-        Some(reads) => run_within(alloc, source, sink, reads),
-        None => run(alloc, source, sink),
+        Some(reads) => run_within(alloc, seed, source, sink, reads),
+        None => run(alloc, seed, source, sink),
     }
 }
 

@@ -6,6 +6,7 @@ use ts_core::{Settings, Time, TimeUnit};
 use ts_plan::plan;
 use ts_ql::{Query, count_query};
 use ts_store::{LineOutcome, StepAnswer, Store, View};
+use ts_testkit::fixed_seed;
 
 /// Raw points for two minutes, and a rule of a minute that keeps hosts.
 pub(crate) const ONE_RULE: &str =
@@ -42,8 +43,9 @@ pub(crate) fn store_of<A: Allocator + Copy>(
     json: Global,
     settings: &str,
 ) -> Option<Store<A>> {
+    let seed = fixed_seed()?;
     match Settings::read(alloc, json, settings) {
-        Ok(settings) => Store::new(alloc, settings).ok(),
+        Ok(settings) => Store::new(alloc, settings, seed).ok(),
         Err(_) => None,
     }
 }

@@ -5,7 +5,7 @@ use std::alloc::{AllocError, Global};
 use std::test::Fail;
 use ts_cells::{Cells, RollupSeriesId};
 use ts_core::{Agg, MAX_COUNT, Partial, Time};
-use ts_testkit::all_but_one;
+use ts_testkit::{all_but_one, fixed_seed};
 
 /// Returns the rollup series of field `v` without a group.
 fn rollup_series_of(cells: &mut Cells<Agg, Global>) -> Result<RollupSeriesId, AllocError>
@@ -50,10 +50,11 @@ fn first_wrong_low(cells: &mut Cells<Agg, Global>) -> Option<i128> {
 }
 
 #[test]
-fn cells_are_removed_in_portions(rt: HostRuntime) {
-    let mut cells = Cells::new(rt.alloc());
+fn cells_are_removed_in_portions(rt: HostRuntime) -> Result<(), Fail> {
+    let mut cells = Cells::new(rt.alloc(), fixed_seed().ok_or("a seed")?);
     assert!(rt; make_first(&mut cells, 300));
     assert_eq!(rt; first_wrong_low(&mut cells), None);
+    Ok(())
 }
 
 /// Returns true if exactly these buckets have cells, of those from one, inclusive, to another, exclusive.
@@ -82,12 +83,13 @@ fn make_all(cells: &mut Cells<Agg, Global>, indices: &[i128]) -> bool {
 }
 
 #[test]
-fn buckets_have_any_index(rt: HostRuntime) {
-    let mut cells = Cells::new(rt.alloc());
+fn buckets_have_any_index(rt: HostRuntime) -> Result<(), Fail> {
+    let mut cells = Cells::new(rt.alloc(), fixed_seed().ok_or("a seed")?);
     assert!(rt; make_all(&mut cells, &[0, i128::MAX, i128::MIN, -1]));
     assert!(rt; has_buckets(&cells, i128::MIN, i128::MAX, &[i128::MIN, -1, 0]));
     assert!(rt; has_buckets(&cells, 1, i128::MAX, &[]));
     assert!(rt; has_buckets(&cells, 1, -1, &[]));
+    Ok(())
 }
 
 /// Returns the counts of the frozen and the live part of the cell of bucket 0.
@@ -110,7 +112,7 @@ fn a_count_has_a_limit(rt: HostRuntime) -> Result<(), Fail> {
     let time = Time::least();
     let one = Agg::single(time, 1);
     let most = all_but_one(time).ok_or("a count")?;
-    let mut cells = Cells::new(rt.alloc());
+    let mut cells = Cells::new(rt.alloc(), fixed_seed().ok_or("a seed")?);
     // without a cell nothing is added
     assert_eq!(rt; add_to_both(&mut cells, one), None);
     assert!(rt; make_all(&mut cells, &[0]));

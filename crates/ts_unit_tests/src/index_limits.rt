@@ -2,8 +2,10 @@
 
 use itoa::Buffer;
 use std::alloc::Global;
+use std::test::Fail;
 use ts_core::KeyRef;
 use ts_raw::{Index, IndexFault, SERIES_LIMIT, SeriesId};
+use ts_testkit::fixed_seed;
 
 /// Registers the series of a measurement that is a number.
 fn register(index: &mut Index<Global>, number: usize) -> Result<SeriesId, IndexFault> {
@@ -22,8 +24,9 @@ fn register_all(index: &mut Index<Global>, count: usize) -> bool {
 }
 
 #[test]
-fn one_series_too_many_is_refused(rt: HostRuntime) {
-    let mut index = Index::new(rt.alloc());
+fn one_series_too_many_is_refused(rt: HostRuntime) -> Result<(), Fail> {
+    let seed = fixed_seed().ok_or("a seed")?;
+    let mut index = Index::new(rt.alloc(), seed);
     assert!(rt; register_all(&mut index, SERIES_LIMIT));
     let next = register(&mut index, SERIES_LIMIT);
     assert!(rt; next == Err(IndexFault::TooManySeries));
@@ -32,4 +35,5 @@ fn one_series_too_many_is_refused(rt: HostRuntime) {
     for number in [0, 500_000, 999_999] {
         assert!(rt; register(&mut index, number).is_ok(), "{number}");
     }
+    Ok(())
 }

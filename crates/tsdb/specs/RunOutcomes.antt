@@ -6,9 +6,9 @@ use Rattle.tsdb.specs.declared.command_line.CliOutcome.TheVariants as cli_outcom
 use Rattle.ts_script.specs.declared.run_fault.RunFault.{RunFault}
 use Rattle.ts_script.specs.declared.run_fault.RunFault.TheVariants.{OutOfMemory, Reader, Writer, TooManyReads}
 use Rattle.tsdb.specs.declared.outcome.Outcome.{Outcome}
-use Rattle.tsdb.specs.declared.outcome.Outcome.TheVariants.{Answered, Stopped, NoScript, NoFault, NoText}
+use Rattle.tsdb.specs.declared.outcome.Outcome.TheVariants.{Answered, Stopped, NoScript, NoFault, NoText, NoSeed}
 
--- 0 for success, 1 for a device error or endless input, 2 for a wrong command line, 3 when out of memory
+-- 0 for success, 1 for a device error, endless input or no random bytes, 2 for a wrong command line, 3 when out of memory
 abbrev pub status_of : Outcome → ℕ
 status_of Answered = 0
 status_of (NoScript cli_outcome.Done) = 0
@@ -16,6 +16,7 @@ status_of (NoScript cli_outcome.Device) = 1
 status_of (Stopped Reader) = 1
 status_of (Stopped Writer) = 1
 status_of (Stopped TooManyReads) = 1
+status_of NoSeed = 1
 status_of (NoScript cli_outcome.Wrong) = 2
 status_of NoFault = 2
 status_of NoText = 2
@@ -43,3 +44,4 @@ error_line (NoScript cli_outcome.Device) = Some (codes "tsdb: standard output or
 error_line (NoScript cli_outcome.OutOfMemory) = Some (codes "tsdb: there is no memory to answer the command line")
 error_line NoFault = Some (codes "tsdb: no fault has this number; `tsdb faults` prints them all")
 error_line NoText = Some (codes "tsdb: the command line can't be read as text")
+error_line NoSeed = Some (codes "tsdb: the system gave no random bytes")

@@ -15,6 +15,7 @@ use crate::outcome::Outcome;
 use clap::Error;
 use std::alloc::Global;
 use std::convert::AsStr;
+use std::hash::RandomState;
 use std::io::{Read, Write};
 use std::rt::Env;
 use std::{env, io};
@@ -50,9 +51,11 @@ pub enum Answer<'a> {
 }
 
 /// Carries out the action that the words of a command line request; the first is the program's name. Reads a script
-/// from the source and prints answers to the sink. `rt` prints clap's texts.
+/// from the source and prints answers to the sink. `rt` prints clap's texts. `seed`: of the hashes of names; no answer
+/// depends on it.
 pub fn answer_arguments<'a, S: AsStr, R: Read, W: Write>(
     rt: &(impl AllocGlobal + Print + Eprint),
+    seed: RandomState,
     words: &'a [S],
     source: &mut Source<R>,
     sink: &mut Sink<W>,
@@ -60,7 +63,7 @@ pub fn answer_arguments<'a, S: AsStr, R: Read, W: Write>(
     ensures { IsCall (map S.text words.entry.now) source.old sink.old result source.new sink.new }
 {
     match parse(rt.alloc(), words) {
-        Ok(Action::Replay) => Answer::Outcome(replay(rt.alloc(), source, sink)),
+        Ok(Action::Replay) => Answer::Outcome(replay(rt.alloc(), seed, source, sink)),
         Ok(Action::Faults(number)) => Answer::Outcome(print_faults(rt.alloc(), number, sink)),
         Ok(Action::Inspect(inspection)) => Answer::Inspection(inspection),
         Ok(Action::Serve(service)) => Answer::Service(service),
@@ -86,10 +89,15 @@ fn print_faults<W: Write>(alloc: Global, number: Option<&str>, sink: &mut Sink<W
 }
 
 /// Runs a script.
-fn replay<R: Read, W: Write>(alloc: Global, source: &mut Source<R>, sink: &mut Sink<W>) -> Outcome
+fn replay<R: Read, W: Write>(
+    alloc: Global,
+    seed: RandomState,
+    source: &mut Source<R>,
+    sink: &mut Sink<W>,
+) -> Outcome
     ensures { IsReplayed source.old sink.old result source.new sink.new }
 {
-    match run(alloc, source, sink) {
+    match run(alloc, seed, source, sink) {
         Ok(()) => Outcome::Answered,
         Err(fault) => Outcome::Stopped(fault),
     }

@@ -5,6 +5,7 @@ ghost use Rattle.tsdb.specs.Services.{IsFromImage};
 
 use std::alloc::{AllocError, Global};
 use std::fs::{File, OpenFile, OpenOptions};
+use std::hash::RandomState;
 use std::io::Write;
 use std::os::unix::fs::OpenOptionsExt;
 use std::path::Path;
@@ -210,6 +211,7 @@ impl<'a> ImageFile<'a> {
     pub fn load<R: Files + AllocGlobal>(
         &self,
         rt: &R,
+        seed: RandomState,
     ) -> Result<Option<Store<Global>>, Failed<LoadFault>>
         ensures { IfOk result (λ found. IfSome found IsFromImage) }
     {
@@ -218,7 +220,7 @@ impl<'a> ImageFile<'a> {
             Err(error) if error.kind() == io::ErrorKind::NotFound => return Ok(None),
             Err(error) => return Err(not_loaded(error)),
         };
-        match load(rt.alloc(), &mut source) {
+        match load(rt.alloc(), seed, &mut source) {
             Ok(store) => Ok(Some(store)),
             Err(fault) => Err(Failed { fault, cause: None }),
         }

@@ -11,6 +11,7 @@ use crate::inspect_fault::InspectFault;
 use crate::measured::Measured;
 use crate::summary::Summary;
 use std::alloc::{AllocError, Global};
+use std::hash::RandomState;
 use std::io;
 use std::io::Write;
 use std::process::ExitCode;
@@ -28,14 +29,18 @@ struct Loaded {
 }
 
 /// Loads the store of an image.
-fn load_image<R: Files + AllocGlobal>(rt: &R, image: &str) -> Result<Loaded, Failed<LoadFault>>
+fn load_image<R: Files + AllocGlobal>(
+    rt: &R,
+    seed: RandomState,
+    image: &str,
+) -> Result<Loaded, Failed<LoadFault>>
     ensures { IfOk result (λ loaded. IsFromImage loaded.store) }
 {
     let mut source = match open_image(rt, image) {
         Ok(file) => Source::new(Measured::new(file)),
         Err(error) => return Err(not_loaded(error)),
     };
-    match load(rt.alloc(), &mut source) {
+    match load(rt.alloc(), seed, &mut source) {
         Ok(store) => {
             let measured = source.into_inner();
             Ok(Loaded {
@@ -110,13 +115,19 @@ fn report(
 }
 
 /// Prints what an image holds, and returns the exit status: 0, or that of a fault, which is printed on standard error.
-pub fn inspect<R, W>(rt: &R, inspection: &Inspection<'_>, sink: &mut Sink<W>) -> ExitCode
+/// `seed`: of the hashes of names.
+pub fn inspect<R, W>(
+    rt: &R,
+    seed: RandomState,
+    inspection: &Inspection<'_>,
+    sink: &mut Sink<W>,
+) -> ExitCode
 where
     R: Files + AllocGlobal + Eprint,
     W: Write,
     ensures { IsInspectStatus (exit_status result) }
 {
-    let loaded = match load_image(rt, inspection.image) {
+    let loaded = match load_image(rt, seed, inspection.image) {
         Ok(loaded) => loaded,
         Err(failed) => {
             let fault = InspectFault::of_load(failed.fault);

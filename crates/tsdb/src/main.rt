@@ -38,8 +38,9 @@ mod unread;
 
 use call::{Answer, answer_arguments, read_arguments};
 use inspect::inspect;
-use outcome::end;
+use outcome::{Outcome, end};
 use service::serve;
+use std::hash::RandomState;
 use std::io;
 use std::process::ExitCode;
 use ts_core::{Sink, Source};
@@ -49,11 +50,14 @@ fn main(rt: HostRuntime) -> ExitCode {
         Ok(words) => words,
         Err(outcome) => return end(&rt, outcome),
     };
+    let Ok(seed) = RandomState::new(&rt) else {
+        return end(&rt, Outcome::NoSeed);
+    };
     let mut source = Source::new(rt.reader());
     let mut sink = Sink::new(io::writer(&rt));
-    match answer_arguments(&rt, words.as_slice(), &mut source, &mut sink) {
+    match answer_arguments(&rt, seed, words.as_slice(), &mut source, &mut sink) {
         Answer::Outcome(outcome) => end(&rt, outcome),
-        Answer::Inspection(inspection) => inspect(&rt, &inspection, &mut sink),
-        Answer::Service(service) => serve(&rt, &service),
+        Answer::Inspection(inspection) => inspect(&rt, seed, &inspection, &mut sink),
+        Answer::Service(service) => serve(&rt, seed, &service),
     }
 }

@@ -20,10 +20,12 @@ pub enum Outcome {
     NoFault,
     /// Command line that isn't valid text.
     NoText,
+    /// The system gave no random bytes for the seed of the hashes.
+    NoSeed,
 }
 
 impl Outcome {
-    /// Returns the exit status: 0 for success, 1 for a device error or endless input, 2 for a wrong command line, 3
+    /// Returns the exit status: 0 for success, 1 for a device error, endless input or no random bytes, 2 for a wrong command line, 3
     /// when out of memory.
     pub fn exit_code(self) -> ExitCode
         ensures { exit_status result ≡ status_of self }
@@ -37,7 +39,8 @@ impl Outcome {
         match self {
             Outcome::Answered | Outcome::NoScript(CliOutcome::Done) => 0,
             Outcome::Stopped(RunFault::Reader | RunFault::Writer | RunFault::TooManyReads)
-            | Outcome::NoScript(CliOutcome::Device) => 1,
+            | Outcome::NoScript(CliOutcome::Device)
+            | Outcome::NoSeed => 1,
             Outcome::NoScript(CliOutcome::Wrong) | Outcome::NoFault | Outcome::NoText => 2,
             Outcome::Stopped(RunFault::OutOfMemory) | Outcome::NoScript(CliOutcome::OutOfMemory) =>
                 3,
@@ -61,6 +64,7 @@ impl Outcome {
                 Some("tsdb: no fault has this number; `tsdb faults` prints them all")
             }
             Outcome::NoText => Some("tsdb: the command line can't be read as text"),
+            Outcome::NoSeed => Some("tsdb: the system gave no random bytes"),
             Outcome::Stopped(fault) => Some(stopped_line(fault)),
         }
     }

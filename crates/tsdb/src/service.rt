@@ -16,6 +16,7 @@ use crate::service_fault::ServiceFault;
 use crate::settings_cause::cause_of;
 use std::alloc::{AllocError, Global};
 use std::fs::File;
+use std::hash::RandomState;
 use std::net::{Net, TcpListener, TcpStream};
 use std::process::ExitCode;
 use std::rt::{Clock, Files};
@@ -66,12 +67,12 @@ impl Failure {
 }
 
 /// Creates an empty store with the settings of a text, or returns their first error.
-fn store_with(alloc: Global, text: &str) -> Result<Store<Global>, SettingsError>
+fn store_with(alloc: Global, seed: RandomState, text: &str) -> Result<Store<Global>, SettingsError>
     ensures ok { IfOk result (IsNew text.now) }
     ensures fault { IfErr result (λ e. (f : SettingsFault) → e ≡ errors.Fault f → settings_read text.now ≡ Err f) }
 {
     let settings = Settings::read(alloc, alloc, text)?;
-    match Store::new(alloc, settings) {
+    match Store::new(alloc, settings, seed) {
         Ok(store) => Ok(store),
         Err(_) => Err(SettingsError::OutOfMemory),
     }
@@ -80,11 +81,12 @@ fn store_with(alloc: Global, text: &str) -> Result<Store<Global>, SettingsError>
 /// Loads the store of the image, or returns `None` if there is no image.
 fn load_image<R: Files + AllocGlobal>(
     rt: &R,
+    seed: RandomState,
     image: &ImageFile<'_>,
 ) -> Result<Option<Store<Global>>, Failure>
     ensures { IfOk result (λ found. IfSome found IsFromImage) }
 {
-    match image.load(rt) {
+    match image.load(rt, seed) {
         Ok(found) => Ok(found),
         Err(failed) => {
             let fault = ServiceFault::of_load(failed.fault);
@@ -96,6 +98,7 @@ fn load_image<R: Files + AllocGlobal>(
 /// Returns the store of the image, or, if there is no image, an empty one with the settings of the file.
 fn open_store<R: Files + AllocGlobal>(
     rt: &R,
+    seed: RandomState,
     service: &Service<'_>,
     loaded: Option<Store<Global>>,
 ) -> Result<Store<Global>, Failure>
@@ -111,7 +114,7 @@ fn open_store<R: Files + AllocGlobal>(
             return Err(Failure::of_system(rt.alloc(), ServiceFault::of_file(&error), &error));
         }
     };
-    match store_with(rt.alloc(), text.as_str()) {
+    match store_with(rt.alloc(), seed, text.as_str()) {
         Ok(store) => Ok(store),
         Err(error) => Err(Failure::of_settings(rt.alloc(), &error, text.as_str())),
     }
@@ -145,7 +148,12 @@ where
 }
 
 /// Serves the requested number of connections, and saves the image.
-fn run_service<R>(rt: &R, service: &Service<'_>, reports: &mut Reports) -> Result<(), Failure>
+fn run_service<R>(
+    rt: &R,
+    seed: RandomState,
+    service: &Service<'_>,
+    reports: &mut Reports,
+) -> Result<(), Failure>
 where
     R: Files<File = File>
         + Clock
@@ -154,9 +162,9 @@ where
         + Net<Listener = TcpListener, Stream = TcpStream>,
 {
     let mut image = locked_image(rt, service, reports)?;
-    let loaded = load_image(rt, &image)?;
+    let loaded = load_image(rt, seed, &image)?;
     let is_loaded = loaded.is_some();
-    let mut store = open_store(rt, service, loaded)?;
+    let mut store = open_store(rt, seed, service, loaded)?;
     let listener = match TcpListener::bind(rt, ("127.0.0.1", service.port)) {
         Ok(listener) => listener,
         Err(error) => {
@@ -198,8 +206,8 @@ fn exit_code(fault: ServiceFault) -> ExitCode
 }
 
 /// Serves the requests, and returns the exit status: 0 once the image is saved at the end, otherwise that of the fault.
-/// A fault is printed on standard error.
-pub fn serve<R>(rt: &R, service: &Service<'_>) -> ExitCode
+/// A fault is printed on standard error. `seed`: of the hashes of names; no answer depends on it.
+pub fn serve<R>(rt: &R, seed: RandomState, service: &Service<'_>) -> ExitCode
 where
     R: Files<File = File>
         + Clock
@@ -213,7 +221,7 @@ where
         let _ = eprintln!(rt; "tsdb: out of memory");
         return exit_code(ServiceFault::OutOfMemory);
     };
-    match run_service(rt, service, &mut reports) {
+    match run_service(rt, seed, service, &mut reports) {
         Ok(()) => ExitCode::from(0),
         Err(failure) => {
             if let Ok(line) = line_of(rt.alloc(), service, &failure) {

@@ -19,7 +19,7 @@ fn rollup_over<A: Allocator + Copy>(
 ) -> Result<Rollup<A>, AllocError>
     ensures { IfOk result (HasFirstRollupSeries rule.now index.now.columns (length index.now.columns)) }
 {
-    let mut rollup = Rollup::new(alloc);
+    let mut rollup = Rollup::new(alloc, index.seed());
     for number in 0..index.column_count() {
         let column = ColumnId::new(number)?;
         let key = index.key_of(index.series_of(column));

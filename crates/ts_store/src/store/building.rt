@@ -15,6 +15,7 @@ use crate::retain::run::Run;
 use crate::store::Store;
 use crate::store::column_facts::ColumnFacts;
 use std::alloc::{AllocError, Allocator};
+use std::hash::RandomState;
 use std::marker::Model;
 use ts_core::{Agg, KeyRef, Marks, Settings, Time};
 use ts_raw::SeriesId;
@@ -45,17 +46,18 @@ impl<A: Allocator> Model for StoreBuilder<A> {
 }
 
 impl<A: Allocator + Copy> StoreBuilder<A> {
-    /// Begins a store without series and columns.
+    /// Begins a store without series and columns. `seed`: of the hashes of names; no answer depends on it.
     pub fn new(
         alloc: A,
         settings: Settings<A>,
         marks: Marks<A>,
         accepted: u64,
         running: bool,
+        seed: RandomState,
     ) -> Result<StoreBuilder<A>, AllocError>
         ensures { IfOk result (λ b. b ≡ new_built settings marks accepted running) }
     {
-        let facts = ColumnFacts::new(alloc, settings.rules().len())?;
+        let facts = ColumnFacts::new(alloc, seed, settings.rules().len())?;
         Ok(StoreBuilder {
             settings,
             marks,

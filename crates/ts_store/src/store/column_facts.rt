@@ -21,6 +21,7 @@ use crate::write::columns::prepare_line;
 use crate::write::committing::commit_points;
 use crate::write::creating::create_cells;
 use std::alloc::{AllocError, Allocator};
+use std::hash::RandomState;
 use std::marker::Model;
 use ts_core::{KeyRef, Rule};
 use ts_line::Line;
@@ -53,13 +54,17 @@ impl<A: Allocator> Model for ColumnFacts<A> {
 }
 
 impl<A: Allocator + Copy> ColumnFacts<A> {
-    /// Creates an empty index without columns, and this number of empty rollups.
-    pub(crate) fn new(alloc: A, rules: usize) -> Result<ColumnFacts<A>, AllocError>
+    /// Creates an empty index without columns, and this number of empty rollups, with a seed of the hashes of names.
+    pub(crate) fn new(
+        alloc: A,
+        seed: RandomState,
+        rules: usize,
+    ) -> Result<ColumnFacts<A>, AllocError>
         ensures { IfOk result (λ f. f ≡ record { series = []; columns = []; rollups = replicate rules new_rollup }) }
     {
-        let rollups = new_rollups(alloc, rules)?;
+        let rollups = new_rollups(alloc, seed, rules)?;
         Ok(ColumnFacts {
-            index: Index::new(alloc),
+            index: Index::new(alloc, seed),
             columns: Vec::new(alloc),
             rollups,
             touched: Vec::new(alloc),

@@ -1,10 +1,10 @@
 //! Images that are saved into a vector, and loaded.
 
 use super::trial::{Answer, Call, Flaw, Trial, UNCHANGED};
-use crate::images::saved;
+use crate::images::{load_seeded, saved};
 use std::alloc::Allocator;
 use ts_core::{Sink, Source};
-use ts_image::{LoadFault, SaveFault, load, save};
+use ts_image::{LoadFault, SaveFault, save};
 use ts_store::Store;
 use ts_testkit::Refusing;
 
@@ -17,7 +17,7 @@ struct Load<'i> {
 impl<'i, A: Allocator + Copy> Call<A> for Load<'i> {
     fn make(&self, alloc: A, store: &mut Store<A>) -> Answer {
         let mut source = Source::new(self.image);
-        match load(alloc, &mut source) {
+        match load_seeded(alloc, &mut source) {
             Ok(loaded) => {
                 *store = loaded;
                 Answer::Right

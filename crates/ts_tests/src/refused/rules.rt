@@ -4,7 +4,7 @@ use super::trial::{Answer, Call, Trial, UNCHANGED};
 use std::alloc::{Allocator, Global};
 use ts_core::{Settings, SettingsError};
 use ts_store::{Store, View};
-use ts_testkit::Refusing;
+use ts_testkit::{Refusing, fixed_seed};
 
 /// A rule of ten minutes. Its first bucket from the raw mark on starts at 600 seconds.
 const RULE: &str =
@@ -63,7 +63,10 @@ struct NewStore {
 
 /// Returns the answer of creating a store with these settings.
 fn created<A: Allocator + Copy>(alloc: A, settings: Settings<A>) -> Answer {
-    match Store::new(alloc, settings) {
+    let Some(seed) = fixed_seed() else {
+        return Answer::Wrong;
+    };
+    match Store::new(alloc, settings, seed) {
         Ok(store) => Answer::new(are_right(store.settings()) && store.accepted() == 0),
         Err(_) => Answer::OutOfMemory,
     }
