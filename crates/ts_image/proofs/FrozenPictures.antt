@@ -1,13 +1,15 @@
 -- The frozen part of a pictured cell: the aggregate of the cell's facts from before the raw mark, so its image passes
 -- the tests.
-use Rattle.std.proofs.Common.{◌≡◌, ℤ, ◌≤ℤ◌, ◌<ℤ◌, Bool, true, false, cond, not, ◌&&◌, List, [], ◌∷◌, filter, sym, ◌∙◌, ap, subst, inl, inr, ◌⊎◌, ⊎_elim, true≢false, arith}
+use Rattle.std.proofs.Common.{◌≡◌, ℤ, ◌≤ℤ◌, ◌<ℤ◌, Bool, true, false, cond, not, ◌&&◌, List, [], ◌∷◌, length, filter, sym, ◌∙◌, ap, subst, inl, inr, ◌⊎◌, ⊎_elim, true≢false, arith}
 use Rattle.std.specs.List.{AllByRecursion}
 use Rattle.std.specs.Int.Signed.{≤ℤ_refl}
 use Rattle.std.proofs.lemmas.Int.{ints, by_lt_z}
 use Rattle.std.proofs.lemmas.Bool.{and_parts, not-true}
+use Rattle.std.proofs.lemmas.List.{length-map}
 use Rattle.ts_core.specs.lists.Members.{Among}
 use Rattle.ts_core.specs.facts.Times.{IsTime}
 use Rattle.ts_core.specs.facts.Facts.{Column, Fact}
+use Rattle.ts_core.specs.facts.Tags.{tag_value}
 use Rattle.ts_core.specs.settings.Settings.{Rule, Settings}
 use Rattle.ts_core.specs.store.History.{History, Line, Begin, Step, AddRule, DropRule, accepted, put_before, raw_mark, MayBeTaken, IsLawful}
 use Rattle.ts_core.specs.facts.Latest.{latest_of}
@@ -118,6 +120,7 @@ frozen_cell opening h waiting r low c lawful kept name e =
     record {
       kept = kept;
       field = name;
+      group = (let some = frozen_some opening h waiting (rule_in r) c e in sym (ap (λ (x : Cell). length x.group) some.1.cell) ∙ length-map r.kept_tags (tag_value some.0.column.series));
       spread = sound;
       values = le_trans c.extremes.min c.extremes.first.1 c.extremes.max first.min first.max;
       first = frozen_time opening h r c.cell lawful fs each c.extremes.first ends.reached.first;

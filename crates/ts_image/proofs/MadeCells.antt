@@ -1,5 +1,5 @@
 -- The cells created from an image's: exactly those, each with its frozen part.
-use Rattle.std.proofs.Common.{◌≡◌, ◌⊎◌, ℕ, ◌+◌, ◌≤◌, ◌<◌, ℤ, true, false, cond, List, [], ◌∷◌, map, refl, sym, ◌∙◌, ap, subst, inl, inr, ⊎_elim, true≢false, arith, Some, None, Option}
+use Rattle.std.proofs.Common.{◌≡◌, ◌⊎◌, ℕ, ◌+◌, ◌≤◌, ◌<◌, ℤ, true, false, cond, List, [], ◌∷◌, length, map, refl, sym, ◌∙◌, ap, subst, inl, inr, ⊎_elim, true≢false, arith, Some, None, Option}
 use Rattle.std.specs.FinMap as finmap
 use Rattle.std.specs.FinMap.{get-insert, get-empty}
 use Rattle.ts_core.specs.lists.Members.{Among, AllDistinct}
@@ -11,7 +11,7 @@ use Rattle.ts_core.specs.store.StoreData.{CellMap, no_parts}
 use Rattle.ts_core.proofs.moves.MovesStand.{key_not}
 use Rattle.ts_core.proofs.plans.PieceCells.{cells_total, same_cell-eq, same_cell-refl}
 use Rattle.ts_store.specs.store.CellCounts.{HoldsFew, HoldFew}
-use Rattle.ts_store.specs.store.CellIndices.{HasIndices, HaveIndices}
+use Rattle.ts_store.specs.store.PossibleCells.{HasPossibleCells, HavePossibleCells}
 use Rattle.ts_store.proofs.retain.BatchesLeft.{other_cell}
 use Rattle.ts_image.specs.declared.version.Version.{Version}
 use Rattle.ts_image.specs.Images.{ImageRule, ImageSeries, ImageCell, ImageData}
@@ -86,11 +86,11 @@ cells_once mark r low cs are = rising_distinct cells_total (map cell_at cs) are.
 few_held : (n : ℕ) (ss : List ImageSeries) (r : ImageRule) (cs : List ImageCell) → AllDistinct (map cell_at cs) → count_frozen cs + points_of_measurement r.measurement ss ≤ n → HoldsFew n (columns_of_image ss) (rule_in r) (cells_in cs)
 few_held n ss r cs once most k = few_in_cell n (rule_in r) ss (cells_in cs) cs most (part_there cs once) (λ q some. part_from cs q some) k
 
-timed : (mark : ℤ) (r : ImageRule) (low : ℤ) (cs : List ImageCell) → AreImageCells mark r low cs → HasIndices (rule_in r) (cells_in cs)
-timed mark r low cs are k a =
+possible : (mark : ℤ) (r : ImageRule) (low : ℤ) (cs : List ImageCell) → AreImageCells mark r low cs → HasPossibleCells (rule_in r) (cells_in cs)
+possible mark r low cs are k a =
     let h = from_image cs k (key_not (cells_in cs) k a) in
-    let first = (all_among (IsImageCell mark r low) cs are.each h.0 h.1).first in
-    (h.0.extremes.first.0, first.valid, first.bucket ∙ ap (λ (c : Cell). c.index) h.2)
+    let is = all_among (IsImageCell mark r low) cs are.each h.0 h.1 in
+    record { index = (h.0.extremes.first.0, is.first.valid, is.first.bucket ∙ ap (λ (c : Cell). c.index) h.2); group = ap (λ (c : Cell). length c.group) (sym h.2) ∙ is.group }
 
 pub all_held : (v : Version) (d : ImageData) (mark : ℤ) (rs : List ImageRule) (lows : List ℤ) (cs : List (List ImageCell)) → AreLows v mark rs lows → CellsAre mark rs lows cs → AreCounted d rs cs → HoldFew d.accepted (columns_of_image d.series) (map rule_in rs) (map cells_in cs)
 all_held v d mark [] lows cs low are few = tt
@@ -98,8 +98,8 @@ all_held v d mark (r ∷ rs) [] cs low are few = absurd low
 all_held v d mark (r ∷ rs) (l ∷ lows) [] low are few = tt
 all_held v d mark (r ∷ rs) (l ∷ lows) (c ∷ cs) low are few = (few_held d.accepted d.series r c (cells_once mark r l c are.0) few.0, all_held v d mark rs lows cs low.1 are.1 few.1)
 
-pub all_timed : (v : Version) (mark : ℤ) (rs : List ImageRule) (lows : List ℤ) (cs : List (List ImageCell)) → AreLows v mark rs lows → CellsAre mark rs lows cs → HaveIndices (map rule_in rs) (map cells_in cs)
-all_timed v mark [] lows cs low are = tt
-all_timed v mark (r ∷ rs) [] cs low are = absurd low
-all_timed v mark (r ∷ rs) (l ∷ lows) [] low are = tt
-all_timed v mark (r ∷ rs) (l ∷ lows) (c ∷ cs) low are = (timed mark r l c are.0, all_timed v mark rs lows cs low.1 are.1)
+pub all_possible : (v : Version) (mark : ℤ) (rs : List ImageRule) (lows : List ℤ) (cs : List (List ImageCell)) → AreLows v mark rs lows → CellsAre mark rs lows cs → HavePossibleCells (map rule_in rs) (map cells_in cs)
+all_possible v mark [] lows cs low are = tt
+all_possible v mark (r ∷ rs) [] cs low are = absurd low
+all_possible v mark (r ∷ rs) (l ∷ lows) [] low are = tt
+all_possible v mark (r ∷ rs) (l ∷ lows) (c ∷ cs) low are = (possible mark r l c are.0, all_possible v mark rs lows cs low.1 are.1)

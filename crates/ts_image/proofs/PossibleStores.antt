@@ -15,7 +15,7 @@ use Rattle.ts_image.specs.ImageTests.{rule_in, IsLow, AreLows, IsImagePoint, IsI
 use Rattle.ts_image.specs.PartsMade.{HasPart}
 use Rattle.ts_image.specs.StoresMade.{is_column_waiting, waits_in, cells_in, with_each, built_in, IsAddedColumn, IsAddedSeries, AreAddedCells}
 use Rattle.ts_image.proofs.Counted.{few_frozen}
-use Rattle.ts_image.proofs.MadeCells.{all_held, all_timed}
+use Rattle.ts_image.proofs.MadeCells.{all_held, all_possible}
 use Rattle.ts_image.proofs.Orders.{all_among, among_all}
 use Rattle.ts_image.proofs.RawPictures.{points_counted, not_one}
 
@@ -56,7 +56,7 @@ buildable v d p = record {
   facts = let points = p.points in let same = points_counted d.series in omega (arith, points, same);
   lows = low_indices v d.marks.raw d.settings.rules d.marks.lows p.lows;
   counts = all_held v d d.marks.raw d.settings.rules d.marks.lows d.cells p.lows p.cells p.counted;
-  indices = all_timed v d.marks.raw d.settings.rules d.marks.lows d.cells p.lows p.cells;
+  possible = all_possible v d.marks.raw d.settings.rules d.marks.lows d.cells p.lows p.cells;
   idle = λ e. idle_series d.marks.raw d.runs (not_one d.runs e p.runs) d.series p.series;
 }
 

@@ -77,7 +77,7 @@ near_lows opening h (r ∷ rs) wide lasting =
 
 -- ---- sums of cells
 
-pub from_low : (low : ℤ) (cs : List ImageCell) → AllByRecursion (λ (c : ImageCell). low ≤ℤ c.cell.index) cs → AreFrom low (map (λ (c : ImageCell). c.cell) cs)
+from_low : (low : ℤ) (cs : List ImageCell) → AllByRecursion (λ (c : ImageCell). low ≤ℤ c.cell.index) cs → AreFrom low (map (λ (c : ImageCell). c.cell) cs)
 from_low low [] h = tt
 from_low low (c ∷ cs) h = (h.0, from_low low cs h.1)
 

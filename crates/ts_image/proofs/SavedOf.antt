@@ -1,9 +1,10 @@
 -- Columns and cells of a store as they are saved.
-use Rattle.std.proofs.Common.{◌≡◌, ◌↔◌, ℕ, ℤ, zero, suc, ◌<◌, Bool, true, false, ◌&&◌, cond, int_le, nat_lt, List, [], ◌∷◌, length, map, filter, refl, sym, arith}
+use Rattle.std.proofs.Common.{◌≡◌, ◌↔◌, ℕ, ℤ, zero, suc, add-one, ◌+◌, ◌-◌, ◌<◌, Bool, true, false, ◌&&◌, cond, int_le, nat_lt, List, [], ◌∷◌, ◌++◌, length, map, filter, take, drop, refl, sym, ap, ◌∙◌, arith}
 use Rattle.std.specs.Prelude.{IsTrue, slice_index_or}
 use Rattle.std.specs.Int.{w32, w64}
 use Rattle.std.specs.List.{AllByRecursion}
 use Rattle.std.specs.FinMap as finmap
+use Rattle.std.proofs.lemmas.List.{take_all}
 use Rattle.ts_core.specs.lists.Members.{Among}
 use Rattle.ts_core.specs.lists.Numbered.{IsAt}
 use Rattle.ts_core.specs.facts.Facts.{Text, Column}
@@ -12,12 +13,14 @@ use Rattle.ts_core.specs.store.RawFacts.{is_waiting}
 use Rattle.ts_core.specs.aggregates.Aggregates.{Aggregate}
 use Rattle.ts_core.specs.store.Cells.{Cell}
 use Rattle.ts_core.specs.store.StoreStates.{CellParts}
-use Rattle.ts_core.specs.store.StoreData.{CellMap}
+use Rattle.ts_core.specs.settings.Settings.{Rule}
+use Rattle.ts_core.specs.store.StoreData.{CellMap, StoreData}
 use Rattle.ts_core.proofs.store.StateLemmas.{is_waiting-there, is_waiting-not}
 use Rattle.ts_store.specs.image.SavedContent.{FrozenCell, frozen_from}
 use Rattle.ts_image.specs.declared.version.Version.{Version}
 use Rattle.ts_image.specs.Formats.{Format, number, also, along, list_of}
 use Rattle.ts_image.specs.Images.{ImageRule, ImageSettings, ImageColumn, ImageSeries, ImageCell, flag, image_marks, image_series, image_cell}
+use Rattle.ts_image.specs.Saving.{frozen_cells_at, cell_counts_from}
 
 abbrev pub column_with : Text → ℕ → List (ℤ × ℤ) → ImageColumn
 column_with field waits points = record { field = field; waits = waits; points = points }
@@ -54,6 +57,27 @@ some_of low (e ∷ es) =
 
 pub frozen_some : (low : ℤ) (m : CellMap) → AllByRecursion (λ (c : FrozenCell). 0 < c.frozen.count) (frozen_from low m)
 frozen_some low m = some_of low (finmap.entries m)
+
+-- ---- numbers of cells
+
+counts_suc : (k : StoreData) (i n : ℕ) (rs : List Rule) → n < length rs → cell_counts_from k i (take (suc n) rs) ≡ cell_counts_from k i (take n rs) ++ length (frozen_cells_at k (i + n)) ∷ []
+counts_suc k i n [] lt = absurd (omega arith)
+counts_suc k i zero (r ∷ rs) lt = ap (λ (m : ℕ). length (frozen_cells_at k m) ∷ []) (let z : i ≡ i + zero = omega arith in z)
+counts_suc k i (suc n) (r ∷ rs) lt =
+    let z : (i + 1) + n ≡ i + suc n = omega arith in
+    ap (λ (xs : List ℕ). length (frozen_cells_at k i) ∷ xs) (counts_suc k (i + 1) n rs (omega arith) ∙ ap (λ (m : ℕ). cell_counts_from k (i + 1) (take n rs) ++ length (frozen_cells_at k m) ∷ []) z)
+
+-- the cells of one more rule are counted
+pub counts_next : (k : StoreData) (n : ℕ) (rs : List Rule) → n < length rs → cell_counts_from k 0 (take (n + 1) rs) ≡ cell_counts_from k 0 (take n rs) ++ length (frozen_cells_at k n) ∷ []
+counts_next k n rs lt =
+    let z : 0 + n ≡ n = omega arith in
+    ap (λ (m : ℕ). cell_counts_from k 0 (take m rs)) (add-one n) ∙ counts_suc k 0 n rs lt ∙ ap (λ (m : ℕ). cell_counts_from k 0 (take n rs) ++ length (frozen_cells_at k m) ∷ []) z
+
+-- without the first
+pub rest_of : (xs : List ℕ) (x : ℕ) (ys : List ℕ) → xs ≡ x ∷ ys → take (length xs - 1) (drop 1 xs) ≡ ys
+rest_of xs x ys e = ap (λ (zs : List ℕ). take (length zs - 1) (drop 1 zs)) e ∙ take_all (length (x ∷ ys) - 1) ys (omega arith)
+
+-- ---- the format
 
 -- the format of what follows the settings
 abbrev pub after_settings : Version → ImageSettings → Format (Marks × (ℕ × (ℕ × (List ImageSeries × List (List ImageCell)))))

@@ -12,11 +12,11 @@ use Rattle.ts_core.specs.store.StoreData.{StoreData}
 use Rattle.ts_core.specs.declared.io.sink.Refused.{Refused}
 use Rattle.ts_core.proofs.io.OutputBufferLemmas.{done, refused, puts_join, refused_part, all_written}
 use Rattle.ts_image.specs.declared.save_fault.SaveFault.{SaveFault}
-use Rattle.ts_image.specs.declared.save_fault.SaveFault.TheVariants.{Device, OutOfMemory, Unfit}
+use Rattle.ts_image.specs.declared.save_fault.SaveFault.TheVariants.{Device, OutOfMemory}
 use Rattle.ts_image.specs.declared.version.Version.TheVariants.{V2}
 use Rattle.ts_image.specs.Images.{image, image_text}
 use Rattle.ts_store.specs.image.SavedContent.{SavedColumn, SavedSeries, SavesColumns}
-use Rattle.ts_image.specs.Saving.{store_image, HasItsColumns, FitsImage, IsOrder, IsSaved}
+use Rattle.ts_image.specs.Saving.{store_image, HasItsColumns, IsOrder, IsSaved}
 use Rattle.ts_image.proofs.Putting.{Answer}
 use Rattle.ts_image.proofs.Orders.{among_all}
 
@@ -44,16 +44,13 @@ body_refused a b c k l m e d head body empty p q = refused_of a c m d (head ++ b
 
 module _ {T : Type 0} (k : StoreData) (a : Output) where
   pub without_memory : (r : Result T SaveFault) → r ≡ Err OutOfMemory → IsSaved k a r a
-  without_memory r e = rw e record { ok = tt; device = λ d. absurd cc; memory = λ d. refl; unfit = λ d. absurd cc; failures = omega arith }
-
-  pub does_not_fit : (r : Result T SaveFault) (order : List SavedSeries) → r ≡ Err Unfit → IsOrder k order → (FitsImage k order → ⊥) → IsSaved k a r a
-  does_not_fit r order e o f = rw e record { ok = tt; device = λ d. absurd cc; memory = λ d. absurd cc; unfit = λ d. (refl, (order, o, f)); failures = omega arith }
+  without_memory r e = rw e record { ok = tt; device = λ d. absurd cc; memory = λ d. refl; failures = omega arith }
 
   pub is_cut : (r : Result T SaveFault) (x : Refused) (b : Output) (order : List SavedSeries) → r ≡ Err Device → IsOrder k order → IsPut a (refused x) (image_text V2 (store_image k order)) b → IsSaved k a r b
-  is_cut r x b order e o p = rw e record { ok = tt; device = λ d. (order, o, p.err); memory = λ d. absurd cc; unfit = λ d. absurd cc; failures = p.failures }
+  is_cut r x b order e o p = rw e record { ok = tt; device = λ d. (order, o, p.err); memory = λ d. absurd cc; failures = p.failures }
 
   pub is_saved : (x : T) (b : Output) (order : List SavedSeries) → IsOrder k order → (image V2).fits (store_image k order) → IsPut a done (image_text V2 (store_image k order)) b → IsSaved k a (Ok x) b
-  is_saved x b order o f p = record { ok = (order, o, f, p.ok); device = λ d. absurd cc; memory = λ d. absurd cc; unfit = λ d. absurd cc; failures = p.failures }
+  is_saved x b order o f p = record { ok = (order, o, f, p.ok); device = λ d. absurd cc; memory = λ d. absurd cc; failures = p.failures }
 
 -- ---- columns of saved series are there
 

@@ -1,4 +1,5 @@
--- The data written of a store: its picture, in the image's order.
+-- The data written of a store: its picture, in the image's order. If the store represents a history, the data has no
+-- contradiction.
 use Rattle.std.proofs.Common.{◌≡◌, ℕ, zero, suc, ◌+◌, ◌≤◌, ◌<◌, ℤ, pos, ◌≤ℤ◌, int_le, nat_lt, not, ◌==◌, Bool, true, false, cond, ◌&&◌, List, [], ◌∷◌, T, length, map, filter, drop, refl, sym, ◌∙◌, ap, subst, true≢false, arith, Some, None, Option, MatchOption, is_lt}
 use Rattle.std.specs.Prelude.{slice_index_or}
 use Rattle.std.specs.Ordering.{int_cmp}
@@ -46,8 +47,10 @@ use Rattle.ts_store.proofs.store.Stands.{waiting_among}
 use Rattle.ts_store.proofs.read.ShownCells.{entry_found}
 use Rattle.ts_image.specs.SavedParts.{image_rule_of, image_settings_of, extremes_in}
 use Rattle.ts_image.specs.Saving.{image_cell_of, frozen_cells_at, image_cells_from, column_at, image_column_of, image_series_of, store_image}
+use Rattle.ts_image.specs.WrittenImages.{WrittenImagesAreAcceptable}
 use Rattle.ts_image.proofs.Orders.{all_among, among_all, rising_keys, of_both}
 use Rattle.ts_image.proofs.RawPictures.{series_of, field_of, column_here, column_from, waiting_here, waiting_from}
+use Rattle.ts_image.proofs.SavedImages.{saved_possible}
 
 -- ---- settings
 
@@ -259,11 +262,11 @@ cells_back : (es : List (Cell × CellParts)) → map (λ (c : ImageCell). c.cell
 cells_back [] = refl
 cells_back (e ∷ es) = ap (λ xs. e.0 ∷ xs) (cells_back es)
 
-pub written_rising : (low : ℤ) (m : CellMap) → AreRising cell_cmp (map (λ (c : ImageCell). c.cell) (written low m))
+written_rising : (low : ℤ) (m : CellMap) → AreRising cell_cmp (map (λ (c : ImageCell). c.cell) (written low m))
 written_rising low m =
     subst (AreRising cell_cmp) (sym (cells_back (filter (is_saved low) (finmap.entries m)))) (rising_keys cell_cmp (filter (is_saved low) (finmap.entries m)) (sorted_filter (is_saved low) (finmap.entries m) (entries_sorted m)))
 
-pub written_kept : (low : ℤ) (m : CellMap) → AllByRecursion (λ (c : ImageCell). low ≤ℤ c.cell.index) (written low m)
+written_kept : (low : ℤ) (m : CellMap) → AllByRecursion (λ (c : ImageCell). low ≤ℤ c.cell.index) (written low m)
 written_kept low m = among_all (λ (c : ImageCell). low ≤ℤ c.cell.index) (written low m) (λ c a. let e = entry_of low m c a in subst (λ (x : ImageCell). low ≤ℤ x.cell.index) e.4 e.2)
 
 -- ---- rule by rule
@@ -319,3 +322,10 @@ module _ (opening : Settings) (h : History) (k : StoreData) (order : List SavedS
     rising = subst (AreRising series_cmp) (sym (keys_back k order)) w.rising;
     cells = (cells_written opening h k order st well.sized w).1;
   }
+
+-- ---- no contradiction
+
+pub written_acceptable : WrittenImagesAreAcceptable
+written_acceptable opening h k order st well w =
+    let picture = written_picture opening h k order st well.sized w in
+    record { picture = picture; possible = saved_possible opening h k (store_image k order) st well picture (written_orderly opening h k order st well w) }

@@ -17,8 +17,6 @@ load_fault_text loading.Device = fault_text code.ImageDevice Alone
 load_fault_text loading.TooManyReads = fault_text code.EndlessImage Alone
 load_fault_text loading.OutOfMemory = memory_text
 
--- Data that doesn't fit the form contradicts itself.
 unfoldable pub save_fault_text : SaveFault → Text
 save_fault_text saving.Device = fault_text code.ImageDevice Alone
 save_fault_text saving.OutOfMemory = memory_text
-save_fault_text saving.Unfit = fault_text code.ContradictoryImage Alone

@@ -93,6 +93,7 @@ IsBetween low high x = (low ≤ℤ x) × (x ≤ℤ high)
 pub record IsImageCell (mark : ℤ) (r : ImageRule) (low : ℤ) (c : ImageCell) : Type 0 where
   pub kept : low ≤ℤ c.cell.index
   pub field : IsKeyName c.cell.field
+  pub group : length c.cell.group ≡ length r.kept_tags
   pub spread : IsSpread c.count c.sum c.extremes
   pub values : c.extremes.min ≤ℤ c.extremes.max
   pub first : IsFrozenTime mark r c.cell.index c.extremes.first.0

@@ -13,7 +13,7 @@ use Rattle.ts_core.specs.io.Devices.{Output, AppendsFront}
 use Rattle.ts_store.specs.image.SavedContent.{SavedColumn, SavedSeries, SavesSeries, FrozenCell, frozen_from}
 use Rattle.ts_store.specs.read.ViewResults.{no_points}
 use Rattle.ts_image.specs.declared.save_fault.SaveFault.{SaveFault}
-use Rattle.ts_image.specs.declared.save_fault.SaveFault.TheVariants.{Device, OutOfMemory, Unfit}
+use Rattle.ts_image.specs.declared.save_fault.SaveFault.TheVariants.{Device, OutOfMemory}
 use Rattle.ts_image.specs.declared.version.Version.TheVariants.{V2}
 use Rattle.ts_image.specs.SavedParts.{image_settings_of, image_cell_with}
 use Rattle.ts_image.specs.Images.{ImageColumn, ImageSeries, ImageCell, ImageData, image, image_text}
@@ -31,6 +31,15 @@ frozen_cells_at k n = frozen_from (slice_index_or k.marks.lows n (pos 0)) (slice
 abbrev pub image_cells_from : StoreData → ℕ → List Rule → List (List ImageCell)
 image_cells_from k n [] = []
 image_cells_from k n (r ∷ rs) = map image_cell_of (frozen_cells_at k n) ∷ image_cells_from k (n + 1) rs
+
+-- the number of saved cells of each of the rules from an index on
+abbrev pub cell_counts_from : StoreData → ℕ → List Rule → List ℕ
+cell_counts_from k n [] = []
+cell_counts_from k n (r ∷ rs) = length (frozen_cells_at k n) ∷ cell_counts_from k (n + 1) rs
+
+-- the number of saved cells of each rule
+abbrev pub cell_counts : StoreData → List ℕ
+cell_counts k = cell_counts_from k 0 k.settings.rules
 
 abbrev pub column_at : StoreData → SavedColumn → ColumnPoints
 column_at k c = slice_index_or k.columns c.number no_points
@@ -56,32 +65,22 @@ store_image k saved = record {
   cells = image_cells_from k 0 k.settings.rules;
 }
 
--- ---- requirements of the form
+-- ---- requirements of the form, which each store meets
 
 -- the index fits in 64 bits, and the group has a value for each kept tag
 pub record FitsCell (r : Rule) (c : FrozenCell) : Type 0 where
   pub index : FitsSigned w64 c.cell.index
   pub group : length c.cell.group ≡ length r.kept_tags
 
-pub record FitCells (r : Rule) (cells : List FrozenCell) : Type 0 where
-  pub each : AllByRecursion (FitsCell r) cells
-  pub few : length cells < 2 ^ 64
-
 -- the cells of each of the rules from an index on
 abbrev pub FitCellsFrom : StoreData → ℕ → List Rule → Type 0
 FitCellsFrom k n [] = Unit {0}
-FitCellsFrom k n (r ∷ rs) = FitCells r (frozen_cells_at k n) × FitCellsFrom k (n + 1) rs
+FitCellsFrom k n (r ∷ rs) = AllByRecursion (FitsCell r) (frozen_cells_at k n) × FitCellsFrom k (n + 1) rs
 
 -- each series has few tags, and there are few series
 pub record FitSeries (all : List SavedSeries) : Type 0 where
   pub few : length all < 2 ^ 32
   pub each : AllByRecursion (λ (s : SavedSeries). length s.series.tags < 256) all
-
--- the data of a store fits the form of images. That of a store that represents a history does.
-pub record FitsImage (k : StoreData) (all : List SavedSeries) : Type 0 where
-  pub lows : AllByRecursion (FitsSigned w64) k.marks.lows
-  pub series : FitSeries all
-  pub cells : FitCellsFrom k 0 k.settings.rules
 
 -- ---- saving
 
@@ -90,17 +89,15 @@ abbrev pub one_if_device_fault : {T : Type 0} → Result T SaveFault → ℕ
 one_if_device_fault (Ok x) = 0
 one_if_device_fault (Err Device) = 1
 one_if_device_fault (Err OutOfMemory) = 0
-one_if_device_fault (Err Unfit) = 0
 
 -- the series and columns of a store in the image's order
 abbrev pub IsOrder : StoreData → List SavedSeries → Type 0
 IsOrder k order = SavesSeries k.series (map column_of k.columns) order
 
--- Writes the image of a store in version 2. After a device error, a prefix of it was written. When out of memory, or if
--- the data doesn't fit, nothing was written.
+-- Writes the image of a store in version 2. After a device error, a prefix of it was written. When out of memory,
+-- nothing was written.
 pub record IsSaved {T : Type 0} (k : StoreData) (old : Output) (result : Result T SaveFault) (new : Output) : Type 0 where
   pub ok : OnOk result ((order : List SavedSeries) × IsOrder k order × (image V2).fits (store_image k order) × Appends old.contents new.contents (image_text V2 (store_image k order)))
   pub device : result ≡ Err Device → (order : List SavedSeries) × IsOrder k order × AppendsFront old.contents new.contents (image_text V2 (store_image k order))
   pub memory : result ≡ Err OutOfMemory → new ≡ old
-  pub unfit : result ≡ Err Unfit → (new ≡ old) × ((order : List SavedSeries) × IsOrder k order × (FitsImage k order → ⊥))
   pub failures : new.failures ≡ old.failures + one_if_device_fault result

@@ -9,11 +9,10 @@ use Rattle.ts_image.specs.ImageTests.{IsPossible}
 use Rattle.ts_image.specs.Pictures.{IsPictureOf}
 use Rattle.ts_image.specs.SavedImages.{IsWellFormed}
 use Rattle.ts_store.specs.image.SavedContent.{SavedSeries}
-use Rattle.ts_image.specs.Saving.{store_image, FitsImage, IsOrder}
+use Rattle.ts_image.specs.Saving.{store_image, IsOrder}
 
--- it fits the form of images, is a picture of the store, and has no contradiction
+-- it is a picture of the store, and has no contradiction
 pub record IsAcceptable (k : StoreData) (order : List SavedSeries) : Type 0 where
-  pub fits : FitsImage k order
   pub picture : IsPictureOf k (store_image k order)
   pub possible : IsPossible V2 (store_image k order)
 

@@ -84,6 +84,9 @@ fn is_cell<A: Allocator>(mark: &i64, rule: &RuleParts<A>, low: &i64, cell: &Cell
     if !is_name(cell.key.field.as_str()) {
         return false;
     }
+    if cell.key.group.len() != rule.kept_tags.len() {
+        return false;
+    }
     if !are_spread(cell.count, &cell.sum, &cell.extremes) {
         return false;
     }

@@ -99,8 +99,7 @@ pub fn load_within<R: Read, A: Allocator + Copy>(
     load_at_most(alloc, seed, source, reads.min(MOST_READS))
 }
 
-/// Loads a store from an image to the end of the input, with at most 2^32 reads. `seed`: of the hashes of names; no
-/// answer depends on it.
+/// Loads a store like `load_within`, with at most 2^32 reads.
 pub fn load<R: Read, A: Allocator + Copy>(
     alloc: A,
     seed: RandomState,

@@ -4,7 +4,8 @@
 //!
 //! Proved: each image is read as its data and only that. Other bytes are refused with the offset of the first field at
 //! fault. An image that contradicts itself is refused; that of a store with a history never is. A loaded store has the
-//! data of its image, and represents each history that the saved store represented.
+//! data of its image, and represents each history that the saved store represented. A save fails only if a write fails
+//! or when out of memory.
 //!
 //! ```text
 //! TSIM version
@@ -48,7 +49,6 @@ mod count_checks;
 mod field_fault;
 mod field_reader;
 mod field_writing;
-mod form_checks;
 mod image_checks;
 mod image_loading;
 mod image_reading;

@@ -15,10 +15,6 @@ pub enum SaveFault {
     /// Out of memory. Nothing was written.
     #[error("out of memory")]
     OutOfMemory,
-    /// The data doesn't fit the form of images. Nothing was written. The data of a store that represents a history
-    /// fits.
-    #[error("{}", FaultCode::ContradictoryImage.message())]
-    Unfit,
 }
 
 impl From<AllocError> for SaveFault {
@@ -53,7 +49,6 @@ impl SaveFault {
         match self {
             SaveFault::Device => FaultCode::ImageDevice.text_to(FaultDetail::Alone, text),
             SaveFault::OutOfMemory => text.push_str("fault memory"),
-            SaveFault::Unfit => FaultCode::ContradictoryImage.text_to(FaultDetail::Alone, text),
         }
     }
 }

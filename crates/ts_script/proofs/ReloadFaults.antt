@@ -12,16 +12,15 @@ use Rattle.ts_image.specs.ImageFaults.{IsFaultOf, IsOfBytes}
 use Rattle.ts_image.specs.Images.{ImageData}
 use Rattle.ts_image.specs.SavedImages.{IsWellFormed}
 use Rattle.ts_image.specs.Saving.{store_image}
-use Rattle.ts_image.proofs.FittingImages.{written_acceptable}
+use Rattle.ts_image.proofs.WrittenPictures.{written_acceptable}
 use Rattle.ts_image.proofs.ImageBytes.{image_bytes}
 use Rattle.ts_image.proofs.Unambiguous.{are_unambiguous}
-use Rattle.ts_script.specs.ReloadResults.{IsImageIn, DoesNotFit, save_failed, load_failed}
+use Rattle.ts_script.specs.ReloadResults.{IsImageIn, save_failed, load_failed}
 use Rattle.ts_script.specs.declared.reloading.ReloadFault.TheVariants.{OutOfMemory}
 
-pub saves_but_for_memory : (k : StoreData) (fault : SaveFault) → IsWellFormed k → (fault ≡ saving.Unfit → DoesNotFit k) → OfEachHistory k (λ opening h. save_failed fault ≡ OutOfMemory)
-saves_but_for_memory k saving.Device w unfit = λ opening h st. refl
-saves_but_for_memory k saving.OutOfMemory w unfit = λ opening h st. refl
-saves_but_for_memory k saving.Unfit w unfit = λ opening h st. let u = unfit refl in absurd (u.2 (written_acceptable opening h k u.0 st w u.1).fits)
+pub saves_but_for_memory : (fault : SaveFault) → save_failed fault ≡ OutOfMemory
+saves_but_for_memory saving.Device = refl
+saves_but_for_memory saving.OutOfMemory = refl
 
 -- the bytes have no fault
 none_of_bytes : (bytes : List ℕ) (fault : LoadFault) → (IsOfBytes fault → ⊥) → load_failed fault ≡ OutOfMemory

@@ -9,7 +9,7 @@ use Rattle.ts_image.specs.declared.save_fault.SaveFault.{SaveFault}
 use Rattle.ts_image.specs.declared.save_fault.SaveFault.TheVariants as saving
 use Rattle.ts_image.specs.declared.version.Version.TheVariants.{V2}
 use Rattle.ts_image.specs.Images.{image, image_text}
-use Rattle.ts_image.specs.Saving.{IsOrder, FitsImage, store_image}
+use Rattle.ts_image.specs.Saving.{IsOrder, store_image}
 use Rattle.ts_image.specs.StoresMade.{IsStoreOf}
 use Rattle.ts_script.specs.declared.reloading.ReloadFault.{ReloadFault}
 use Rattle.ts_script.specs.declared.reloading.ReloadFault.TheVariants.{OutOfMemory, NotAccepted}
@@ -20,10 +20,6 @@ pub record IsImageIn (k : StoreData) (bytes : List ℕ) : Type 0 where
   pub ordered : IsOrder k order
   pub fits : (image V2).fits (store_image k order)
   pub text : bytes ≡ image_text V2 (store_image k order)
-
--- the data of the store doesn't fit the form of images
-abbrev pub DoesNotFit : StoreData → Type 0
-DoesNotFit k = (order : List SavedSeries) × IsOrder k order × (FitsImage k order → ⊥)
 
 -- the new store is loaded from an image of the old one
 pub record IsReloadOf (old new : StoreData) : Type 0 where
@@ -38,7 +34,6 @@ pub record IsReloadOf (old new : StoreData) : Type 0 where
 abbrev pub save_failed : SaveFault → ReloadFault
 save_failed saving.Device = OutOfMemory
 save_failed saving.OutOfMemory = OutOfMemory
-save_failed saving.Unfit = NotAccepted
 
 -- a slice fails no read, and no slice needs 2^32 reads
 abbrev pub load_failed : LoadFault → ReloadFault

@@ -1,7 +1,7 @@
 //! Saves a store to memory and loads it back.
-ghost use Rattle.std.specs.Prelude.{◌≡◌, IfOk, IfErr, Result};
+ghost use Rattle.std.specs.Prelude.{◌≡◌, IfOk, IfErr};
 ghost use Rattle.ts_core.specs.store.StoreData.{OfEachHistory};
-ghost use Rattle.ts_script.specs.ReloadResults.{IsImageIn, DoesNotFit, IsReloadOf, save_failed, load_failed};
+ghost use Rattle.ts_script.specs.ReloadResults.{IsImageIn, IsReloadOf, save_failed, load_failed};
 
 use std::alloc::Global;
 use std::hash::RandomState;
@@ -25,7 +25,6 @@ impl ReloadFault {
     {
         match fault {
             SaveFault::Device | SaveFault::OutOfMemory => ReloadFault::OutOfMemory,
-            SaveFault::Unfit => ReloadFault::NotAccepted,
         }
     }
 
@@ -47,8 +46,7 @@ impl ReloadFault {
 
 /// Returns the image of a store.
 fn saved(alloc: Global, store: &Store<Global>) -> Result<Vec<u8>, SaveFault>
-    ensures image { IfOk result (λ bytes. IsImageIn store.now bytes.items) }
-    ensures unfit { result ≡ Result.Err SaveFault.Unfit → DoesNotFit store.now }
+    ensures { IfOk result (λ bytes. IsImageIn store.now bytes.items) }
 {
     let mut sink = Sink::new(Vec::new(alloc));
     match save(alloc, store, &mut sink) {

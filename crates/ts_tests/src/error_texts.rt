@@ -374,18 +374,13 @@ const LOADS: [Row<LoadFault>; 7] = [
 ];
 
 /// Each fault of saving an image.
-const SAVES: [Row<SaveFault>; 3] = [
+const SAVES: [Row<SaveFault>; 2] = [
     (
         SaveFault::Device,
         "the image could not be read or written",
         "Device",
     ),
     (SaveFault::OutOfMemory, "out of memory", "OutOfMemory"),
-    (
-        SaveFault::Unfit,
-        "parts of the image contradict each other",
-        "Unfit",
-    ),
 ];
 
 /// Each fault that stops a script.

@@ -58,7 +58,6 @@ load_words loading.OutOfMemory = codes "out of memory"
 abbrev pub save_words : SaveFault → Text
 save_words saving.Device = code_message code.ImageDevice
 save_words saving.OutOfMemory = codes "out of memory"
-save_words saving.Unfit = code_message code.ContradictoryImage
 
 -- a file, a fault with its number, and its words
 abbrev pub file_line : Text → Text → Text → Text

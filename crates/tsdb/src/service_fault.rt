@@ -70,7 +70,6 @@ fn save_words(fault: SaveFault) -> &'static str
     match fault {
         SaveFault::Device => FaultCode::ImageDevice.message(),
         SaveFault::OutOfMemory => "out of memory",
-        SaveFault::Unfit => FaultCode::ContradictoryImage.message(),
     }
 }
 

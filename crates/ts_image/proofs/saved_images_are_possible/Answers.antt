@@ -1,5 +1,5 @@
 use Rattle.ts_image.proofs.SavedImages.{saved_possible}
-use Rattle.ts_image.proofs.FittingImages.{written_acceptable}
+use Rattle.ts_image.proofs.WrittenPictures.{written_acceptable}
 use Rattle.ts_image.proofs.saved_images_are_possible.Goals as goal
 
 pub returns : goal.returns

@@ -40,7 +40,6 @@ impl<'i, A: Allocator + Copy> Call<A> for Save<'i> {
         match save(alloc, &*store, &mut sink) {
             Ok(()) => Answer::new(sink.into_inner().as_slice() == self.image),
             Err(SaveFault::OutOfMemory | SaveFault::Device) => Answer::OutOfMemory,
-            Err(SaveFault::Unfit) => Answer::Wrong,
         }
     }
 }

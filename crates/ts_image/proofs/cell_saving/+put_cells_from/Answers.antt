@@ -1,4 +1,4 @@
-use Rattle.std.proofs.Common.{◌≡◌, ◌+◌, suc, List, ◌∷◌, length, map, ap, subst, arith}
+use Rattle.std.proofs.Common.{◌≡◌, ◌+◌, ℕ, suc, List, ◌∷◌, length, map, get_or, ap, subst, ◌∙◌, arith}
 use Rattle.std.specs.Int.{w64}
 use Rattle.std.proofs.lemmas.Result.{err_from_is_err_and}
 use Rattle.std.proofs.lemmas.List.{nil_from_length}
@@ -6,8 +6,9 @@ use Rattle.ts_core.specs.store.StoreData.{StoreData}
 use Rattle.ts_image.specs.Formats.{Format, list_of}
 use Rattle.ts_image.specs.Images.{ImageRule, ImageCell, image_cell}
 use Rattle.ts_image.specs.SavedParts.{image_rule_of}
-use Rattle.ts_image.specs.Saving.{FitCellsFrom, image_cells_from}
+use Rattle.ts_image.specs.Saving.{FitCellsFrom, image_cells_from, cell_counts_from}
 use Rattle.ts_image.proofs.Putting.{along_none, along_more, along_stops}
+use Rattle.ts_image.proofs.SavedOf.{rest_of}
 use Rattle.ts_image.proofs.cell_saving.+put_cells_from.Goals as goal
 
 abbrev cells_format : ImageRule → Format (List ImageCell)
@@ -42,11 +43,13 @@ put_rule_cells-requires g t c =
     let k : StoreData = c.args.store.now in
     let longer : length c.args.rules.now ≡ suc (length c.in-Some.others.now) = ap length c.in-Some.ensures.cases.0 in
     let last = c.requires.last in
-    record { number = omega (arith, longer, last); fit = (subst (FitCellsFrom k c.args.number) c.in-Some.ensures.cases.0 c.requires.fit).0 }
+    let counts = c.requires.counts ∙ ap (cell_counts_from k c.args.number) c.in-Some.ensures.cases.0 in
+    record { number = omega (arith, longer, last); count = ap (λ (xs : List ℕ). get_or xs 0 0) counts; fit = (subst (FitCellsFrom k c.args.number) c.in-Some.ensures.cases.0 c.requires.fit).0 }
 
 pub put_cells_from-requires : goal.put_cells_from-requires
 put_cells_from-requires g t c κs within =
     let k : StoreData = c.args.store.now in
     let longer : length c.args.rules.now ≡ suc (length c.in-Some.others.now) = ap length c.in-Some.ensures.cases.0 in
     let last = c.requires.last in
-    (omega (arith, longer), (within.0, (within.1, (c.requires.few, (omega (arith, longer, last), (subst (FitCellsFrom k c.args.number) c.in-Some.ensures.cases.0 c.requires.fit).1)))))
+    let counts = rest_of c.args.counts.now _ _ (c.requires.counts ∙ ap (cell_counts_from k c.args.number) c.in-Some.ensures.cases.0) in
+    (omega (arith, longer), (within.0, (within.1, (c.requires.few, (omega (arith, longer, last), (counts, (subst (FitCellsFrom k c.args.number) c.in-Some.ensures.cases.0 c.requires.fit).1))))))

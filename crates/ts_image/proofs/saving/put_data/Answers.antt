@@ -11,10 +11,12 @@ use Rattle.ts_image.specs.Formats.{number, also, along, list_of}
 use Rattle.ts_image.specs.Images.{ImageRule, image_series, image_cell}
 use Rattle.ts_image.specs.FieldWriting.{PutsField}
 use Rattle.ts_image.specs.SavedParts.{image_rule_of, image_settings_of}
-use Rattle.ts_image.specs.Saving.{image_cells_from, store_image, FitCellsFrom}
+use Rattle.ts_image.specs.Saving.{image_cells_from, cell_counts_from, store_image, FitCellsFrom}
 use Rattle.ts_image.proofs.Putting.{puts_at, and_puts, and_stops, also_puts, also_stops, iso_puts}
 use Rattle.ts_image.proofs.SavedOf.{after_settings}
 use Rattle.ts_image.proofs.Saved.{byte_is}
+use Rattle.ts_image.proofs.SavedWholes.{columns_there}
+use Rattle.ts_image.proofs.FittingImages.{lows_fit, series_fit, cells_fit}
 use Rattle.ts_image.proofs.saving.put_data.Goals as goal
 
 pub returns-in_err-put_settings : goal.returns-in_err-put_settings
@@ -69,10 +71,21 @@ returns g c =
     iso_puts _ _ (store_image k c.args.all.now) (and_puts (after_settings V2) (puts_at (ap image_settings_of c.settings.ensures.value) c.in_ok-put_settings.ensures) (also_puts (puts_at c.marks.ensures.value (c.in_ok-put_marks.ensures rs same)) (also_puts (puts_at run c.in_ok-put_u8.ensures) (also_puts (puts_at c.accepted.ensures.value c.in_ok-put_u64.ensures) (also_puts c.in_ok-put_counted_series.ensures (subst (λ (xs : List Rule). PutsField (along (λ (r : ImageRule). list_of w64 (image_cell r)) (map image_rule_of xs)) (image_cells_from k 0 xs) c.put_counted_series.new.sink c.put_counted_series.new.out c.put_cells_from.result c.put_cells_from.new.sink c.put_cells_from.new.out) all c.put_cells_from.ensures))))))
 
 pub put_marks-requires : goal.put_marks-requires
-put_marks-requires g c = rw c.marks.ensures.value c.requires.fits.lows
+put_marks-requires g c = let a = c.laws.ensures in rw c.marks.ensures.value (lows_fit c.args.store.now a.sized a.rules a.mark)
+
+pub put_counted_series-requires : goal.put_counted_series-requires
+put_counted_series-requires g c =
+    let k : StoreData = c.args.store.now in
+    record { series = series_fit k c.args.all.now c.laws.ensures.sized c.requires.order; columns = columns_there k c.args.all.now c.requires.order }
 
 pub put_cells_from-requires : goal.put_cells_from-requires
 put_cells_from-requires g c =
     let k : StoreData = c.args.store.now in
     let all : c.rules.result.now ≡ k.settings.rules = c.rules.ensures.value ∙ ap (λ (s : Settings). s.rules) c.settings-2.ensures.value in
-    record { few = subst (λ (s : Settings). length s.rules ≤ 32) c.settings-2.ensures.value c.rules.ensures.valid.few; last = (let n : length c.rules.result.now ≡ length k.settings.rules = ap length all in omega (arith, n)); fit = subst (FitCellsFrom k 0) (sym all) c.requires.fits.cells }
+    let a = c.laws.ensures in
+    record {
+      few = subst (λ (s : Settings). length s.rules ≤ 32) c.settings-2.ensures.value c.rules.ensures.valid.few;
+      last = (let n : length c.rules.result.now ≡ length k.settings.rules = ap length all in omega (arith, n));
+      counts = c.requires.counts ∙ ap (cell_counts_from k 0) (sym all);
+      fit = subst (FitCellsFrom k 0) (sym all) (cells_fit k a.sized a.rules a.possible);
+    }
