@@ -1,4 +1,4 @@
-use Rattle.std.proofs.Common.{rules, ◌≡◌, List, ◌∷◌, refl, arith}
+use Rattle.std.proofs.Common.{◌≡◌, List, ◌∷◌, refl, arith}
 use Rattle.ts_cells.proofs.ExpiryLemmas.{on_true, on_false}
 use Rattle.ts_store.specs.rollup.Rollups.{RollupState}
 use Rattle.ts_store.proofs.retain.RollupExpiry.{IsExpired, none_above, same_series_list, series_list_first, first_loses, later_loses, none_lost}
@@ -17,7 +17,7 @@ pub returns-then-expire-gt0-clause-series_list : goal.returns-then-expire-gt0-cl
 returns-then-expire-gt0-clause-series_list g t c =
     let s : RollupState = c.in-Some-split_first_mut.rollup.now in
     let ss : List RollupState = c.in-Some-split_first_mut.rollups.now in
-    let kept : c.args.rollups.now ≡ s ∷ ss = search rules in
+    let kept : c.args.rollups.now ≡ s ∷ ss = c.in-Some-split_first_mut.ensures.cases.0 in
     let gone : IsExpired c.in-Some.low.now c.expire.result s c.expire.new.self = record { cells = c.expire.ensures.cells; below = c.expire.ensures.below } in
     series_list_first c.in-Some.low.now c.expire.result s c.expire.new.self ss c.args.rollups.now kept gone
 
@@ -25,8 +25,8 @@ pub returns-then-expire-gt0-clause-some : goal.returns-then-expire-gt0-clause-so
 returns-then-expire-gt0-clause-some g t c =
     let s : RollupState = c.in-Some-split_first_mut.rollup.now in
     let ss : List RollupState = c.in-Some-split_first_mut.rollups.now in
-    let lows : c.args.lows.now ≡ c.in-Some.low.now ∷ c.in-Some.lows.now = search rules in
-    let kept : c.args.rollups.now ≡ s ∷ ss = search rules in
+    let lows : c.args.lows.now ≡ c.in-Some.low.now ∷ c.in-Some.lows.now = c.in-Some.ensures.cases.0 in
+    let kept : c.args.rollups.now ≡ s ∷ ss = c.in-Some-split_first_mut.ensures.cases.0 in
     let gone : IsExpired c.in-Some.low.now c.expire.result s c.expire.new.self = record { cells = c.expire.ensures.cells; below = c.expire.ensures.below } in
     first_loses c.in-Some.low.now c.in-Some.lows.now c.args.lows.now c.expire.result s c.expire.new.self ss c.args.rollups.now lows kept c.if-expire-gt0.true gone
 
@@ -34,8 +34,8 @@ pub returns-clause-some : goal.returns-clause-some
 returns-clause-some g t c =
     let s : RollupState = c.in-Some-split_first_mut.rollup.now in
     let ss : List RollupState = c.in-Some-split_first_mut.rollups.now in
-    let lows : c.args.lows.now ≡ c.in-Some.low.now ∷ c.in-Some.lows.now = search rules in
-    let kept : c.args.rollups.now ≡ s ∷ ss = search rules in
+    let lows : c.args.lows.now ≡ c.in-Some.low.now ∷ c.in-Some.lows.now = c.in-Some.ensures.cases.0 in
+    let kept : c.args.rollups.now ≡ s ∷ ss = c.in-Some-split_first_mut.ensures.cases.0 in
     let gone : IsExpired c.in-Some.low.now c.expire.result s c.expire.new.self = record { cells = c.expire.ensures.cells; below = c.expire.ensures.below } in
     let none : c.expire.result ≡ 0 = omega (arith, c.if-expire-gt0.false) in
     on_true c.expire_first.result (λ h. later_loses c.in-Some.low.now c.in-Some.lows.now c.args.lows.now c.expire.result s c.expire.new.self ss c.expire_first.new.rollups c.args.rollups.now lows kept none gone h) c.expire_first.ensures.some
@@ -44,8 +44,8 @@ pub returns-clause-none : goal.returns-clause-none
 returns-clause-none g t c =
     let s : RollupState = c.in-Some-split_first_mut.rollup.now in
     let ss : List RollupState = c.in-Some-split_first_mut.rollups.now in
-    let lows : c.args.lows.now ≡ c.in-Some.low.now ∷ c.in-Some.lows.now = search rules in
-    let kept : c.args.rollups.now ≡ s ∷ ss = search rules in
+    let lows : c.args.lows.now ≡ c.in-Some.low.now ∷ c.in-Some.lows.now = c.in-Some.ensures.cases.0 in
+    let kept : c.args.rollups.now ≡ s ∷ ss = c.in-Some-split_first_mut.ensures.cases.0 in
     let gone : IsExpired c.in-Some.low.now c.expire.result s c.expire.new.self = record { cells = c.expire.ensures.cells; below = c.expire.ensures.below } in
     let none : c.expire.result ≡ 0 = omega (arith, c.if-expire-gt0.false) in
     on_false c.expire_first.result (λ h. none_lost c.in-Some.low.now c.in-Some.lows.now c.args.lows.now c.expire.result s c.expire.new.self ss c.expire_first.new.rollups c.args.rollups.now lows kept none gone h) c.expire_first.ensures.none

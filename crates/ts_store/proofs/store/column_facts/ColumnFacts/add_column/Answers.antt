@@ -13,6 +13,9 @@ use Rattle.ts_store.proofs.store.ColumnsLemmas.{names_held}
 use Rattle.ts_store.proofs.image.PartsBuilt.{column_held, column_within, column_added, column_refused, columns_refused, its_absent}
 use Rattle.ts_store.proofs.store.column_facts.ColumnFacts.add_column.Goals as goal
 
+pub make_column-requires-clause-series : goal.make_column-requires-clause-series
+make_column-requires-clause-series g c = subst (λ (h : StoreContent). c.args.series < length h.series) (sym c.self.view_is) c.requires.registered
+
 pub make_column-requires-clause-absent : goal.make_column-requires-clause-absent
 make_column-requires-clause-absent g c = its_absent c.self.inside.index c.self.inside.columns.items c.self.inside.rollups.items c.args.self.now c.args.series c.args.field.now c.self.invariant c.self.view_is c.requires.registered c.requires.absent
 
