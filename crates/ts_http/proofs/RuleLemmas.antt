@@ -1,7 +1,6 @@
 -- The effect of a request of /rules, case by case of the code.
-use Rattle.std.proofs.Common.{◌≡◌, ◌⊎◌, ⊎_elim, [], ◌++◌, true, false, IsTrue, ap, sym, ◌∙◌, subst, None, Ok, Err, arith, codes, inl, inr, refl}
+use Rattle.std.proofs.Common.{◌≡◌, ◌⊎◌, ⊎_elim, true, false, IsTrue, ap, sym, ◌∙◌, subst, None, Ok, Err, inl, inr, refl}
 use Rattle.std.specs.Str.{IsUtf8}
-use Rattle.std.proofs.lemmas.Fmt.{decimal_digit}
 use Rattle.ts_core.specs.facts.Facts.{Text}
 use Rattle.ts_core.specs.settings.Settings.{Settings}
 use Rattle.ts_core.specs.settings.SettingsFaults.{is_named, settings_fault_text, unknown_rule_text}
@@ -54,13 +53,9 @@ module _ (query : Text) (k : StoreData) where
   pub name_missing : name_in query ≡ None → DropsAs query k (outcomes.Refused refusals.MissingName) k
   name_missing none = (λ s i. (s, DeletesRule.missing none, i), inr refl)
 
-spelled : codes "fault 8" ≡ unknown_rule_text
-spelled = sym (ap (λ (t : Text). codes "fault " ++ (t ++ [])) (decimal_digit 8 (omega arith)))
-
-pub drop_refused : (name : Text) (k new : StoreData) (o : Outcome) → is_named k.settings.rules name ≡ false → new ≡ k → reply_of false o ≡ bad_reply (error_json (codes "fault 8")) → DropsNamed name k o new
-drop_refused name k new o none same told = λ query n. (
+pub drop_refused : (name : Text) (k new : StoreData) (o : Outcome) → is_named k.settings.rules name ≡ false → new ≡ k → reply_of false o ≡ bad_reply (error_json unknown_rule_text) → DropsNamed name k o new
+drop_refused name k new o none same reply = λ query n. (
   λ s i.
-      let reply : reply_of false o ≡ bad_reply (error_json unknown_rule_text) = told ∙ ap (λ (t : Text). bad_reply (error_json t)) spelled in
       (s, subst (λ (r : Replied). DeletesRule s query r s) (sym reply) (DeletesRule.refuses name n (subst (λ (z : Settings). is_named z.rules name ≡ false) i.store.stands.settings none)), subst (IsWholeStateOf s) (sym same) i),
   inr same,
 )

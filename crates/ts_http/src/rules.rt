@@ -8,12 +8,12 @@ ghost use Rattle.ts_http.specs.OutcomeReplies.{AddsAs, DropsAs, DropsNamed, repl
 use crate::outcome::Outcome;
 use crate::parameters::first_named;
 use crate::refusal::Refusal;
-use crate::reply::{Note, error_note};
+use crate::reply::{Note, fault_note};
 use crate::status::Status;
 use itoa::Buffer;
 use std::alloc::{AllocError, Allocator, Global};
 use std::str;
-use ts_core::{SettingsError, SettingsFault};
+use ts_core::{FaultCode, SettingsError, SettingsFault};
 use ts_store::{AddedRule, Store, View};
 
 /// Returns JSON with the low index and the name of a rule that was added.
@@ -101,7 +101,7 @@ fn drop_named<A: Allocator + Copy>(store: &mut Store<A>, name: &str) -> Outcome
     let _ = store.settings().rules();
     match store.drop_rule(name) {
         Ok(()) => Outcome::Brief(Status::Success, dropped_note(name)),
-        Err(_) => Outcome::Brief(Status::BadRequest, error_note("fault 8")),
+        Err(_) => Outcome::Brief(Status::BadRequest, fault_note(FaultCode::UnknownRule)),
     }
 }
 

@@ -11,6 +11,8 @@ pub mod ReloadedStores
 pub mod ReloadFaults
 pub mod CommandLemmas
 pub mod NumberLemmas
+-- Reply: lengths of messages
+pub mod ReplyLemmas
 -- Counted: the output of a count
 pub mod CountLemmas
 pub mod CountAnswers

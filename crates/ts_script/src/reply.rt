@@ -1,14 +1,17 @@
 //! Replies to the lines of a script.
-ghost use Rattle.std.specs.Prelude.{◌≡◌, ◌≤◌, ◌+◌, IsOk, string_bytes, string_len, string_capacity};
+ghost use Rattle.std.specs.Prelude.{◌≡◌, ◌≤◌, ◌<◌, ◌+◌, IsOk, string_bytes, string_len, string_capacity};
 ghost use Rattle.std.specs.Fmt.{decimal};
 ghost use Rattle.ts_core.specs.io.OutputBuffering.{IsBuffered};
+ghost use Rattle.ts_core.specs.text.FaultCodes.{code_number};
+ghost use Rattle.ts_core.specs.text.FaultTexts.{fault_text};
+ghost use Rattle.ts_core.specs.declared.text.fault_text.FaultDetail.TheVariants.{Alone};
 ghost use Rattle.ts_plan.specs.PlanTexts.{plan_fault_text};
-ghost use Rattle.ts_script.specs.ScriptReplies.{line, outcome_text, step_text, text_of};
+ghost use Rattle.ts_script.specs.ScriptReplies.{line, outcome_text, step_text, text_of, bad_range_text};
 
 use itoa::write_digits;
 use std::alloc::{AllocError, Global};
 use std::io::Write;
-use ts_core::{OutputBuffer, Refused, Sink};
+use ts_core::{FaultCode, FaultDetail, OutputBuffer, Refused, Sink};
 use ts_plan::PlanFault;
 use ts_store::{LineOutcome, StepAnswer};
 
@@ -66,14 +69,14 @@ impl Reply {
             Reply::Written(outcome) => send_outcome(outcome, text, answers, sink),
             Reply::Stepped(answer) => answers.write_all(step_line(answer), sink),
             Reply::Reloaded | Reply::Dropped => answers.write_all(b"ok\n", sink),
-            Reply::NotAccepted => answers.write_all(b"fault 64\n", sink),
-            Reply::UnknownRule => answers.write_all(b"fault 8\n", sink),
+            Reply::NotAccepted => send_fault(FaultCode::ContradictoryImage, text, answers, sink),
+            Reply::UnknownRule => send_fault(FaultCode::UnknownRule, text, answers, sink),
             Reply::Count(count) => send_count(answers, sink, count),
             Reply::Body(body) => answers.write_all(body.as_bytes(), sink),
-            Reply::NoPlan(fault) => answers.write_all(plan_fault_line(fault), sink),
-            Reply::Unknown => answers.write_all(b"fault 95\n", sink),
-            Reply::BadRange => answers.write_all(b"fault 74 at 0\n", sink),
-            Reply::RunInProgress => answers.write_all(b"fault 53\n", sink),
+            Reply::NoPlan(fault) => send_plan_fault(fault, text, answers, sink),
+            Reply::Unknown => send_fault(FaultCode::UnknownCommand, text, answers, sink),
+            Reply::BadRange => send_bad_range(text, answers, sink),
+            Reply::RunInProgress => send_fault(FaultCode::RunInProgress, text, answers, sink),
             Reply::OutOfMemory => answers.write_all(b"fault memory\n", sink),
         }
     }
@@ -117,15 +120,57 @@ fn send_made<W: Write>(
     }
 }
 
-/// Returns the message of a planning error, with an LF.
-#[tactic(auto, unfolding(ts_plan::specs::PlanTexts::plan_fault_text))]
-fn plan_fault_line(fault: PlanFault) -> &'static [u8]
-    ensures { result.now ≡ line (plan_fault_text fault) }
+/// Appends a fault without a detail, with its LF, to the buffered answers. The message is built in `text`, which has the
+/// capacity, so nothing is allocated.
+#[tactic(auto, using(crate::proofs::ReplyLemmas::fault_short))]
+fn send_fault<W: Write>(
+    code: FaultCode,
+    text: &mut String,
+    answers: &mut OutputBuffer<Global>,
+    sink: &mut Sink<W>,
+) -> Result<(), Refused>
+    requires number { code_number code < 100 }
+    requires capacity { TEXT_CAPACITY ≤ string_capacity text.old }
+    ensures spare { TEXT_CAPACITY ≤ string_capacity text.new }
+    ensures sent { IsBuffered sink.old answers.old result (line (fault_text code Alone)) sink.new answers.new }
 {
-    match fault {
-        PlanFault::NoPlan => b"fault 91\n",
-        PlanFault::TooManyBuckets => b"fault 92\n",
-    }
+    text.clear();
+    send_made(code.text_to(FaultDetail::Alone, text), text, answers, sink)
+}
+
+/// Appends the fault of planning, with its LF, to the buffered answers, as `send_fault` does.
+#[tactic(auto, using(crate::proofs::ReplyLemmas::plan_code_small), unfolding(ts_plan::specs::PlanTexts::plan_fault_text))]
+fn send_plan_fault<W: Write>(
+    fault: PlanFault,
+    text: &mut String,
+    answers: &mut OutputBuffer<Global>,
+    sink: &mut Sink<W>,
+) -> Result<(), Refused>
+    requires { TEXT_CAPACITY ≤ string_capacity text.old }
+    ensures spare { TEXT_CAPACITY ≤ string_capacity text.new }
+    ensures sent { IsBuffered sink.old answers.old result (line (plan_fault_text fault)) sink.new answers.new }
+{
+    send_fault(fault.code(), text, answers, sink)
+}
+
+/// Appends the fault of a range that no query can have, with its LF, to the buffered answers, as `send_fault` does.
+#[tactic(auto, using(crate::proofs::ReplyLemmas::bad_range_short))]
+fn send_bad_range<W: Write>(
+    text: &mut String,
+    answers: &mut OutputBuffer<Global>,
+    sink: &mut Sink<W>,
+) -> Result<(), Refused>
+    requires capacity { TEXT_CAPACITY ≤ string_capacity text.old }
+    ensures spare { TEXT_CAPACITY ≤ string_capacity text.new }
+    ensures sent { IsBuffered sink.old answers.old result (line bad_range_text) sink.new answers.new }
+{
+    text.clear();
+    send_made(
+        FaultCode::OutOfRange.text_to(FaultDetail::At(0), text),
+        text,
+        answers,
+        sink,
+    )
 }
 
 /// Returns the answer of a step, with an LF.
