@@ -11,8 +11,7 @@ use Rattle.std.proofs.Math.Facts.{sfits_to_z, Fits-of_z, Fits-of_lt, Fits-lt-pow
 use Rattle.std.proofs.lemmas.Nat.{be_bytes_4, be_bytes_8, from_be_bytes-to_be_bytes_4, from_be_bytes-to_be_bytes_8}
 use Rattle.std.proofs.lemmas.Str.{IsUtf8-nil, IsUtf8-from_is_utf8, is_utf8-from_IsUtf8}
 use Rattle.ts_core.specs.facts.Facts.{Text}
-use Rattle.ts_core.specs.text.Steps.{◌>>=◌}
-use Rattle.ts_image.specs.Formats.{Cursor, behind, concat, Read, Format, spelling, read_number, number, signed_number, is_text, read_text, text, nothing}
+use Rattle.ts_image.specs.Formats.{Cursor, behind, concat, Read, ◌>>=◌, Format, spelling, read_number, number, signed_number, is_text, read_text, text, nothing}
 use Rattle.ts_image.specs.FormatLaws.{AreBytes, reach, IsFormat}
 
 pub AreBytes-drop : (n : ℕ) (bytes : List ℕ) → AreBytes bytes → AreBytes (drop n bytes)

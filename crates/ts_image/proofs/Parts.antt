@@ -2,8 +2,7 @@
 use Rattle.std.proofs.Common.{◌≡◌, ℕ, zero, suc, ◌+◌, ◌≤◌, List, [], ◌∷◌, ◌++◌, length, replicate, Ok, Err, refl, sym, ap, ap₂, subst, ◌∙◌, append_assoc, arith, inl, inr, ◌⊎◌, ⊎_elim}
 use Rattle.std.specs.Int.{Width}
 use Rattle.std.proofs.lemmas.List.{length-append, length-replicate}
-use Rattle.ts_core.specs.text.Steps.{◌>>=◌}
-use Rattle.ts_image.specs.Formats.{Cursor, concat, Read, Format, spelling, number, nothing, and, iso, FitAlong, read_along, along, times, list_of}
+use Rattle.ts_image.specs.Formats.{Cursor, concat, Read, ◌>>=◌, Format, spelling, number, nothing, and, iso, FitAlong, read_along, along, times, list_of}
 use Rattle.ts_image.specs.FormatLaws.{AreBytes, reach, ReadsValue, Reaches, IsFormat}
 use Rattle.ts_image.proofs.Fields.{bind_ok, bind_err, done, ok_is, nothing_format, done_not_failed}
 
