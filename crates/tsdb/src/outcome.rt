@@ -25,8 +25,8 @@ pub enum Outcome {
 }
 
 impl Outcome {
-    /// Returns the exit status: 0 for success, 1 for a device error, endless input or no random bytes, 2 for a wrong command line, 3
-    /// when out of memory.
+    /// Returns the exit status: 0 for success, 1 for a device error, endless input or no random bytes, 2 for a wrong
+    /// command line, 3 when out of memory.
     pub fn exit_code(self) -> ExitCode
         ensures { exit_status result ≡ status_of self }
     {
