@@ -2,14 +2,14 @@
 use Rattle.std.proofs.Common.{◌<◌, ◌≤◌, ◌^◌, length, arith, length-append}
 use Rattle.std.specs.Fmt.{decimal}
 use Rattle.std.proofs.lemmas.Fmt.{length-decimal-le}
-use Rattle.ts_core.specs.declared.plans.fault.Fault.{Fault}
-use Rattle.ts_core.specs.declared.plans.fault.Fault.TheVariants.{Gap, BelowMark, NoSuchRule, OtherMeasurement, OffBoundary, BelowLow, Straddles, TagNotKept}
+use Rattle.ts_core.specs.declared.plans.fault.PieceFault.{PieceFault}
+use Rattle.ts_core.specs.declared.plans.fault.PieceFault.TheVariants.{Gap, BelowMark, NoSuchRule, OtherMeasurement, OffBoundary, BelowLow, Straddles, TagNotKept}
 use Rattle.ts_core.specs.plans.Faults.{fault_number}
 use Rattle.ts_check.specs.declared.fault.CheckFault.{CheckFault}
 use Rattle.ts_check.specs.declared.certificate_fault.CertificateFault.{CertificateFault}
 use Rattle.ts_check.specs.CheckTexts.{check_fault_text, certificate_fault_text}
 
-number-small : (f : Fault) → fault_number f < 100
+number-small : (f : PieceFault) → fault_number f < 100
 number-small Gap = omega arith
 number-small BelowMark = omega arith
 number-small NoSuchRule = omega arith

@@ -4,7 +4,7 @@ use Rattle.std.specs.List.{AllByRecursion}
 use Rattle.ts_core.specs.settings.Settings.{Settings}
 use Rattle.ts_core.specs.store.Marks.{Marks}
 use Rattle.ts_core.specs.plans.Pieces.{Piece, MarkedRule, QueryContext, IsValid}
-use Rattle.ts_core.specs.declared.plans.fault.Fault.{Fault}
+use Rattle.ts_core.specs.declared.plans.fault.PieceFault.{PieceFault}
 use Rattle.ts_core.specs.plans.Faults.{first_fault}
 use Rattle.ts_ql.specs.Selects.{Select}
 use Rattle.ts_check.specs.declared.fault.CheckError.{CheckError}
@@ -27,7 +27,7 @@ abbrev pub IsValidPlan : Plan → Type 0
 IsValidPlan p = IsValid p.settings p.marks p.select.query p.pieces
 
 -- the first error of a plan, with the index of its piece
-abbrev pub fault_of : Plan → Option (Fault × ℕ)
+abbrev pub fault_of : Plan → Option (PieceFault × ℕ)
 fault_of p = first_fault p.settings p.marks p.select.query p.pieces
 
 -- the result of a check: this plan, exactly if it is valid, or its first error; out of memory only if it is valid

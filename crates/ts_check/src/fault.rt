@@ -6,14 +6,14 @@ ghost use Rattle.ts_check.specs.declared.fault.CheckError.TheVariants as errors;
 
 use std::alloc::{AllocError, Allocator};
 use thiserror::Error;
-use ts_core::{Fault, FaultDetail, push_all};
+use ts_core::{FaultDetail, PieceFault, push_all};
 
 /// Error in a plan of a query.
 #[derive(Clone, Copy, Debug, PartialEq, Eq, Error)]
 #[error("{}, at piece {piece}", .kind.code().message())]
 pub struct CheckFault {
     /// Kind of error.
-    pub kind: Fault,
+    pub kind: PieceFault,
     /// Index of the piece, from 0. If the last piece doesn't reach the end of the range, the number of pieces.
     pub piece: usize,
 }

@@ -9,7 +9,7 @@ use crate::certificate::{Piece, PieceSource};
 use crate::coverage::{is_aligned_in, is_boundary, keeps_tags};
 use crate::query_context::{MarkedRule, QueryContext};
 use std::alloc::Allocator;
-use ts_core::{Fault, Marks, Settings, index_of};
+use ts_core::{Marks, PieceFault, Settings, index_of};
 use ts_ql::Query;
 
 /// Returns true if the rule's bucket at this time is still complete.
@@ -26,48 +26,48 @@ fn rule_fault<A: Allocator>(
     marked: &MarkedRule<'_, A>,
     from: i64,
     to: i64,
-) -> Option<Fault>
+) -> Option<PieceFault>
     requires { pos 1 ≤ℤ marked.now.rule.interval }
     ensures { result ≡ rule_fault query.now.query (Some marked.now) from to }
 {
     let rule = marked.rule;
     if rule.measurement() != query.measurement() {
-        return Some(Fault::OtherMeasurement);
+        return Some(PieceFault::OtherMeasurement);
     }
     if !is_boundary(rule, from) {
-        return Some(Fault::OffBoundary);
+        return Some(PieceFault::OffBoundary);
     }
     if !is_boundary(rule, to) {
-        return Some(Fault::OffBoundary);
+        return Some(PieceFault::OffBoundary);
     }
     if !is_whole(marked, from) {
-        return Some(Fault::BelowLow);
+        return Some(PieceFault::BelowLow);
     }
     if !is_aligned_in(rule, query, from, to) {
-        return Some(Fault::Straddles);
+        return Some(PieceFault::Straddles);
     }
     if !keeps_tags(rule, query) {
-        return Some(Fault::TagNotKept);
+        return Some(PieceFault::TagNotKept);
     }
     None
 }
 
 impl<'a, A: Allocator> QueryContext<'a, A> {
     /// Returns the first error of a piece by itself, whatever its neighbours are.
-    pub(crate) fn piece_fault(&self, piece: &Piece) -> Option<Fault>
+    pub(crate) fn piece_fault(&self, piece: &Piece) -> Option<PieceFault>
         requires { AllByRecursion (λ r. pos 1 ≤ℤ r.rule.interval) self.now.rules }
         ensures { result ≡ piece_fault self.now piece.now }
     {
         match &piece.source {
             PieceSource::Raw => {
                 if piece.from < self.mark() {
-                    Some(Fault::BelowMark)
+                    Some(PieceFault::BelowMark)
                 } else {
                     None
                 }
             }
             PieceSource::Rollup(name) => match self.rule_named(name.as_str()) {
-                None => Some(Fault::NoSuchRule),
+                None => Some(PieceFault::NoSuchRule),
                 Some(marked) => rule_fault(self.query(), &marked, piece.from, piece.to),
             },
         }
@@ -100,7 +100,7 @@ fn gap(from: i64, end: i64, pieces: &[Piece]) -> Option<usize>
 fn first_of_pieces<A: Allocator>(
     query_context: &QueryContext<'_, A>,
     pieces: &[Piece],
-) -> Option<(Fault, usize)>
+) -> Option<(PieceFault, usize)>
     requires { AllByRecursion (λ r. pos 1 ≤ℤ r.rule.interval) query_context.now.rules }
     ensures { result ≡ pieces_fault query_context.now 0 pieces.now }
 {
@@ -119,11 +119,11 @@ pub(crate) fn first_fault<A: Allocator>(
     marks: &Marks<A>,
     query: &Query<A>,
     pieces: &[Piece],
-) -> Option<(Fault, usize)>
+) -> Option<(PieceFault, usize)>
     ensures { result ≡ first_fault settings.now marks.now query.now.query pieces.now }
 {
     if let Some(number) = gap(query.from(), query.to(), pieces) {
-        return Some((Fault::Gap, number));
+        return Some((PieceFault::Gap, number));
     }
     first_of_pieces(&QueryContext::new(settings, marks, query), pieces)
 }

@@ -11,5 +11,5 @@ pub use duration::{with_digit, with_units};
 pub use fact::Fact;
 pub use field_name::FieldName;
 pub use key::{Key, KeyRef};
-pub use time::Time;
+pub use time::{GREATEST_TIME, LEAST_TIME, Time};
 pub use time_unit::TimeUnit;

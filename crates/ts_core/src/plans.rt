@@ -2,4 +2,4 @@
 
 mod fault;
 
-pub use fault::Fault;
+pub use fault::PieceFault;

@@ -10,7 +10,7 @@ use Rattle.ts_core.specs.store.Marks.{index_of}
 use Rattle.ts_core.specs.settings.Settings.{Rule}
 use Rattle.ts_core.specs.settings.SettingsFaults.{unless}
 use Rattle.ts_core.specs.plans.Pieces.{MarkedRule, QueryContext, rule_named, start_of, IsBoundary, RuleServes, tags_of}
-use Rattle.ts_core.specs.declared.plans.fault.Fault.{Fault}
+use Rattle.ts_core.specs.declared.plans.fault.PieceFault.{PieceFault}
 use Rattle.ts_core.specs.plans.Faults.{is_boundary, is_aligned, is_in_one_bucket, keeps, rule_fault, piece_fault}
 use Rattle.ts_core.specs.plans.Plans.{is_same_rule, is_faultless, extended}
 use Rattle.ts_core.proofs.facts.Ids.{same_text-eq}
@@ -24,7 +24,7 @@ use Rattle.ts_plan.specs.Steps.{IsPlannable, IsStep, matches_query, is_usable, n
 use Rattle.ts_plan.specs.Joins.{pending_piece, joins, IsPendingPiece}
 use Rattle.ts_plan.proofs.RuleNumbers.{same_number, same_rule}
 
-six : (a b c d e f : Bool) (u v w x y z : Fault) → a ≡ true → b ≡ true → c ≡ true → f ≡ true → (d && e) ≡ is_faultless (unless a u (unless b v (unless c w (unless d x (unless e y (unless f z None))))))
+six : (a b c d e f : Bool) (u v w x y z : PieceFault) → a ≡ true → b ≡ true → c ≡ true → f ≡ true → (d && e) ≡ is_faultless (unless a u (unless b v (unless c w (unless d x (unless e y (unless f z None))))))
 six true true true true true true u v w x y z p q r s = refl
 six true true true true false f u v w x y z p q r s = refl
 six true true true false e f u v w x y z p q r s = refl

@@ -2,7 +2,7 @@
 use Rattle.std.proofs.Common.{◌≡◌, ℕ, zero, suc, ℤ, pos, ◌+◌, ◌*◌, ◌<◌, ◌≤◌, ◌+ℤ◌, ◌-ℤ◌, ◌≤ℤ◌, ◌<ℤ◌, int_le, int_lt, false, unsigned_abs, arith, refl, sym, ◌∙◌, List, [], ◌∷◌, length, Some, None}
 use Rattle.std.specs.Prelude.{slice_get}
 use Rattle.std.proofs.lemmas.Int.{ints, by_lt_z}
-use Rattle.ts_core.specs.declared.plans.fault.Fault.{Fault}
+use Rattle.ts_core.specs.declared.plans.fault.PieceFault.{PieceFault}
 use Rattle.ts_core.specs.plans.Faults.{piece_fault}
 use Rattle.ts_core.specs.plans.Pieces.{Piece, MarkedRule, QueryContext, IsValidPiece}
 use Rattle.ts_core.proofs.settings.Intervals.{IsWide}
@@ -21,7 +21,7 @@ in_range (y ∷ xs) (suc n) x e = let ih = in_range xs n x e in omega arith
 pub no_fault-valid : (t : QueryContext) (p : Piece) → piece_fault t p ≡ None → IsValidPiece t p
 no_fault-valid t p e = source_from t p.source p.from p.to e
 
-pub fault-not_valid : (t : QueryContext) (p : Piece) (f : Fault) → piece_fault t p ≡ Some f → IsValidPiece t p → ⊥
+pub fault-not_valid : (t : QueryContext) (p : Piece) (f : PieceFault) → piece_fault t p ≡ Some f → IsValidPiece t p → ⊥
 fault-not_valid t p f e v = let q : Some f ≡ None = sym e ∙ source_none t p.source p.from p.to v in cc
 
 pub le_not : (x y : ℤ) → int_le x y ≡ false → y <ℤ x

@@ -11,15 +11,15 @@ use Rattle.ts_core.specs.store.Marks.{Marks, index_of}
 use Rattle.ts_core.specs.queries.Queries.{Query}
 use Rattle.ts_core.specs.plans.Pieces.{Source, Raw, Rollup, Piece, MarkedRule, QueryContext, query_context, rule_named, start_of, IsAligned, IsInOneBucket, tags_of, RuleServes, SourceServes, IsValidPiece, Covers, IsValidFrom, IsValid}
 use Rattle.ts_core.specs.settings.SettingsFaults.{unless}
-use Rattle.ts_core.specs.plans.Faults.{Fault, Gap, NoSuchRule, is_aligned, is_in_one_bucket, rule_fault, source_fault, piece_fault, gap_at, or_fault, pieces_fault, or_gap, fault_from, first_fault}
+use Rattle.ts_core.specs.plans.Faults.{PieceFault, Gap, NoSuchRule, is_aligned, is_in_one_bucket, rule_fault, source_fault, piece_fault, gap_at, or_fault, pieces_fault, or_gap, fault_from, first_fault}
 use Rattle.ts_core.proofs.lists.Comparisons.{le_from, le_true, lt_from, lt_true, same_text-from_eq, all_among, among_all}
 use Rattle.ts_core.proofs.facts.Ids.{same_text-eq}
 
-well : (b : Bool) (f : Fault) (next : Option Fault) → unless b f next ≡ None → (b ≡ true) × (next ≡ None)
+well : (b : Bool) (f : PieceFault) (next : Option PieceFault) → unless b f next ≡ None → (b ≡ true) × (next ≡ None)
 well true f next h = (refl, h)
 well false f next h = absurd (let q : Some f ≡ None = h in cc)
 
-well_none : (b : Bool) (f : Fault) (next : Option Fault) → b ≡ true → next ≡ None → unless b f next ≡ None
+well_none : (b : Bool) (f : PieceFault) (next : Option PieceFault) → b ≡ true → next ≡ None → unless b f next ≡ None
 well_none true f next h k = k
 well_none false f next h k = absurd (true≢false (sym h))
 
@@ -76,7 +76,7 @@ source_none t (Rollup name) a b h = ap (λ o. rule_fault t.query o a b) h.1 ∙ 
 
 -- ---- the whole list
 
-or_none : (n : ℕ) (f : Option Fault) (next : Option (Fault × ℕ)) → or_fault n f next ≡ None → (f ≡ None) × (next ≡ None)
+or_none : (n : ℕ) (f : Option PieceFault) (next : Option (PieceFault × ℕ)) → or_fault n f next ≡ None → (f ≡ None) × (next ≡ None)
 or_none n None next h = (refl, h)
 or_none n (Some f) next h = absurd (let q : Some (f, n) ≡ None = h in cc)
 
@@ -116,7 +116,7 @@ covers_none n a b (p ∷ ps) h =
     gap_step (int_eq p.from a) (int_lt p.from p.to) (int_le p.to b) (gap_at (n + 1) p.to b ps) n ((Decides-int_eq p.from a).1 h.0) (lt_true p.from p.to h.1) (le_true p.to b h.2)
     ∙ covers_none (n + 1) p.to b ps h.3
 
-no_gap : (g : Option ℕ) (f : Option (Fault × ℕ)) → or_gap g f ≡ None → (g ≡ None) × (f ≡ None)
+no_gap : (g : Option ℕ) (f : Option (PieceFault × ℕ)) → or_gap g f ≡ None → (g ≡ None) × (f ≡ None)
 no_gap None f h = (refl, h)
 no_gap (Some n) f h = absurd (let q : Some (Gap, n) ≡ None = h in cc)
 
@@ -131,5 +131,5 @@ pub first_fault-valid : (s : Settings) (m : Marks) (q : Query) (ps : List Piece)
 first_fault-valid s m q ps = (valid_from (query_context s m q) q.from ps, valid_none (query_context s m q) q.from ps)
 
 -- and with a fault they aren't
-pub first_fault-not_valid : (s : Settings) (m : Marks) (q : Query) (ps : List Piece) (e : Fault × ℕ) → first_fault s m q ps ≡ Some e → IsValid s m q ps → ⊥
+pub first_fault-not_valid : (s : Settings) (m : Marks) (q : Query) (ps : List Piece) (e : PieceFault × ℕ) → first_fault s m q ps ≡ Some e → IsValid s m q ps → ⊥
 first_fault-not_valid s m q ps e h v = let n : Some e ≡ None = sym h ∙ valid_none (query_context s m q) q.from ps v in absurd cc

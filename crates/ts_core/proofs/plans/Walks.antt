@@ -6,7 +6,7 @@ use Rattle.std.specs.List.{AllByRecursion}
 use Rattle.std.proofs.lemmas.Bool.{and_parts}
 use Rattle.ts_core.specs.facts.Facts.{Text}
 use Rattle.ts_core.specs.plans.Pieces.{Source, Raw, Rollup, Piece, MarkedRule, QueryContext, SourceServes, IsValidPiece, Covers, IsValidFrom}
-use Rattle.ts_core.specs.plans.Faults.{Fault, piece_fault}
+use Rattle.ts_core.specs.plans.Faults.{PieceFault, piece_fault}
 use Rattle.ts_core.specs.plans.Plans.{IsFirstToReach, Steps, IsWalk, is_same_rule, is_faultless, extended, merged_onto, joined, IsPlanOf}
 use Rattle.ts_core.proofs.settings.Intervals.{IsWide}
 use Rattle.ts_core.proofs.plans.Validity.{source_from}
@@ -33,7 +33,7 @@ pub walk_valid : (t : QueryContext) (p : ℤ) (bs : List Piece) → IsWide t →
 walk_valid t p [] s w = record { covers = w; each = tt }
 walk_valid t p (b ∷ bs) s w = steps_valid t p b b.source bs (IsWalk t b.to bs) s refl w.0 w.1 (walk_valid t b.to bs s) w.2
 
-pub faultless_none : (o : Option Fault) → is_faultless o ≡ true → o ≡ None
+pub faultless_none : (o : Option PieceFault) → is_faultless o ≡ true → o ≡ None
 faultless_none None h = refl
 faultless_none (Some f) h = absurd (true≢false (sym h))
 

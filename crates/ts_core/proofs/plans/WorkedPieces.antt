@@ -6,7 +6,7 @@ use Rattle.ts_core.specs.store.History.{Begin}
 use Rattle.ts_core.specs.store.Marks.{Marks, marks_of}
 use Rattle.ts_core.specs.queries.Queries.{Query, Condition}
 use Rattle.ts_core.specs.plans.Pieces.{Raw, Rollup, Piece}
-use Rattle.ts_core.specs.plans.Faults.{Fault, Gap, BelowMark, NoSuchRule, OtherMeasurement, OffBoundary, BelowLow, Straddles, TagNotKept, first_fault}
+use Rattle.ts_core.specs.plans.Faults.{PieceFault, Gap, BelowMark, NoSuchRule, OtherMeasurement, OffBoundary, BelowLow, Straddles, TagNotKept, first_fault}
 
 -- ---- words
 
@@ -54,7 +54,7 @@ its_marks = refl
 its_first_marks : marks_of two_minutes [] ≡ record { raw = negsuc 9223372036854775805; lows = negsuc 153722867 ∷ [] }
 its_first_marks = refl
 
-abbrev fault_of : Query → List Piece → Option (Fault × ℕ)
+abbrev fault_of : Query → List Piece → Option (PieceFault × ℕ)
 fault_of q ps = first_fault two_minutes at_200s q ps
 
 valid : fault_of (asks cpu [] 0 180000000000 minute) (rollup m1 0 120000000000 ∷ raw 120000000000 180000000000 ∷ []) ≡ None

@@ -3,8 +3,8 @@ use Rattle.std.specs.Prelude.{ℕ, ◌+◌, ℤ, pos, ◌-ℤ◌, int_lt, int_le
 use Rattle.std.specs.Ordering.{int_eq}
 use Rattle.std.specs.Int.{int_rem_euclid}
 use Rattle.std.specs.List.{list_any, list_all}
-pub use Rattle.ts_core.specs.declared.plans.fault.Fault.{Fault}
-pub use Rattle.ts_core.specs.declared.plans.fault.Fault.TheVariants.{Gap, BelowMark, NoSuchRule, OtherMeasurement, OffBoundary, BelowLow, Straddles, TagNotKept}
+pub use Rattle.ts_core.specs.declared.plans.fault.PieceFault.{PieceFault}
+pub use Rattle.ts_core.specs.declared.plans.fault.PieceFault.TheVariants.{Gap, BelowMark, NoSuchRule, OtherMeasurement, OffBoundary, BelowLow, Straddles, TagNotKept}
 use Rattle.ts_core.specs.declared.text.fault_code.FaultCode.{FaultCode}
 use Rattle.ts_core.specs.declared.text.fault_code.FaultCode.TheVariants as coded
 use Rattle.ts_core.specs.text.FaultCodes.{code_number}
@@ -19,7 +19,7 @@ use Rattle.ts_core.specs.queries.Queries.{Query}
 use Rattle.ts_core.specs.plans.Pieces.{Source, Raw, Rollup, Piece, MarkedRule, QueryContext, query_context, rule_named, start_of, tags_of}
 
 -- the codes in the common table of faults
-abbrev pub piece_fault_code : Fault → FaultCode
+abbrev pub piece_fault_code : PieceFault → FaultCode
 -- the pieces don't follow one another from the start of the range to its end
 piece_fault_code Gap = coded.Gap
 -- a raw piece starts below the raw mark
@@ -36,11 +36,11 @@ piece_fault_code Straddles = coded.Straddles
 piece_fault_code TagNotKept = coded.TagNotKept
 
 -- the number of an error
-abbrev pub fault_number : Fault → ℕ
+abbrev pub fault_number : PieceFault → ℕ
 fault_number fault = code_number (piece_fault_code fault)
 
 -- the message of an error
-abbrev pub piece_fault_text : Fault → Text
+abbrev pub piece_fault_text : PieceFault → Text
 piece_fault_text fault = fault_text (piece_fault_code fault) detailed.Alone
 
 -- ---- errors of one piece
@@ -57,7 +57,7 @@ is_in_one_bucket q a b = int_eq (bucket_of a q.interval q.offset) (bucket_of (b 
 abbrev pub keeps : Rule → Text → Bool
 keeps r tag = list_any (same_text tag) r.kept_tags
 
-abbrev pub rule_fault : Query → Option MarkedRule → ℤ → ℤ → Option Fault
+abbrev pub rule_fault : Query → Option MarkedRule → ℤ → ℤ → Option PieceFault
 rule_fault q None a b = Some NoSuchRule
 rule_fault q (Some r) a b =
     unless (same_text r.rule.measurement q.measurement) OtherMeasurement
@@ -67,11 +67,11 @@ rule_fault q (Some r) a b =
     (unless (is_aligned r.rule q || is_in_one_bucket q a b) Straddles
     (unless (list_all (keeps r.rule) (tags_of q)) TagNotKept None)))))
 
-abbrev pub source_fault : QueryContext → Source → ℤ → ℤ → Option Fault
+abbrev pub source_fault : QueryContext → Source → ℤ → ℤ → Option PieceFault
 source_fault t Raw a b = unless (int_le t.mark a) BelowMark None
 source_fault t (Rollup name) a b = rule_fault t.query (rule_named name t.rules) a b
 
-abbrev pub piece_fault : QueryContext → Piece → Option Fault
+abbrev pub piece_fault : QueryContext → Piece → Option PieceFault
 piece_fault t p = source_fault t p.source p.from p.to
 
 -- ---- errors of a list
@@ -82,22 +82,22 @@ abbrev pub gap_at : ℕ → ℤ → ℤ → List Piece → Option ℕ
 gap_at n a b [] = if int_eq a b then None else Some n
 gap_at n a b (p ∷ ps) = if int_eq p.from a && (int_lt p.from p.to && int_le p.to b) then gap_at (n + 1) p.to b ps else Some n
 
-abbrev pub or_fault : ℕ → Option Fault → Option (Fault × ℕ) → Option (Fault × ℕ)
+abbrev pub or_fault : ℕ → Option PieceFault → Option (PieceFault × ℕ) → Option (PieceFault × ℕ)
 or_fault n None next = next
 or_fault n (Some fault) next = Some (fault, n)
 
-abbrev pub pieces_fault : QueryContext → ℕ → List Piece → Option (Fault × ℕ)
+abbrev pub pieces_fault : QueryContext → ℕ → List Piece → Option (PieceFault × ℕ)
 pieces_fault t n [] = None
 pieces_fault t n (p ∷ ps) = or_fault n (piece_fault t p) (pieces_fault t (n + 1) ps)
 
-abbrev pub or_gap : Option ℕ → Option (Fault × ℕ) → Option (Fault × ℕ)
+abbrev pub or_gap : Option ℕ → Option (PieceFault × ℕ) → Option (PieceFault × ℕ)
 or_gap None next = next
 or_gap (Some n) next = Some (Gap, n)
 
 -- gaps in the whole list come first, then errors piece by piece
-abbrev pub fault_from : QueryContext → ℤ → List Piece → Option (Fault × ℕ)
+abbrev pub fault_from : QueryContext → ℤ → List Piece → Option (PieceFault × ℕ)
 fault_from t a ps = or_gap (gap_at 0 a t.query.to ps) (pieces_fault t 0 ps)
 
 -- the first error, and the index of its piece
-abbrev pub first_fault : Settings → Marks → Query → List Piece → Option (Fault × ℕ)
+abbrev pub first_fault : Settings → Marks → Query → List Piece → Option (PieceFault × ℕ)
 first_fault s m q ps = fault_from (query_context s m q) q.from ps

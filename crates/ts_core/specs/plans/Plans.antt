@@ -7,7 +7,7 @@ use Rattle.ts_core.specs.store.Marks.{Marks, index_of}
 use Rattle.ts_core.specs.queries.Queries.{Query}
 use Rattle.ts_core.specs.queries.Answers.{at_least_none}
 use Rattle.ts_core.specs.plans.Pieces.{Source, Raw, Rollup, Piece, MarkedRule, QueryContext, query_context, IsValidPiece, IsValidFrom}
-use Rattle.ts_core.specs.plans.Faults.{Fault, piece_fault}
+use Rattle.ts_core.specs.plans.Faults.{PieceFault, piece_fault}
 
 -- ---- the walk
 
@@ -58,7 +58,7 @@ is_same_rule Raw s = false
 is_same_rule (Rollup name) Raw = false
 is_same_rule (Rollup name) (Rollup other) = same_text name other
 
-abbrev pub is_faultless : Option Fault → Bool
+abbrev pub is_faultless : Option PieceFault → Bool
 is_faultless None = true
 is_faultless (Some fault) = false
 

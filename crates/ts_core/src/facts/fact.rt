@@ -62,11 +62,4 @@ impl<A: Allocator + Copy> Fact<A> {
     {
         self.value
     }
-
-    /// Replaces the value.
-    pub fn set_value(&mut self, value: i64)
-        ensures { self.new ≡ record self.old { value = value } }
-    {
-        self.value = value;
-    }
 }

@@ -4,6 +4,12 @@ ghost use Rattle.ts_core.specs.facts.Times.{IsTime, least_time};
 
 use std::marker::Model;
 
+/// Least valid time, in nanoseconds of the Unix epoch.
+pub const LEAST_TIME: i64 = -9_223_372_036_854_775_806;
+
+/// Greatest valid time, in nanoseconds of the Unix epoch.
+pub const GREATEST_TIME: i64 = 9_223_372_036_854_775_806;
+
 /// A valid time, in nanoseconds of the Unix epoch: from -9223372036854775806 to 9223372036854775806.
 #[derive(Clone, Copy, Debug, PartialEq, Eq, PartialOrd, Ord)]
 pub struct Time {
@@ -29,7 +35,7 @@ impl Time {
         ensures valid { IsSome result ↔ IsTime nanos }
         ensures value { IfSome result (λ t. t ≡ nanos) }
     {
-        if nanos < -9_223_372_036_854_775_806 || nanos > 9_223_372_036_854_775_806 {
+        if nanos < LEAST_TIME || nanos > GREATEST_TIME {
             None
         } else {
             Some(Time { nanos })
@@ -40,9 +46,7 @@ impl Time {
     pub fn least() -> Time
         ensures { result ≡ least_time }
     {
-        Time {
-            nanos: -9_223_372_036_854_775_806,
-        }
+        Time { nanos: LEAST_TIME }
     }
 
     /// Returns the nanoseconds of the Unix epoch.

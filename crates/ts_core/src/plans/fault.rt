@@ -10,7 +10,7 @@ use thiserror::Error;
 /// Error of a list of pieces that doesn't cover all points of a query.
 #[derive(Clone, Copy, Debug, PartialEq, Eq, Error)]
 #[error("{}", self.code().message())]
-pub enum Fault {
+pub enum PieceFault {
     /// Gap: the pieces don't follow one another from the start of the range to its end.
     Gap,
     /// Raw piece that starts below the raw mark.
@@ -29,20 +29,20 @@ pub enum Fault {
     TagNotKept,
 }
 
-impl Fault {
+impl PieceFault {
     /// Returns the code of this error in the common table of faults.
     pub fn code(self) -> FaultCode
         ensures { result ≡ piece_fault_code self }
     {
         match self {
-            Fault::Gap => FaultCode::Gap,
-            Fault::BelowMark => FaultCode::BelowMark,
-            Fault::NoSuchRule => FaultCode::NoSuchRule,
-            Fault::OtherMeasurement => FaultCode::OtherMeasurement,
-            Fault::OffBoundary => FaultCode::OffBoundary,
-            Fault::BelowLow => FaultCode::BelowLow,
-            Fault::Straddles => FaultCode::Straddles,
-            Fault::TagNotKept => FaultCode::TagNotKept,
+            PieceFault::Gap => FaultCode::Gap,
+            PieceFault::BelowMark => FaultCode::BelowMark,
+            PieceFault::NoSuchRule => FaultCode::NoSuchRule,
+            PieceFault::OtherMeasurement => FaultCode::OtherMeasurement,
+            PieceFault::OffBoundary => FaultCode::OffBoundary,
+            PieceFault::BelowLow => FaultCode::BelowLow,
+            PieceFault::Straddles => FaultCode::Straddles,
+            PieceFault::TagNotKept => FaultCode::TagNotKept,
         }
     }
 
