@@ -4,7 +4,8 @@ use Rattle.std.proofs.lemmas.List.{take_more}
 use Rattle.std.specs.declared.hash.DefaultHasher.{DefaultHasher}
 use Rattle.ts_core.specs.facts.Facts.{Text}
 use Rattle.ts_core.specs.text.Texts.{borrowed_pairs}
-use Rattle.ts_raw.specs.Hashes.{with_text, hash_of_tags}
+use Rattle.ts_core.specs.text.Hashing.{with_text}
+use Rattle.ts_raw.specs.Hashes.{hash_of_tags}
 
 lent_hash_push : (h : DefaultHasher) (xs : List (Bor Text × Bor Text)) (t : Bor Text × Bor Text) → hash_of_tags h (borrowed_pairs (xs ++ t ∷ [])) ≡ with_text (with_text (hash_of_tags h (borrowed_pairs xs)) t.0.now) t.1.now
 lent_hash_push h [] t = refl

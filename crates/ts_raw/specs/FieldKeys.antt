@@ -4,7 +4,7 @@ use Rattle.std.specs.Hash.DefaultHasher.{finish}
 use Rattle.std.specs.RandomState.{initial_hasher}
 use Rattle.std.specs.declared.hash.RandomState.{RandomState}
 use Rattle.ts_core.specs.facts.Facts.{Text}
-use Rattle.ts_raw.specs.Hashes.{with_text}
+use Rattle.ts_core.specs.text.Hashing.{with_text}
 
 -- identifies all columns of the measurement that have the field
 pub record FieldKey : Type 0 where

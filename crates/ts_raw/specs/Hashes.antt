@@ -1,14 +1,11 @@
 -- Hashes of names, by a seed. Their values have no meaning. (Own rule.)
 use Rattle.std.specs.Prelude.{ℕ, List, [], ◌∷◌}
-use Rattle.std.specs.Hash.DefaultHasher.{write, finish}
+use Rattle.std.specs.Hash.DefaultHasher.{finish}
 use Rattle.std.specs.RandomState.{initial_hasher}
 use Rattle.std.specs.declared.hash.DefaultHasher.{DefaultHasher}
 use Rattle.std.specs.declared.hash.RandomState.{RandomState}
 use Rattle.ts_core.specs.facts.Facts.{Text, Series}
-
--- the state after a text, and after a byte that occurs in no text
-unfoldable pub with_text : DefaultHasher → Text → DefaultHasher
-with_text h text = write (write h text) (255 ∷ [])
+use Rattle.ts_core.specs.text.Hashing.{with_text}
 
 abbrev pub hash_of_tags : DefaultHasher → List (Text × Text) → DefaultHasher
 hash_of_tags h [] = h

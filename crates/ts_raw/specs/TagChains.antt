@@ -9,7 +9,8 @@ use Rattle.ts_core.specs.lists.Members.{Among}
 use Rattle.ts_core.specs.facts.Facts.{Text, Series}
 use Rattle.ts_core.specs.lists.Numbered.{IsAt}
 use Rattle.ts_core.specs.lists.Tables.{IsTable}
-use Rattle.ts_raw.specs.Hashes.{with_text, hash_of_series}
+use Rattle.ts_core.specs.text.Hashing.{with_text}
+use Rattle.ts_raw.specs.Hashes.{hash_of_series}
 use Rattle.ts_raw.specs.declared.index.tags.TagLink.{TagLink}
 
 -- the hash of a tag of a measurement

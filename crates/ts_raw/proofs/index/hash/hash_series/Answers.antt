@@ -5,7 +5,8 @@ use Rattle.std.specs.Hash.DefaultHasher.{finish}
 use Rattle.std.specs.RandomState.{initial_hasher}
 use Rattle.std.specs.declared.hash.DefaultHasher.{DefaultHasher}
 use Rattle.ts_core.specs.text.Texts.{borrowed_pairs}
-use Rattle.ts_raw.specs.Hashes.{with_text, hash_of_tags, hash_of_series}
+use Rattle.ts_core.specs.text.Hashing.{with_text}
+use Rattle.ts_raw.specs.Hashes.{hash_of_tags, hash_of_series}
 use Rattle.ts_raw.proofs.Hashing.{tags_hashed_more}
 use Rattle.ts_raw.proofs.index.hash.hash_series.Goals as goal
 
@@ -16,8 +17,8 @@ pub loop-tag-preserved : goal.loop-tag-preserved
 loop-tag-preserved c =
     let h : DefaultHasher = with_text (initial_hasher c.args.seed.now) c.args.key.now.measurement in
     let tags : List (Bor Text × Bor Text) = c.tags-tag-items.result.now in
-    c.write_text-in-loop-tag-2.ensures
-    ∙ ap (λ (s : DefaultHasher). with_text s (get_or tags c.loop-tag.tag-index no_tag).1.now) c.write_text-in-loop-tag.ensures
+    c.hash_text-in-loop-tag-2.ensures
+    ∙ ap (λ (s : DefaultHasher). with_text s (get_or tags c.loop-tag.tag-index no_tag).1.now) c.hash_text-in-loop-tag.ensures
     ∙ ap (λ (s : DefaultHasher). with_text (with_text s (get_or tags c.loop-tag.tag-index no_tag).0.now) (get_or tags c.loop-tag.tag-index no_tag).1.now) c.loop-tag.invariant
     ∙ sym (tags_hashed_more h tags c.loop-tag.tag-index no_tag c.loop-tag-test.true)
 

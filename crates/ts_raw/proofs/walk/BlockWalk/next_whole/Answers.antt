@@ -3,8 +3,8 @@ use Rattle.ts_raw.specs.Summaries.{IsFront}
 use Rattle.ts_raw.specs.CodedPoints.{AreWithin, points_walked}
 use Rattle.std.proofs.lemmas.List.{nil_from_length}
 use Rattle.ts_raw.proofs.SummaryLemmas.{walk_skips, block_in_front}
-use Rattle.ts_raw.proofs.walk.Walk.next_whole.Goals.{Else-len-gt0}
-use Rattle.ts_raw.proofs.walk.Walk.next_whole.Goals as goal
+use Rattle.ts_raw.proofs.walk.BlockWalk.next_whole.Goals.{Else-len-gt0}
+use Rattle.ts_raw.proofs.walk.BlockWalk.next_whole.Goals as goal
 
 none : (c : Else-len-gt0) → c.self.inside.decoder ≡ []
 none c = nil_from_length c.self.inside.decoder (let a = c.len.ensures in let b = c.if-len-gt0.false in omega arith)
