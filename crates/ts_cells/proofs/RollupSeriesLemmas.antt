@@ -9,7 +9,8 @@ use Rattle.ts_core.specs.facts.Facts.{Text}
 use Rattle.ts_core.specs.lists.Numbered.{Gains}
 use Rattle.ts_core.proofs.lists.ListSteps.{map-push}
 use Rattle.std.specs.declared.hash.DefaultHasher.{DefaultHasher}
-use Rattle.ts_cells.specs.RollupSeriesTable.{with_text, hash_of_texts}
+use Rattle.ts_core.specs.text.Hashing.{with_text}
+use Rattle.ts_cells.specs.RollupSeriesTable.{hash_of_texts}
 use Rattle.ts_cells.specs.Grids.{borrowed_texts, RollupSeries, RowOf, row_entries, entries_of, IsGrid}
 
 module _ {P : Type 0} where

@@ -22,11 +22,11 @@ use Rattle.ts_cells.specs.RollupSeriesTable.{rollup_series_cmp, found_cmp, serie
 use Rattle.ts_cells.proofs.GridLemmas.{get_among}
 use Rattle.ts_cells.proofs.GridMoves.{all_at, all_insert}
 
-pub series_list_total : IsTotalOrder rollup_series_cmp
-series_list_total = then_total (on_total (λ (l : RollupSeries). l.field) nat_list_cmp_total) (on_total (λ (l : RollupSeries). l.group) (lists_total nat_list_cmp_total))
+pub rollup_series_total : IsTotalOrder rollup_series_cmp
+rollup_series_total = then_total (on_total (λ (l : RollupSeries). l.field) nat_list_cmp_total) (on_total (λ (l : RollupSeries). l.group) (lists_total nat_list_cmp_total))
 
-pub exact_series_list : CmpEqualImpliesEq rollup_series_cmp
-exact_series_list a b h =
+pub exact_rollup_series : CmpEqualImpliesEq rollup_series_cmp
+exact_rollup_series a b h =
     let parts = exact_pairs {A = Text} {B = List Text} text_cmp (slice_cmp text_cmp) exact_bytes (slice_cmp-IsAntisymmetric exact_bytes) (a.field, a.group) (b.field, b.group) h in
     λ i. record { field = (parts i).0; group = (parts i).1 }
 
@@ -61,8 +61,8 @@ greater_of Greater e n = refl
 -- rollup series are the same where they compare as equal
 pub same_rollup_series : (a b : RollupSeries) (r : Bool) → r ≡ is_eq (rollup_series_cmp a b) → IsTrue r ↔ (a ≡ b)
 same_rollup_series a b r e = (
-  λ t. exact_series_list a b (equal_of (rollup_series_cmp a b) (sym e ∙ t)),
-  λ s. e ∙ ap is_eq (ap (rollup_series_cmp a) (sym s) ∙ tied_itself series_list_total a),
+  λ t. exact_rollup_series a b (equal_of (rollup_series_cmp a b) (sym e ∙ t)),
+  λ s. e ∙ ap is_eq (ap (rollup_series_cmp a) (sym s) ∙ tied_itself rollup_series_total a),
 )
 
 length-numbered : (ls : List RollupSeries) (order : List ℕ) → length (series_numbered ls order) ≡ length order
@@ -79,7 +79,7 @@ module _ (ls : List RollupSeries) (order : List ℕ) (is : IsOrdered ls order) (
   pub order_rises : IsNonDecreasingBy (λ n. ordering_index (found_cmp (slice_get ls n) l)) order
   order_rises i j d a b =
       let e : RollupSeries × ℕ = (no_rollup_series, d) in
-      let up = rises series_list_total (series_numbered ls order) is.rising l i j e a (let n = length-numbered ls order in omega arith) in
+      let up = rises rollup_series_total (series_numbered ls order) is.rising l i j e a (let n = length-numbered ls order in omega arith) in
       subst (λ x. ordering_index x ≤ ordering_index (found_cmp (slice_get ls (get_or order j d)) l)) (sym (compared i d e (omega arith)))
       (subst (λ x. ordering_index (rollup_series_cmp (get_or (series_numbered ls order) i e).0 l) ≤ ordering_index x) (sym (compared j d e b)) up)
 
@@ -88,7 +88,7 @@ module _ (ls : List RollupSeries) (order : List ℕ) (is : IsOrdered ls order) (
   equal_among k d h e =
       let n : ℕ = get_or order k d in
       let within : n < length ls = all_at (λ n. n < length ls) order k d h is.inside in
-      let same : get_or ls n no_rollup_series ≡ l = exact_series_list (get_or ls n no_rollup_series) l (sym (found_inside ls n l within) ∙ e) in
+      let same : get_or ls n no_rollup_series ≡ l = exact_rollup_series (get_or ls n no_rollup_series) l (sym (found_inside ls n l within) ∙ e) in
       subst (λ (x : RollupSeries). Among x ls) same (get_among ls n within)
 
   pub order_parts : IsPartitionedBy (λ n. is_lt (found_cmp (slice_get ls n) l)) order
@@ -128,7 +128,7 @@ inside_wider ls l (n ∷ ns) a = ((let h = a.0 in let m = length-append ls (l �
 other_rollup_series : (a b : RollupSeries) → (a ≡ b → ⊥) → eq_by_cmp rollup_series_cmp a b ≡ false
 other_rollup_series a b n =
     elim (eq_by_cmp rollup_series_cmp a b) as (λ x. eq_by_cmp rollup_series_cmp a b ≡ x → x ≡ false) [
-      | true ↦ λ e. absurd (n (exact_series_list a b (equal_of (rollup_series_cmp a b) e)))
+      | true ↦ λ e. absurd (n (exact_rollup_series a b (equal_of (rollup_series_cmp a b) e)))
       | false ↦ λ e. refl
     ] refl
 
@@ -138,12 +138,12 @@ order_more ls order l at is absent h p =
     let es : List (RollupSeries × ℕ) = series_numbered ls order in
     let n : ℕ = length ls in
     let here : at ≤ length es = let k = length-numbered ls order in omega arith in
-    let after : series_numbered (ls ++ l ∷ []) (insert order at n) ≡ put rollup_series_cmp l n es = numbered_more ls l order at h is.inside ∙ sym (put_between series_list_total es l n at here (between ls order is l at h p)) in
+    let after : series_numbered (ls ++ l ∷ []) (insert order at n) ≡ put rollup_series_cmp l n es = numbered_more ls l order at h is.inside ∙ sym (put_between rollup_series_total es l n at here (between ls order is l at h p)) in
     record {
-      rising = subst (λ xs. T (is_sorted rollup_series_cmp xs)) (sym after) (is_sorted-put rollup_series_cmp series_list_total l n es is.rising);
+      rising = subst (λ xs. T (is_sorted rollup_series_cmp xs)) (sym after) (is_sorted-put rollup_series_cmp rollup_series_total l n es is.rising);
       inside = all_insert (λ k. k < length (ls ++ l ∷ [])) order at n h (inside_wider ls l order is.inside) (let m = length-append ls (l ∷ []) in omega arith);
       all = λ j w.
-          ap (find rollup_series_cmp (get_or (ls ++ l ∷ []) j no_rollup_series)) after ∙ find-put rollup_series_cmp series_list_total (get_or (ls ++ l ∷ []) j no_rollup_series) l n es
+          ap (find rollup_series_cmp (get_or (ls ++ l ∷ []) j no_rollup_series)) after ∙ find-put rollup_series_cmp rollup_series_total (get_or (ls ++ l ∷ []) j no_rollup_series) l n es
           ∙ ⊎_elim {C = cond (eq_by_cmp rollup_series_cmp (get_or (ls ++ l ∷ []) j no_rollup_series) l) (Some n) (find rollup_series_cmp (get_or (ls ++ l ∷ []) j no_rollup_series) es) ≡ Some j}
           (λ (k : j < n).
           let same : get_or (ls ++ l ∷ []) j no_rollup_series ≡ get_or ls j no_rollup_series = get_or_append_left ls (l ∷ []) no_rollup_series j k in
@@ -152,6 +152,6 @@ order_more ls order l at is absent h p =
           (λ (k : n ≤ j).
           let last : j ≡ n = let m = length-append ls (l ∷ []) in omega arith in
           let same : get_or (ls ++ l ∷ []) j no_rollup_series ≡ l = ap (λ x. get_or (ls ++ l ∷ []) x no_rollup_series) last ∙ get_or-append_seam ls l [] no_rollup_series in
-          ap (λ (x : RollupSeries). cond (eq_by_cmp rollup_series_cmp x l) (Some n) (find rollup_series_cmp x es)) same ∙ ap (λ r. cond (is_eq r) (Some n) (find rollup_series_cmp l es)) (tied_itself series_list_total l) ∙ ap Some (sym last))
+          ap (λ (x : RollupSeries). cond (eq_by_cmp rollup_series_cmp x l) (Some n) (find rollup_series_cmp x es)) same ∙ ap (λ r. cond (is_eq r) (Some n) (find rollup_series_cmp l es)) (tied_itself rollup_series_total l) ∙ ap Some (sym last))
           (cases_lt j n);
     }

@@ -68,34 +68,34 @@ module _ {P : Type 0} where
 -- ---- slots
 
 -- a rollup series more, that had no cell
-module _ (slots : List (ℕ × ℕ)) (series_list : List ℕ) (after : List (ℕ × ℕ)) (series count : ℕ) (is : IsSlotMap slots series_list count) (absent : count ≤ slot_of slots series) (spare : count < no_slot) (put : (j : ℕ) → slot_of after j ≡ cond (j == series) count (slot_of slots j)) where
-  made_there : (n : ℕ) → n < count + 1 → slot_of after (get_or (series_list ++ series ∷ []) n 0) ≡ n
+module _ (slots : List (ℕ × ℕ)) (series_of_slot : List ℕ) (after : List (ℕ × ℕ)) (series count : ℕ) (is : IsSlotMap slots series_of_slot count) (absent : count ≤ slot_of slots series) (spare : count < no_slot) (put : (j : ℕ) → slot_of after j ≡ cond (j == series) count (slot_of slots j)) where
+  made_there : (n : ℕ) → n < count + 1 → slot_of after (get_or (series_of_slot ++ series ∷ []) n 0) ≡ n
   made_there n h =
-      ⊎_elim {C = slot_of after (get_or (series_list ++ series ∷ []) n 0) ≡ n}
+      ⊎_elim {C = slot_of after (get_or (series_of_slot ++ series ∷ []) n 0) ≡ n}
       (λ (l : n < count).
-      let old : slot_of slots (get_or series_list n 0) ≡ n = is.there n l in
-      let at : get_or (series_list ++ series ∷ []) n 0 ≡ get_or series_list n 0 = get_or_append_left series_list (series ∷ []) 0 n (let m = is.as_many in omega arith) in
+      let old : slot_of slots (get_or series_of_slot n 0) ≡ n = is.there n l in
+      let at : get_or (series_of_slot ++ series ∷ []) n 0 ≡ get_or series_of_slot n 0 = get_or_append_left series_of_slot (series ∷ []) 0 n (let m = is.as_many in omega arith) in
       ap (slot_of after) at
-      ∙ put (get_or series_list n 0)
-      ∙ elim (get_or series_list n 0 == series) as (λ b. (get_or series_list n 0 == series) ≡ b → cond b count (slot_of slots (get_or series_list n 0)) ≡ n) [
-        | true ↦ λ e. absurd (let q : slot_of slots series ≡ n = sym (ap (slot_of slots) (same_number (get_or series_list n 0) series e)) ∙ old in omega arith)
+      ∙ put (get_or series_of_slot n 0)
+      ∙ elim (get_or series_of_slot n 0 == series) as (λ b. (get_or series_of_slot n 0 == series) ≡ b → cond b count (slot_of slots (get_or series_of_slot n 0)) ≡ n) [
+        | true ↦ λ e. absurd (let q : slot_of slots series ≡ n = sym (ap (slot_of slots) (same_number (get_or series_of_slot n 0) series e)) ∙ old in omega arith)
         | false ↦ λ e. old
       ] refl)
       (λ (g : count ≤ n).
-      let here : n ≡ length series_list = let m = is.as_many in omega arith in
-      let at : get_or (series_list ++ series ∷ []) n 0 ≡ series = ap (λ k. get_or (series_list ++ series ∷ []) k 0) here ∙ get_or-append_seam series_list series [] 0 in
+      let here : n ≡ length series_of_slot = let m = is.as_many in omega arith in
+      let at : get_or (series_of_slot ++ series ∷ []) n 0 ≡ series = ap (λ k. get_or (series_of_slot ++ series ∷ []) k 0) here ∙ get_or-append_seam series_of_slot series [] 0 in
       ap (slot_of after) at ∙ put series ∙ ap (λ b. cond b count (slot_of slots series)) (number_itself series series refl) ∙ sym is.as_many ∙ sym here)
       (cases_lt n count)
 
-  made_back : (j : ℕ) → slot_of after j < count + 1 → get_or (series_list ++ series ∷ []) (slot_of after j) 0 ≡ j
+  made_back : (j : ℕ) → slot_of after j < count + 1 → get_or (series_of_slot ++ series ∷ []) (slot_of after j) 0 ≡ j
   made_back j h =
-      elim (j == series) as (λ b. (j == series) ≡ b → get_or (series_list ++ series ∷ []) (slot_of after j) 0 ≡ j) [
-        | true ↦ λ e. ap (λ k. get_or (series_list ++ series ∷ []) k 0) (put j ∙ ap (λ b. cond b count (slot_of slots j)) e ∙ sym is.as_many) ∙ get_or-append_seam series_list series [] 0 ∙ sym (same_number j series e)
+      elim (j == series) as (λ b. (j == series) ≡ b → get_or (series_of_slot ++ series ∷ []) (slot_of after j) 0 ≡ j) [
+        | true ↦ λ e. ap (λ k. get_or (series_of_slot ++ series ∷ []) k 0) (put j ∙ ap (λ b. cond b count (slot_of slots j)) e ∙ sym is.as_many) ∙ get_or-append_seam series_of_slot series [] 0 ∙ sym (same_number j series e)
         | false ↦ λ e.
             let at : slot_of after j ≡ slot_of slots j = put j ∙ ap (λ b. cond b count (slot_of slots j)) e in
             let few : slot_of slots j < count =
             ⊎_elim {C = slot_of slots j < count} (λ l. l) (λ (g : count ≤ slot_of slots j). let n = is.none j g in absurd (omega arith)) (cases_lt (slot_of slots j) count) in
-            ap (λ k. get_or (series_list ++ series ∷ []) k 0) at ∙ get_or_append_left series_list (series ∷ []) 0 (slot_of slots j) (let m = is.as_many in omega arith) ∙ is.back j few
+            ap (λ k. get_or (series_of_slot ++ series ∷ []) k 0) at ∙ get_or_append_left series_of_slot (series ∷ []) 0 (slot_of slots j) (let m = is.as_many in omega arith) ∙ is.back j few
       ] refl
 
   made_none : (j : ℕ) → count + 1 ≤ slot_of after j → slot_of after j ≡ no_slot
@@ -107,17 +107,17 @@ module _ (slots : List (ℕ × ℕ)) (series_list : List ℕ) (after : List (ℕ
             at ∙ is.none j (omega arith)
       ] refl
 
-  pub made_mapped : IsSlotMap after (series_list ++ series ∷ []) (count + 1)
+  pub made_mapped : IsSlotMap after (series_of_slot ++ series ∷ []) (count + 1)
   made_mapped = record {
     few = omega arith;
-    as_many = length-append series_list (series ∷ []) ∙ ap (λ n. n + 1) is.as_many;
+    as_many = length-append series_of_slot (series ∷ []) ∙ ap (λ n. n + 1) is.as_many;
     there = made_there;
     back = made_back;
     none = made_none;
   }
 
 -- the rollup series of the last cell, without it
-module _ (slots : List (ℕ × ℕ)) (series_list front : List ℕ) (series count : ℕ) (is : IsSlotMap slots series_list count) (last : series_list ≡ front ++ series ∷ []) where
+module _ (slots : List (ℕ × ℕ)) (series_of_slot front : List ℕ) (series count : ℕ) (is : IsSlotMap slots series_of_slot count) (last : series_of_slot ≡ front ++ series ∷ []) where
   one_more : count ≡ length front + 1
   one_more = sym is.as_many ∙ ap length last ∙ length-append front (series ∷ [])
 
@@ -127,7 +127,7 @@ module _ (slots : List (ℕ × ℕ)) (series_list front : List ℕ) (series coun
   -- no other rollup series has that slot
   last_alone : (j : ℕ) → slot_of slots j ≡ length front → j ≡ series
   last_alone j e =
-      sym (is.back j (let m = one_more in omega arith)) ∙ ap (λ k. get_or series_list k 0) e ∙ ap (λ ls. get_or ls (length front) 0) last ∙ get_or-append_seam front series [] 0
+      sym (is.back j (let m = one_more in omega arith)) ∙ ap (λ k. get_or series_of_slot k 0) e ∙ ap (λ ls. get_or ls (length front) 0) last ∙ get_or-append_seam front series [] 0
 
   pub gone_few : (j : ℕ) → (j == series) ≡ false → slot_of slots j < count → slot_of slots j < length front
   gone_few j e h =
@@ -137,7 +137,7 @@ module _ (slots : List (ℕ × ℕ)) (series_list front : List ℕ) (series coun
   module _ (after : List (ℕ × ℕ)) (gone : (j : ℕ) → slot_of after j ≡ cond (j == series) no_slot (slot_of slots j)) where
     gone_there : (n : ℕ) → n < length front → slot_of after (get_or front n 0) ≡ n
     gone_there n h =
-        let at : get_or series_list n 0 ≡ get_or front n 0 = ap (λ ls. get_or ls n 0) last ∙ get_or_append_left front (series ∷ []) 0 n h in
+        let at : get_or series_of_slot n 0 ≡ get_or front n 0 = ap (λ ls. get_or ls n 0) last ∙ get_or_append_left front (series ∷ []) 0 n h in
         let old : slot_of slots (get_or front n 0) ≡ n = ap (slot_of slots) (sym at) ∙ is.there n (let m = one_more in omega arith) in
         gone (get_or front n 0)
         ∙ elim (get_or front n 0 == series) as (λ b. (get_or front n 0 == series) ≡ b → cond b no_slot (slot_of slots (get_or front n 0)) ≡ n) [
@@ -208,21 +208,21 @@ module _ {P : Type 0} where
   same_held parts slots after j f same = held_at parts after j f ∙ ap (slice_get parts) (same j) ∙ sym (held_at parts slots j f)
 
   -- one cell has another part
-  pub part_put : (parts : List P) (slots : List (ℕ × ℕ)) (series_list : List ℕ) (series p : ℕ) (v : P) → IsSlotMap slots series_list (length parts) → p ≡ slot_of slots series → p < length parts → (j : ℕ)
+  pub part_put : (parts : List P) (slots : List (ℕ × ℕ)) (series_of_slot : List ℕ) (series p : ℕ) (v : P) → IsSlotMap slots series_of_slot (length parts) → p ≡ slot_of slots series → p < length parts → (j : ℕ)
       → held (by_series (set parts p v) slots) j ≡ cond (j == series) (Some v) (held (by_series parts slots) j)
-  part_put parts slots series_list series p v is at h j =
+  part_put parts slots series_of_slot series p v is at h j =
       held_at (set parts p v) slots j (let f = is.few in let l = length-set parts p v in omega arith)
       ∙ elim (j == series) as (λ b. (j == series) ≡ b → slice_get (set parts p v) (slot_of slots j) ≡ cond b (Some v) (held (by_series parts slots) j)) [
         | true ↦ λ e. ap (slice_get (set parts p v)) (ap (slot_of slots) (same_number j series e) ∙ sym at) ∙ this_part parts p v h
         | false ↦ λ e.
-            other_part parts p (slot_of slots j) v (λ q. other_number j series e (sym (is.back j (omega arith)) ∙ ap (λ k. get_or series_list k 0) (q ∙ at) ∙ is.back series (omega arith)))
+            other_part parts p (slot_of slots j) v (λ q. other_number j series e (sym (is.back j (omega arith)) ∙ ap (λ k. get_or series_of_slot k 0) (q ∙ at) ∙ is.back series (omega arith)))
             ∙ sym (held_at parts slots j is.few)
       ] refl
 
   -- one cell is created
-  pub part_made : (parts : List P) (slots : List (ℕ × ℕ)) (series_list : List ℕ) (after : List (ℕ × ℕ)) (series : ℕ) (x : P) → IsSlotMap slots series_list (length parts) → length parts ≤ slot_of slots series → length parts < no_slot
+  pub part_made : (parts : List P) (slots : List (ℕ × ℕ)) (series_of_slot : List ℕ) (after : List (ℕ × ℕ)) (series : ℕ) (x : P) → IsSlotMap slots series_of_slot (length parts) → length parts ≤ slot_of slots series → length parts < no_slot
       → ((j : ℕ) → slot_of after j ≡ cond (j == series) (length parts) (slot_of slots j)) → (j : ℕ) → held (by_series (parts ++ x ∷ []) after) j ≡ cond (j == series) (Some x) (held (by_series parts slots) j)
-  part_made parts slots series_list after series x is absent spare put j =
+  part_made parts slots series_of_slot after series x is absent spare put j =
       let long : length (parts ++ x ∷ []) ≡ length parts + 1 = length-append parts (x ∷ []) in
       held_at (parts ++ x ∷ []) after j (omega arith)
       ∙ ap (slice_get (parts ++ x ∷ [])) (put j)
@@ -236,15 +236,15 @@ module _ {P : Type 0} where
       ]
 
   -- the last cell is removed
-  pub part_lost : (parts : List P) (slots : List (ℕ × ℕ)) (series_list front : List ℕ) (after : List (ℕ × ℕ)) (series n : ℕ) → IsSlotMap slots series_list (length parts) → series_list ≡ front ++ series ∷ [] → n + 1 ≡ length parts
+  pub part_lost : (parts : List P) (slots : List (ℕ × ℕ)) (series_of_slot front : List ℕ) (after : List (ℕ × ℕ)) (series n : ℕ) → IsSlotMap slots series_of_slot (length parts) → series_of_slot ≡ front ++ series ∷ [] → n + 1 ≡ length parts
       → ((j : ℕ) → slot_of after j ≡ cond (j == series) no_slot (slot_of slots j)) → HasLost (by_series parts slots) (by_series (take n parts) after)
-  part_lost parts slots series_list front after series n is last e gone =
-      let many : length parts ≡ length front + 1 = one_more slots series_list front series (length parts) is last in
+  part_lost parts slots series_of_slot front after series n is last e gone =
+      let many : length parts ≡ length front + 1 = one_more slots series_of_slot front series (length parts) is last in
       let short : length (take n parts) ≡ n = length-take-le n parts (omega arith) in
       record {
         series = series;
         was = λ none.
-            let here : slot_of slots series ≡ length front = last_slot slots series_list front series (length parts) is last in
+            let here : slot_of slots series ≡ length front = last_slot slots series_of_slot front series (length parts) is last in
             let some : slice_get parts (slot_of slots series) ≡ None = sym (held_at parts slots series is.few) ∙ none in
             no_part parts (slot_of slots series) (omega arith) some;
         cells = λ j.
@@ -254,7 +254,7 @@ module _ {P : Type 0} where
               | true ↦ λ h. slice_get_past (take n parts) no_slot (let f = is.few in omega arith)
               | false ↦ λ h.
                   ⊎_elim {C = slice_get (take n parts) (slot_of slots j) ≡ held (by_series parts slots) j}
-                  (λ (l : slot_of slots j < length parts). part_kept parts n (slot_of slots j) (let g = gone_few slots series_list front series (length parts) is last j h l in omega arith) ∙ sym (held_at parts slots j is.few))
+                  (λ (l : slot_of slots j < length parts). part_kept parts n (slot_of slots j) (let g = gone_few slots series_of_slot front series (length parts) is last j h l in omega arith) ∙ sym (held_at parts slots j is.few))
                   (λ (g : length parts ≤ slot_of slots j). slice_get_past (take n parts) (slot_of slots j) (omega arith) ∙ sym (none_held parts slots j is.few g))
                   (cases_lt (slot_of slots j) (length parts))
             ] refl;

@@ -24,7 +24,7 @@ use Rattle.ts_cells.specs.RollupSeriesTable.{rollup_series_cmp, series_numbered,
 use Rattle.ts_cells.specs.Walks.{CellWithPart, entry_of, with_entry, row_left, walk_left, entries_within}
 use Rattle.ts_cells.proofs.Searches.{find_below}
 use Rattle.ts_cells.proofs.GridLemmas.{first_of, first_none, find-both, get_among, same_grid}
-use Rattle.ts_cells.proofs.RollupSeriesOrder.{exact_series_list}
+use Rattle.ts_cells.proofs.RollupSeriesOrder.{exact_rollup_series}
 
 together : (a b : Bool) → T a → T b → T (a && b)
 together true b p q = q
@@ -42,7 +42,7 @@ absent_rollup_series : (ls : List RollupSeries) (l : RollupSeries) (order : List
 absent_rollup_series ls l [] a n = refl
 absent_rollup_series ls l (m ∷ ms) a n =
     elim (eq_by_cmp rollup_series_cmp l (get_or ls m no_rollup_series)) as (λ b. eq_by_cmp rollup_series_cmp l (get_or ls m no_rollup_series) ≡ b → cond b (Some m) (find rollup_series_cmp l (series_numbered ls ms)) ≡ None) [
-      | true ↦ λ e. absurd (n (subst (λ (x : RollupSeries). Among x ls) (sym (exact_series_list l (get_or ls m no_rollup_series) (equal_of (rollup_series_cmp l (get_or ls m no_rollup_series)) e))) (get_among ls m a.0)))
+      | true ↦ λ e. absurd (n (subst (λ (x : RollupSeries). Among x ls) (sym (exact_rollup_series l (get_or ls m no_rollup_series) (equal_of (rollup_series_cmp l (get_or ls m no_rollup_series)) e))) (get_among ls m a.0)))
       | false ↦ λ e. absent_rollup_series ls l ms a.1 n
     ] refl
 
@@ -69,7 +69,7 @@ module _ {P : Type 0} (ls : List RollupSeries) where
       let left : List (CellWithPart P) = row_left ls i cs ns in
       elim (eq_by_cmp rollup_series_cmp l m) as (λ b. eq_by_cmp rollup_series_cmp l m ≡ b → find cell_cmp (cell_at i l) (map entry_of (with_entry (held cs n) n (cell_at i m) left)) ≡ then_held (cond b (Some n) (find rollup_series_cmp l (series_numbered ls ns))) cs) [
         | true ↦ λ e.
-            let same : l ≡ m = exact_series_list l m (equal_of (rollup_series_cmp l m) e) in
+            let same : l ≡ m = exact_rollup_series l m (equal_of (rollup_series_cmp l m) e) in
             let none : find rollup_series_cmp l (series_numbered ls ns) ≡ None = find_below rollup_series_cmp l (series_numbered ls ns) (subst (λ (x : RollupSeries). T (below_all rollup_series_cmp x (series_numbered ls ns))) (sym same) p.0) in
             elim (held cs n) as (λ o. find cell_cmp (cell_at i l) (map entry_of (with_entry o n (cell_at i m) left)) ≡ o) [
               | None ↦ rest ∙ ap (λ o. then_held o cs) none

@@ -35,11 +35,11 @@ cell_at index l = record { index = index; field = l.field; group = l.group }
 
 -- the cell of a bucket in the rollup series with this index
 abbrev pub cell_in : List RollupSeries → ℤ → ℕ → Cell
-cell_in series_list index series = cell_at index (get_or series_list series no_rollup_series)
+cell_in rollup_series index series = cell_at index (get_or rollup_series series no_rollup_series)
 
 -- the rollup series in creation order, and the cells with their values
 pub record Grid (P : Type 0) : Type 0 where
-  pub series_list : List RollupSeries
+  pub rollup_series : List RollupSeries
   pub cells : FinMap cell_cmp P
 
 -- ---- rows
@@ -62,7 +62,7 @@ entries_of ls [] = []
 entries_of ls (r ∷ rs) = row_entries r.0 ls r.1 ++ entries_of ls rs
 
 abbrev pub grid_of : {P : Type 0} → List RollupSeries → List (RowOf P) → Grid P
-grid_of ls rows = record { series_list = ls; cells = from_entries (entries_of ls rows) }
+grid_of ls rows = record { rollup_series = ls; cells = from_entries (entries_of ls rows) }
 
 abbrev pub RowsRise : {P : Type 0} → List (RowOf P) → Type 0
 RowsRise rows = T (is_sorted int_cmp rows)
@@ -89,4 +89,4 @@ coded_rollup_series = code_by (Text × List Text) (coded× coded_text (coded_lis
 
 abbrev pub coded_grid : {P : Type 0} → Coded P → Coded (Grid P)
 coded_grid {P} c =
-    code_by (List RollupSeries × FinMap cell_cmp P) (coded× (coded_list coded_rollup_series) (finmap.code coded_cell c)) (λ g. (g.series_list, g.cells)) (λ p. record { series_list = p.0; cells = p.1 }) (λ _. refl)
+    code_by (List RollupSeries × FinMap cell_cmp P) (coded× (coded_list coded_rollup_series) (finmap.code coded_cell c)) (λ g. (g.rollup_series, g.cells)) (λ p. record { rollup_series = p.0; cells = p.1 }) (λ _. refl)

@@ -1,7 +1,7 @@
 -- The rollup series of a rule, indexed in creation order, found by their hashes, and sorted by their texts. (Own
 -- rules.)
 use Rattle.std.specs.Prelude.{◌≡◌, ℕ, ◌<◌, ◌+◌, T, List, [], ◌∷◌, map, length, get_or, Option, Some, None, if◌then◌else◌, nat_lt}
-use Rattle.std.specs.Hash.DefaultHasher.{write, finish}
+use Rattle.std.specs.Hash.DefaultHasher.{finish}
 use Rattle.std.specs.RandomState.{initial_hasher}
 use Rattle.std.specs.declared.hash.DefaultHasher.{DefaultHasher}
 use Rattle.std.specs.declared.hash.RandomState.{RandomState}
@@ -13,6 +13,7 @@ use Rattle.std.specs.List.{AllByRecursion}
 use Rattle.std.specs.FinMap.{is_sorted, find}
 use Rattle.ts_core.specs.facts.Facts.{Text, text_cmp}
 use Rattle.ts_core.specs.lists.Tables.{IsTable}
+use Rattle.ts_core.specs.text.Hashing.{with_text}
 use Rattle.ts_cells.specs.Grids.{RollupSeries, no_rollup_series}
 
 -- rollup series are ordered by field, then group
@@ -26,17 +27,17 @@ found_cmp (Some m) l = rollup_series_cmp m l
 
 -- the rollup series with these indices, each with its index
 abbrev pub series_numbered : List RollupSeries → List ℕ → List (RollupSeries × ℕ)
-series_numbered series_list order = map (λ (n : ℕ). (get_or series_list n no_rollup_series, n)) order
+series_numbered rollup_series order = map (λ (n : ℕ). (get_or rollup_series n no_rollup_series, n)) order
 
 -- the indices are in range
 abbrev pub AreInside : List RollupSeries → List ℕ → Type 0
-AreInside series_list order = AllByRecursion (λ (n : ℕ). n < length series_list) order
+AreInside rollup_series order = AllByRecursion (λ (n : ℕ). n < length rollup_series) order
 
 -- the indices of all rollup series, in the order of the rollup series
-pub record IsOrdered (series_list : List RollupSeries) (order : List ℕ) : Type 0 where
-  pub rising : T (is_sorted rollup_series_cmp (series_numbered series_list order))
-  pub inside : AreInside series_list order
-  pub all : (j : ℕ) → j < length series_list → find rollup_series_cmp (get_or series_list j no_rollup_series) (series_numbered series_list order) ≡ Some j
+pub record IsOrdered (rollup_series : List RollupSeries) (order : List ℕ) : Type 0 where
+  pub rising : T (is_sorted rollup_series_cmp (series_numbered rollup_series order))
+  pub inside : AreInside rollup_series order
+  pub all : (j : ℕ) → j < length rollup_series → find rollup_series_cmp (get_or rollup_series j no_rollup_series) (series_numbered rollup_series order) ≡ Some j
 
 -- the position of a rollup series in the order after one more was inserted
 abbrev pub shifted : ℕ → ℕ → ℕ
@@ -52,10 +53,6 @@ pub record IsRanked (count : ℕ) (order ranks : List ℕ) : Type 0 where
 
 -- ---- hashes of rollup series, by a seed; their values have no meaning
 
--- the state after a text, and after a byte that occurs in no text
-unfoldable pub with_text : DefaultHasher → Text → DefaultHasher
-with_text h text = write (write h text) (255 ∷ [])
-
 abbrev pub hash_of_texts : DefaultHasher → List Text → DefaultHasher
 hash_of_texts h [] = h
 hash_of_texts h (t ∷ ts) = hash_of_texts (with_text h t) ts
@@ -64,7 +61,7 @@ unfoldable pub hash_of_rollup_series : RandomState → RollupSeries → ℕ
 hash_of_rollup_series seed l = finish (hash_of_texts (with_text (initial_hasher seed) l.field) l.group)
 
 -- rollup series with their hashes and their order
-pub record AreFound (seed : RandomState) (series_list : List RollupSeries) (hashes order ranks : List ℕ) : Type 0 where
-  pub table : IsTable (hash_of_rollup_series seed) series_list hashes
-  pub ordered : IsOrdered series_list order
-  pub ranked : IsRanked (length series_list) order ranks
+pub record AreFound (seed : RandomState) (rollup_series : List RollupSeries) (hashes order ranks : List ℕ) : Type 0 where
+  pub table : IsTable (hash_of_rollup_series seed) rollup_series hashes
+  pub ordered : IsOrdered rollup_series order
+  pub ranked : IsRanked (length rollup_series) order ranks

@@ -31,9 +31,9 @@ abbrev pub by_series : {P : Type 0} → List P → List (ℕ × ℕ) → List (O
 by_series parts slots = table (λ j. slice_get parts (slot_of slots j)) (slots_width slots)
 
 -- each cell is at the position of its rollup series, and at no other's
-pub record IsSlotMap (slots : List (ℕ × ℕ)) (series_list : List ℕ) (count : ℕ) : Type 0 where
+pub record IsSlotMap (slots : List (ℕ × ℕ)) (series_of_slot : List ℕ) (count : ℕ) : Type 0 where
   pub few : count ≤ no_slot
-  pub as_many : length series_list ≡ count
-  pub there : (n : ℕ) → n < count → slot_of slots (get_or series_list n 0) ≡ n
-  pub back : (j : ℕ) → slot_of slots j < count → get_or series_list (slot_of slots j) 0 ≡ j
+  pub as_many : length series_of_slot ≡ count
+  pub there : (n : ℕ) → n < count → slot_of slots (get_or series_of_slot n 0) ≡ n
+  pub back : (j : ℕ) → slot_of slots j < count → get_or series_of_slot (slot_of slots j) 0 ≡ j
   pub none : (j : ℕ) → count ≤ slot_of slots j → slot_of slots j ≡ no_slot

@@ -30,13 +30,13 @@ with_entry (Some p) n k rest = record { series = n; cell = k; part = p } ∷ res
 
 -- the cells of a bucket in the rollup series with these indices
 abbrev pub row_left : {P : Type 0} → List RollupSeries → ℤ → List (Option P) → List ℕ → List (CellWithPart P)
-row_left series_list i cs [] = []
-row_left series_list i cs (n ∷ ns) = with_entry (held cs n) n (cell_in series_list i n) (row_left series_list i cs ns)
+row_left rollup_series i cs [] = []
+row_left rollup_series i cs (n ∷ ns) = with_entry (held cs n) n (cell_in rollup_series i n) (row_left rollup_series i cs ns)
 
 -- the cells of the first row in the remaining rollup series, and those of the other rows in all rollup series
 abbrev pub walk_left : {P : Type 0} → List RollupSeries → List ℕ → List (RowOf P) → List ℕ → List (CellWithPart P)
-walk_left series_list order [] left = []
-walk_left series_list order (r ∷ rs) left = row_left series_list r.0 r.1 left ++ walk_left series_list order rs order
+walk_left rollup_series order [] left = []
+walk_left rollup_series order (r ∷ rs) left = row_left rollup_series r.0 r.1 left ++ walk_left rollup_series order rs order
 
 -- ---- codes
 

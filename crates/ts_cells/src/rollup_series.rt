@@ -3,12 +3,13 @@ ghost use Rattle.std.specs.Prelude.{◌≡◌, ◌↔◌, IsTrue, IfOk, map, str
 ghost use Rattle.std.specs.Cmp.Lexicographic.{slice_cmp};
 ghost use Rattle.ts_core.specs.facts.Facts.{text_cmp};
 ghost use Rattle.ts_cells.specs.Grids.{borrowed_texts, rollup_series_named};
-ghost use Rattle.ts_cells.specs.RollupSeriesTable.{rollup_series_cmp, with_text, hash_of_rollup_series};
+ghost use Rattle.ts_cells.specs.RollupSeriesTable.{rollup_series_cmp, hash_of_rollup_series};
 
 use std::alloc::{AllocError, Allocator};
 use std::cmp::Ordering;
-use std::hash::{BuildHasher, DefaultHasher, Hasher, RandomState};
+use std::hash::{BuildHasher, Hasher, RandomState};
 use std::marker::Model;
+use ts_core::hash_text;
 
 /// Index of a rollup series, in creation order from 0.
 #[derive(Clone, Copy, Debug, PartialEq, Eq)]
@@ -70,23 +71,14 @@ fn owned<A: Allocator + Copy>(alloc: A, texts: &[&str]) -> Result<Vec<String<A>,
     Ok(all)
 }
 
-/// Hashes a text, and then a byte that occurs in no text, so texts that are cut elsewhere have other hashes.
-#[tactic(auto, unfolding(crate::specs::RollupSeriesTable::with_text))]
-fn write_text(hasher: &mut DefaultHasher, text: &str)
-    ensures { hasher.new ≡ with_text hasher.old text.now }
-{
-    hasher.write(text.as_bytes());
-    hasher.write_u8(0xff);
-}
-
 /// Returns the hash of a rollup series, by a seed.
 pub(crate) fn hash_rollup_series(seed: &RandomState, field: &str, group: &[&str]) -> u64
     ensures { result ≡ hash_of_rollup_series seed.now (rollup_series_named field.now group.now) }
 {
     let mut hasher = seed.build_hasher();
-    write_text(&mut hasher, field);
+    hash_text(&mut hasher, field);
     for text in group {
-        write_text(&mut hasher, text);
+        hash_text(&mut hasher, text);
     }
     hasher.finish()
 }

@@ -17,7 +17,7 @@ use ts_core::{Chains, next_id, reserve_eighth};
 /// Hash table of rollup series, indexed in creation order.
 #[derive(Drop)]
 pub(crate) struct RollupSeriesTable<A: Allocator> {
-    series_list: Vec<RollupSeries<A>, A>,
+    rollup_series: Vec<RollupSeries<A>, A>,
     /// Hash chains over the rollup series.
     chains: Chains<A>,
     seed: RandomState,
@@ -37,21 +37,21 @@ impl<A: Allocator> Model for RollupSeriesTable<A> {
 
     ghost coded = { coded_list coded_rollup_series };
 
-    ghost view = { λ s. s.series_list.items };
+    ghost view = { λ s. s.rollup_series.items };
 
-    ghost invariant = { λ s. AreFound s.seed s.series_list.items s.chains s.order.items s.ranks.items };
+    ghost invariant = { λ s. AreFound s.seed s.rollup_series.items s.chains s.order.items s.ranks.items };
 }
 
 /// Compares the rollup series with this index with that of a field and a group. A missing rollup series comes first.
 fn compare_at<A: Allocator + Copy>(
-    series_list: &[RollupSeries<A>],
+    rollup_series: &[RollupSeries<A>],
     number: u32,
     field: &str,
     group: &[&str],
 ) -> Ordering
-    ensures { result ≡ found_cmp (slice_get series_list.now number) (rollup_series_named field.now group.now) }
+    ensures { result ≡ found_cmp (slice_get rollup_series.now number) (rollup_series_named field.now group.now) }
 {
-    match series_list.get(number as usize) {
+    match rollup_series.get(number as usize) {
         Some(series) => series.compare(field, group),
         None => Ordering::Less,
     }
@@ -59,17 +59,17 @@ fn compare_at<A: Allocator + Copy>(
 
 /// Finds the index in `order` at which to insert a new rollup series, by binary search.
 fn index_in_order<A: Allocator + Copy>(
-    series_list: &[RollupSeries<A>],
+    rollup_series: &[RollupSeries<A>],
     order: &[u32],
     field: &str,
     group: &[&str],
 ) -> usize
-    requires ordered { IsOrdered series_list.now order.now }
-    requires absent { Among (rollup_series_named field.now group.now) series_list.now → ⊥ }
+    requires ordered { IsOrdered rollup_series.now order.now }
+    requires absent { Among (rollup_series_named field.now group.now) rollup_series.now → ⊥ }
     ensures bound { result ≤ length order.now }
-    ensures slot { IsPartitionPoint (λ n. found_cmp (slice_get series_list.now n) (rollup_series_named field.now group.now) ≡ Ordering.Less) (λ n. found_cmp (slice_get series_list.now n) (rollup_series_named field.now group.now) ≡ Ordering.Greater) order.now result }
+    ensures slot { IsPartitionPoint (λ n. found_cmp (slice_get rollup_series.now n) (rollup_series_named field.now group.now) ≡ Ordering.Less) (λ n. found_cmp (slice_get rollup_series.now n) (rollup_series_named field.now group.now) ≡ Ordering.Greater) order.now result }
 {
-    order.partition_point(|number| compare_at(series_list, *number, field, group).is_lt())
+    order.partition_point(|number| compare_at(rollup_series, *number, field, group).is_lt())
 }
 
 /// Adds one to those of the first `count` positions that are `at` or more. All are below `count`.
@@ -95,7 +95,7 @@ impl<A: Allocator + Copy> RollupSeriesTable<A> {
         ensures { result ≡ [] }
     {
         RollupSeriesTable {
-            series_list: Vec::new(alloc),
+            rollup_series: Vec::new(alloc),
             chains: Chains::new(alloc),
             seed,
             order: Vec::new(alloc),
@@ -107,7 +107,7 @@ impl<A: Allocator + Copy> RollupSeriesTable<A> {
     pub(crate) fn as_slice(&self) -> &[RollupSeries<A>]
         ensures { result.now ≡ self.now }
     {
-        self.series_list.as_slice()
+        self.rollup_series.as_slice()
     }
 
     /// Returns the indices of all rollup series, sorted by field and group, and the position of each rollup series
@@ -128,7 +128,7 @@ impl<A: Allocator + Copy> RollupSeriesTable<A> {
             .chains
             .newest(hash_rollup_series(&self.seed, field, group));
         while let Some(at) = next {
-            let series = &self.series_list[at as usize];
+            let series = &self.rollup_series[at as usize];
             if series.matches(field, group) {
                 return Some(at);
             }
@@ -148,20 +148,20 @@ impl<A: Allocator + Copy> RollupSeriesTable<A> {
         if let Some(number) = self.lookup(field, group) {
             return Ok(number);
         }
-        let number = next_id(self.series_list.len())?;
-        let series = RollupSeries::new(*self.series_list.allocator(), field, group)?;
-        reserve_eighth(&mut self.series_list, 1)?;
+        let number = next_id(self.rollup_series.len())?;
+        let series = RollupSeries::new(*self.rollup_series.allocator(), field, group)?;
+        reserve_eighth(&mut self.rollup_series, 1)?;
         reserve_eighth(&mut self.order, 1)?;
         reserve_eighth(&mut self.ranks, 1)?;
         let at = index_in_order(
-            self.series_list.as_slice(),
+            self.rollup_series.as_slice(),
             self.order.as_slice(),
             field,
             group,
         );
         self.chains
             .push(hash_rollup_series(&self.seed, field, group))?;
-        self.series_list.push(series).unwrap();
+        self.rollup_series.push(series).unwrap();
         self.order.insert(at, number).unwrap();
         self.ranks.push(at as u32).unwrap();
         shift(self.ranks.as_mut_slice(), at as u32, number as usize);

@@ -9,7 +9,7 @@ use ts_testkit::{all_but_one, fixed_seed};
 
 /// Returns the rollup series of field `v` without a group.
 fn rollup_series_of(cells: &mut Cells<Agg, Global>) -> Result<RollupSeriesId, AllocError>
-    ensures { IfOk result (λ series. series < length cells.new.series_list) }
+    ensures { IfOk result (λ series. series < length cells.new.rollup_series) }
 {
     cells.series("v", &[])
 }

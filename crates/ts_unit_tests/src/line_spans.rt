@@ -6,15 +6,15 @@ use ts_core::Time;
 use ts_line::{Field, Line, Part, Precision, Tag, read_line};
 
 /// Offset of a part, its bytes, and its text without escapes.
-type Span = (usize, &'static str, &'static str);
+type PartAt = (usize, &'static str, &'static str);
 
 /// A line and its parts: the measurement, tags, fields and the time.
 #[derive(Clone, Copy)]
 struct Row {
     text: &'static str,
-    measurement: Span,
-    tags: &'static [(Span, Span)],
-    fields: &'static [(Span, i64)],
+    measurement: PartAt,
+    tags: &'static [(PartAt, PartAt)],
+    fields: &'static [(PartAt, i64)],
     time: i64,
 }
 
@@ -59,7 +59,7 @@ const ROWS: [Row; 4] = [
 ];
 
 /// Returns true if a part is this one, and its bytes are at its offset in the text.
-fn is_part(text: &str, part: &Part<'_, Global>, span: Span) -> bool {
+fn is_part(text: &str, part: &Part<'_, Global>, span: PartAt) -> bool {
     let end = part.start().saturating_add(part.raw().len());
     part.start() == span.0
         && part.raw() == span.1
@@ -68,7 +68,7 @@ fn is_part(text: &str, part: &Part<'_, Global>, span: Span) -> bool {
 }
 
 /// Returns true if tags are these, in their order.
-fn are_tags(text: &str, tags: &[Tag<'_, Global>], spans: &[(Span, Span)]) -> bool {
+fn are_tags(text: &str, tags: &[Tag<'_, Global>], spans: &[(PartAt, PartAt)]) -> bool {
     for (tag, (key, value)) in tags.iter().zip(spans) {
         if !is_part(text, tag.key(), *key) || !is_part(text, tag.value(), *value) {
             return false;
@@ -78,7 +78,7 @@ fn are_tags(text: &str, tags: &[Tag<'_, Global>], spans: &[(Span, Span)]) -> boo
 }
 
 /// Returns true if fields are these, in their order.
-fn are_fields(text: &str, fields: &[Field<'_, Global>], spans: &[(Span, i64)]) -> bool {
+fn are_fields(text: &str, fields: &[Field<'_, Global>], spans: &[(PartAt, i64)]) -> bool {
     for (field, (name, value)) in fields.iter().zip(spans) {
         if !is_part(text, field.name(), *name) || field.value() != *value {
             return false;

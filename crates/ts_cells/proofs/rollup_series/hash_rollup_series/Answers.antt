@@ -5,7 +5,8 @@ use Rattle.std.specs.RandomState.{initial_hasher}
 use Rattle.std.specs.declared.hash.DefaultHasher.{DefaultHasher}
 use Rattle.ts_core.specs.facts.Facts.{Text}
 use Rattle.ts_cells.specs.Grids.{borrowed_texts}
-use Rattle.ts_cells.specs.RollupSeriesTable.{with_text, hash_of_texts, hash_of_rollup_series}
+use Rattle.ts_core.specs.text.Hashing.{with_text}
+use Rattle.ts_cells.specs.RollupSeriesTable.{hash_of_texts, hash_of_rollup_series}
 use Rattle.ts_cells.proofs.RollupSeriesLemmas.{texts_hashed_more}
 use Rattle.ts_cells.proofs.rollup_series.hash_rollup_series.Goals as goal
 
@@ -14,7 +15,7 @@ no_text = record { ref_ptr = (0, 0); now = [] }
 
 pub loop-text-preserved : goal.loop-text-preserved
 loop-text-preserved c =
-    c.write_text-in-loop-text.ensures
+    c.hash_text-in-loop-text.ensures
     ∙ ap (λ (s : DefaultHasher). with_text s (get_or c.args.group.now c.loop-text.text-index no_text).now) c.loop-text.invariant
     ∙ sym (texts_hashed_more (with_text (initial_hasher c.args.seed.now) c.args.field.now) c.args.group.now c.loop-text.text-index no_text c.loop-text-test.true)
 

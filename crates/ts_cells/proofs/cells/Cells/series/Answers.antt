@@ -8,9 +8,9 @@ use Rattle.ts_cells.proofs.cells.Cells.series.Goals as goal
 
 pub invariant_of-self-2 : goal.invariant_of-self-2
 invariant_of-self-2 g c =
-    gained_grid c.self.inside.series_list c.register.new.self (rollup_series_named c.args.field.now c.args.group.now) c.self.inside.rows.items c.self.invariant c.in_ok-number.ensures.ok
+    gained_grid c.self.inside.rollup_series c.register.new.self (rollup_series_named c.args.field.now c.args.group.now) c.self.inside.rows.items c.self.invariant c.in_ok-number.ensures.ok
 
 pub returns-clause-cells : goal.returns-clause-cells
 returns-clause-cells g c =
-    ap (from_entries {R = cell_cmp}) (gained_entries c.self.inside.series_list c.register.new.self (rollup_series_named c.args.field.now c.args.group.now) c.self.inside.rows.items c.self.invariant c.in_ok-number.ensures.ok)
+    ap (from_entries {R = cell_cmp}) (gained_entries c.self.inside.rollup_series c.register.new.self (rollup_series_named c.args.field.now c.args.group.now) c.self.inside.rows.items c.self.invariant c.in_ok-number.ensures.ok)
     ∙ ap (λ (s : Grid (PartsOf g.row.P.Denot)). s.cells) c.self.view_is

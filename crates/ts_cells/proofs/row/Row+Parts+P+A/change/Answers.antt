@@ -22,7 +22,7 @@ returns-then-slot-len-clause-cells g c = λ j.
     held_at parts slots series c.self.invariant.few ∙ ap (slice_get parts) (sym slot) ∙ slice_get-get_or parts c.find_slot-slot.result was within ∙ ap Some (sym is) in
     let now : Some c.apply.new.parts ≡ option_map f (held (by_series parts slots) series) = ap Some c.apply.ensures ∙ ap (option_map f) (sym here) in
     subst (λ (s : RowOf (PartsOf g.row.P.Denot)). held (by_series (set parts c.find_slot-slot.result c.apply.new.parts) slots) j ≡ cond (j == series) (option_map f (held s.1 series)) (held s.1 j)) c.self.view_is
-    (part_put parts slots c.self.inside.series_list.items series c.find_slot-slot.result c.apply.new.parts c.self.invariant slot within j ∙ ap (λ o. cond (j == series) o (held (by_series parts slots) j)) now)
+    (part_put parts slots c.self.inside.series_of_slot.items series c.find_slot-slot.result c.apply.new.parts c.self.invariant slot within j ∙ ap (λ o. cond (j == series) o (held (by_series parts slots) j)) now)
 
 pub returns-else-slot-len-clause-cells : goal.returns-else-slot-len-clause-cells
 returns-else-slot-len-clause-cells g c = λ j.

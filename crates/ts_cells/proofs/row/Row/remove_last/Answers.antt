@@ -8,8 +8,8 @@ pub returns-in_default-clause-none : goal.returns-in_default-clause-none
 returns-in_default-clause-none g c =
     let parts : List g.row.P.Denot = c.self.inside.parts.items in
     let slots : List (ℕ × ℕ) = c.self.inside.slots in
-    let no_series_list : length c.self.inside.series_list.items ≡ 0 = search rules in
-    let none : length parts ≡ 0 = sym c.self.invariant.as_many ∙ no_series_list in (
+    let no_series : length c.self.inside.series_of_slot.items ≡ 0 = search rules in
+    let none : length parts ≡ 0 = sym c.self.invariant.as_many ∙ no_series in (
       λ j. subst (λ (s : RowOf g.row.P.Denot). held s.1 j ≡ None) c.self.view_is (none_held parts slots j c.self.invariant.few (omega arith)),
       ap (λ (s : RowOf g.row.P.Denot). s.1) c.self.view_is,
     )
@@ -17,7 +17,7 @@ returns-in_default-clause-none g c =
 pub invariant_of-self-2 : goal.invariant_of-self-2
 invariant_of-self-2 g c =
     let many : length c.pop-2.new.self.items + 1 ≡ length c.self.inside.parts.items = search rules in
-    gone_mapped c.self.inside.slots c.self.inside.series_list.items c.pop.new.self.items c.in-Some.series (length c.self.inside.parts.items) c.self.invariant c.in-Some.ensures.items c.remove.new.self c.remove.ensures.slots (length c.pop-2.new.self.items) many
+    gone_mapped c.self.inside.slots c.self.inside.series_of_slot.items c.pop.new.self.items c.in-Some.series (length c.self.inside.parts.items) c.self.invariant c.in-Some.ensures.items c.remove.new.self c.remove.ensures.slots (length c.pop-2.new.self.items) many
 
 pub returns-clause-removed : goal.returns-clause-removed
 returns-clause-removed g c =
@@ -27,7 +27,7 @@ returns-clause-removed g c =
     let front : c.pop-2.new.self.items ≡ take (length c.pop-2.new.self.items) parts = search rules in
     subst (λ (s : RowOf g.row.P.Denot). HasLost s.1 (by_series c.pop-2.new.self.items c.remove.new.self)) c.self.view_is
     (subst (λ ps. HasLost (by_series parts slots) (by_series ps c.remove.new.self)) (sym front)
-    (part_lost parts slots c.self.inside.series_list.items c.pop.new.self.items c.remove.new.self c.in-Some.series (length c.pop-2.new.self.items) c.self.invariant c.in-Some.ensures.items many c.remove.ensures.slots))
+    (part_lost parts slots c.self.inside.series_of_slot.items c.pop.new.self.items c.remove.new.self c.in-Some.series (length c.pop-2.new.self.items) c.self.invariant c.in-Some.ensures.items many c.remove.ensures.slots))
 
 pub returns-clause-len : goal.returns-clause-len
 returns-clause-len g c =

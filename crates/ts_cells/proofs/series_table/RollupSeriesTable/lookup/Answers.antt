@@ -14,7 +14,7 @@ Sought seed ls hashes l next = IsSearched hashes (hash_of_rollup_series seed l) 
 pub index-series-requires : goal.index-series-requires
 index-series-requires g c =
     let l : RollupSeries = rollup_series_named c.args.field.now c.args.group.now in
-    let ls : List RollupSeries = c.self.inside.series_list.items in
+    let ls : List RollupSeries = c.self.inside.rollup_series.items in
     let hashes : List ℕ = c.self.inside.chains in
     let within : c.in-Some.at < length ls =
     sought_within (hash_of_rollup_series c.self.inside.seed) ls hashes c.self.invariant.table l c.in-Some.at (subst (Sought c.self.inside.seed ls hashes l) c.in-Some.is c.loop-next.invariant) in
@@ -23,7 +23,7 @@ index-series-requires g c =
 pub returns-then-matches-clause-found : goal.returns-then-matches-clause-found
 returns-then-matches-clause-found g c =
     let l : RollupSeries = rollup_series_named c.args.field.now c.args.group.now in
-    let ls : List RollupSeries = c.self.inside.series_list.items in
+    let ls : List RollupSeries = c.self.inside.rollup_series.items in
     let hashes : List ℕ = c.self.inside.chains in
     let within : c.in-Some.at < length ls =
     sought_within (hash_of_rollup_series c.self.inside.seed) ls hashes c.self.invariant.table l c.in-Some.at (subst (Sought c.self.inside.seed ls hashes l) c.in-Some.is c.loop-next.invariant) in
@@ -33,7 +33,7 @@ returns-then-matches-clause-found g c =
 pub older-next-requires : goal.older-next-requires
 older-next-requires g c =
     let l : RollupSeries = rollup_series_named c.args.field.now c.args.group.now in
-    let ls : List RollupSeries = c.self.inside.series_list.items in
+    let ls : List RollupSeries = c.self.inside.rollup_series.items in
     let hashes : List ℕ = c.self.inside.chains in
     search_within hashes (hash_of_rollup_series c.self.inside.seed l) (λ (n : ℕ). IsAt ls n l) c.in-Some.at (subst (Sought c.self.inside.seed ls hashes l) c.in-Some.is c.loop-next.invariant)
 
@@ -46,7 +46,7 @@ loop-next-smaller g c =
 pub loop-next-preserved : goal.loop-next-preserved
 loop-next-preserved g c =
     let l : RollupSeries = rollup_series_named c.args.field.now c.args.group.now in
-    let ls : List RollupSeries = c.self.inside.series_list.items in
+    let ls : List RollupSeries = c.self.inside.rollup_series.items in
     let hashes : List ℕ = c.self.inside.chains in
     let other : c.index-series.result.now ≡ l → ⊥ =
     λ e. true≢false (sym (c.matches.ensures.1 e) ∙ c.if-matches.false) in
@@ -57,7 +57,7 @@ loop-next-preserved g c =
 pub returns-clause-absent : goal.returns-clause-absent
 returns-clause-absent g c =
     let l : RollupSeries = rollup_series_named c.args.field.now c.args.group.now in
-    let ls : List RollupSeries = c.self.inside.series_list.items in
+    let ls : List RollupSeries = c.self.inside.rollup_series.items in
     let hashes : List ℕ = c.self.inside.chains in
     let ended : c.loop-next.next ≡ None = search rules in
     subst (λ (all : List RollupSeries). Among l all → ⊥) c.self.view_is

@@ -19,22 +19,22 @@ returns-in-Some-clause-ok g c =
     let l : RollupSeries = rollup_series_named c.args.field.now c.args.group.now in inl (at_among c.args.self.now c.in-Some.number l c.in-Some.ensures.found, refl)
 
 -- the rollup series follows the others
-pushed : (g : Over) (c : goal.After-self-1 g) → c.push-2.new.self.items ≡ c.self.inside.series_list.items ++ rollup_series_named c.args.field.now c.args.group.now ∷ []
+pushed : (g : Over) (c : goal.After-self-1 g) → c.push-2.new.self.items ≡ c.self.inside.rollup_series.items ++ rollup_series_named c.args.field.now c.args.group.now ∷ []
 pushed g c =
-    let before : List RollupSeries = c.self.inside.series_list.items in
+    let before : List RollupSeries = c.self.inside.rollup_series.items in
     c.push-2.ensures.items ∙ ap (λ r. if is_ok r then c.reserve_eighth.new.list.items ++ c.in_ok-series.series ∷ [] else c.reserve_eighth.new.list.items) c.unwrap.ensures
     ∙ ap (λ (xs : List RollupSeries). xs ++ c.in_ok-series.series ∷ []) c.reserve_eighth.ensures.items ∙ ap (λ (x : RollupSeries). before ++ x ∷ []) c.in_ok-series.ensures
 
 -- its number is how many there were
-counted : (g : Over) (c : goal.After-self-1 g) → c.in_ok-number.number ≡ length c.self.inside.series_list.items
+counted : (g : Over) (c : goal.After-self-1 g) → c.in_ok-number.number ≡ length c.self.inside.rollup_series.items
 counted g c = search rules
 
 -- it wasn't there
-unknown : (g : Over) (c : goal.After-self-1 g) → Among (rollup_series_named c.args.field.now c.args.group.now) c.self.inside.series_list.items → ⊥
+unknown : (g : Over) (c : goal.After-self-1 g) → Among (rollup_series_named c.args.field.now c.args.group.now) c.self.inside.rollup_series.items → ⊥
 unknown g c = subst (λ (xs : List RollupSeries). Among (rollup_series_named c.args.field.now c.args.group.now) xs → ⊥) (sym c.self.view_is) c.in_default.ensures.absent
 
 -- its number is in the order
-ordered : (g : Over) (c : goal.After-self-1 g) → c.insert.new.self.items ≡ insert c.self.inside.order.items c.index_in_order-at.result (length c.self.inside.series_list.items)
+ordered : (g : Over) (c : goal.After-self-1 g) → c.insert.new.self.items ≡ insert c.self.inside.order.items c.index_in_order-at.result (length c.self.inside.rollup_series.items)
 ordered g c =
     let order : List ℕ = c.self.inside.order.items in
     let at : ℕ = c.index_in_order-at.result in
@@ -49,10 +49,10 @@ placed g c =
     c.as_mut_slice.ensures.value ∙ c.push-3.ensures.items ∙ ap (λ r. if is_ok r then c.reserve_eighth-3.new.list.items ++ at ∷ [] else c.reserve_eighth-3.new.list.items) c.unwrap-3.ensures
     ∙ ap (λ xs. xs ++ at ∷ []) c.reserve_eighth-3.ensures.items
 
-ranked : (g : Over) (c : goal.After-self-1 g) → IsRanked (length (c.self.inside.series_list.items ++ rollup_series_named c.args.field.now c.args.group.now ∷ [])) (insert c.self.inside.order.items c.index_in_order-at.result (length c.self.inside.series_list.items)) c.shift.new.ranks
+ranked : (g : Over) (c : goal.After-self-1 g) → IsRanked (length (c.self.inside.rollup_series.items ++ rollup_series_named c.args.field.now c.args.group.now ∷ [])) (insert c.self.inside.order.items c.index_in_order-at.result (length c.self.inside.rollup_series.items)) c.shift.new.ranks
 ranked g c =
     let l : RollupSeries = rollup_series_named c.args.field.now c.args.group.now in
-    let ls : List RollupSeries = c.self.inside.series_list.items in
+    let ls : List RollupSeries = c.self.inside.rollup_series.items in
     let order : List ℕ = c.self.inside.order.items in
     let ranks : List ℕ = c.self.inside.ranks.items in
     let at : ℕ = c.index_in_order-at.result in
@@ -72,7 +72,7 @@ ranked g c =
 pub invariant_of-self-2 : goal.invariant_of-self-2
 invariant_of-self-2 g c =
     let l : RollupSeries = rollup_series_named c.args.field.now c.args.group.now in
-    let ls : List RollupSeries = c.self.inside.series_list.items in
+    let ls : List RollupSeries = c.self.inside.rollup_series.items in
     let hashes : List ℕ = c.self.inside.chains in
     let order : List ℕ = c.self.inside.order.items in
     let at : ℕ = c.index_in_order-at.result in
@@ -97,5 +97,5 @@ invariant_of-self-2 g c =
 pub returns-clause-number : goal.returns-clause-number
 returns-clause-number g c =
     let l : RollupSeries = rollup_series_named c.args.field.now c.args.group.now in
-    let ls : List RollupSeries = c.self.inside.series_list.items in
+    let ls : List RollupSeries = c.self.inside.rollup_series.items in
     subst (λ (xs : List RollupSeries). IsAt xs c.in_ok-number.number l) (sym (pushed g c)) (subst (λ n. IsAt (ls ++ l ∷ []) n l) (sym (counted g c)) (at_end ls l))
