@@ -1,17 +1,21 @@
 -- The number of points of a rollup series' columns in a bucket: at most that of all points, also if a column has only
 -- those from a mark on.
-use Rattle.std.proofs.Common.{◌≡◌, subst, ℕ, zero, suc, ℤ, ◌+◌, ◌<◌, ◌≤◌, Bool, true, false, cond, List, [], ◌∷◌, length, filter, get_or, Option, refl, sym, ◌∙◌, ap, arith, int_le, ◌≤ℤ◌, drop}
-use Rattle.std.specs.Ordering.{int_eq}
+use Rattle.std.proofs.Common.{◌≡◌, subst, ℕ, zero, suc, ℤ, ◌+◌, ◌<◌, ◌≤◌, Bool, true, false, cond, List, [], ◌∷◌, length, filter, get_or, Option, refl, sym, ◌∙◌, ap, arith, int_le, ◌≤ℤ◌, ◌<ℤ◌, pos, drop}
+use Rattle.std.specs.Ordering.{int_eq, int_cmp}
 use Rattle.std.specs.FinMap as finmap
 use Rattle.std.specs.FinMap.{entries, len-entries}
 use Rattle.std.specs.List.{AllByRecursion}
 use Rattle.std.proofs.lemmas.List.{length-append, get_or-set_same, get_or-set_other, length-set, get_or_default}
+use Rattle.std.proofs.lemmas.Int.{ints}
 use Rattle.std.proofs.lemmas.List.Sums.{sum_by-cons}
+use Rattle.std.proofs.lemmas.Map.Lookups.{exact_signed}
 use Rattle.ts_core.specs.aggregates.Buckets.{bucket_of}
 use Rattle.ts_core.specs.aggregates.Aggregates.{Aggregate, merged, aggregate_of_points}
 use Rattle.ts_core.specs.settings.Settings.{Rule}
 use Rattle.ts_core.specs.lists.Numbered.{numbers_where_from}
-use Rattle.ts_core.proofs.lists.Comparisons.{le_true}
+use Rattle.ts_core.proofs.aggregates.BucketsOrder.{bucket_le}
+use Rattle.ts_core.proofs.facts.Ids.{equal_of}
+use Rattle.ts_core.proofs.lists.Comparisons.{le_true, le_from}
 use Rattle.ts_core.proofs.lists.ListSteps.{length-filter}
 use Rattle.ts_raw.specs.Columns.{PointMap, ColumnState, points_from, points_in_bucket}
 use Rattle.ts_store.specs.store.ColumnStates.{no_column}
@@ -41,11 +45,11 @@ points-few r all index l n (s ∷ ss) (o ∷ os) e same =
     ]
 
 -- of a rollup series
-pub rollup_series_few : (r : Rule) (s : RollupState) (ss : List ColumnState) (l : ℕ) (index : ℤ) → length s.series_list ≡ length ss → length (points_in r ss index (columns_of_rollup_series l s)) ≤ number_of_points ss
-rollup_series_few r s ss l index e = points-few r ss index l 0 ss s.series_list e (λ i below. let f : 0 + i ≡ i = omega arith in ap (λ j. get_or ss j no_column) f)
+pub rollup_series_few : (r : Rule) (s : RollupState) (ss : List ColumnState) (l : ℕ) (index : ℤ) → length s.series_of_column ≡ length ss → length (points_in r ss index (columns_of_rollup_series l s)) ≤ number_of_points ss
+rollup_series_few r s ss l index e = points-few r ss index l 0 ss s.series_of_column e (λ i below. let f : 0 + i ≡ i = omega arith in ap (λ j. get_or ss j no_column) f)
 
-pub rollup_series_there : (s : RollupState) (ss : List ColumnState) (l : ℕ) → length s.series_list ≡ length ss → AllByRecursion (λ n. n < length ss) (columns_of_rollup_series l s)
-rollup_series_there s ss l e = subst (λ m. AllByRecursion (λ n. n < m) (columns_of_rollup_series l s)) e (numbers-below (is_of_rollup_series l) s.series_list)
+pub rollup_series_there : (s : RollupState) (ss : List ColumnState) (l : ℕ) → length s.series_of_column ≡ length ss → AllByRecursion (λ n. n < length ss) (columns_of_rollup_series l s)
+rollup_series_there s ss l e = subst (λ m. AllByRecursion (λ n. n < m) (columns_of_rollup_series l s)) e (numbers-below (is_of_rollup_series l) s.series_of_column)
 
 -- ---- a column with the points from a mark on
 
@@ -88,8 +92,8 @@ both_tests p q (x ∷ ps) =
       ]
     ] refl
 
-bucket_since : (m : PointMap) (mark index interval offset : ℤ) → points_since mark (points_in_bucket m index interval offset) ≡ points_in_bucket (points_from m mark) index interval offset
-bucket_since m mark index interval offset =
+since_bucket : (m : PointMap) (mark index interval offset : ℤ) → points_since mark (points_in_bucket m index interval offset) ≡ points_in_bucket (points_from m mark) index interval offset
+since_bucket m mark index interval offset =
     both_tests (λ (p : ℤ × ℤ). int_le mark p.0) (λ (p : ℤ × ℤ). int_eq (bucket_of p.0 interval offset) index) (entries m)
     ∙ ap (filter (λ (p : ℤ × ℤ). int_eq (bucket_of p.0 interval offset) index)) (sym (entries_from m mark))
 
@@ -97,11 +101,33 @@ pub left_here : (mark : ℤ) (n : ℕ) (ss : List ColumnState) (col : ColumnStat
     → points_since mark ps ≡ points_in_bucket (get_or (left_states mark n ss) n no_column).points index interval offset
 left_here mark n ss col ps index interval offset within is e =
     ap (points_since mark) (e ∙ ap (λ (x : ColumnState). points_in_bucket x.points index interval offset) is)
-    ∙ bucket_since (get_or ss n no_column).points mark index interval offset
+    ∙ since_bucket (get_or ss n no_column).points mark index interval offset
     ∙ ap (λ (x : ColumnState). points_in_bucket x.points index interval offset) (sym (get_or-set_same ss n (left_state mark (get_or ss n no_column)) no_column within))
 
 pub left_else : (mark : ℤ) (n m : ℕ) (ss : List ColumnState) → (n ≡ m → ⊥) → get_or (left_states mark n ss) m no_column ≡ get_or ss m no_column
 left_else mark n m ss apart = get_or-set_other ss n m (left_state mark (get_or ss n no_column)) no_column (λ e. apart (sym e))
+
+-- a bucket before that of the mark has no point from the mark on
+same_index : (x y : ℤ) → int_eq x y ≡ true → x ≡ y
+same_index x y h = exact_signed x y (equal_of (int_cmp x y) h)
+
+none_of_both : (mark index i o : ℤ) (ps : List (ℤ × ℤ)) → ((t : ℤ) → mark ≤ℤ t → bucket_of t i o ≡ index → ⊥) → points_since mark (filter (λ (p : ℤ × ℤ). int_eq (bucket_of p.0 i o) index) ps) ≡ []
+none_of_both mark index i o [] apart = refl
+none_of_both mark index i o (p ∷ ps) apart =
+    let rest = none_of_both mark index i o ps apart in
+    let others : List (ℤ × ℤ) = filter (λ (q : ℤ × ℤ). int_eq (bucket_of q.0 i o) index) ps in
+    elim (int_eq (bucket_of p.0 i o) index) as (λ b. int_eq (bucket_of p.0 i o) index ≡ b → points_since mark (cond b (p ∷ others) others) ≡ []) [
+      | true ↦ λ e. elim (int_le mark p.0) as (λ b. int_le mark p.0 ≡ b → cond b (p ∷ points_since mark others) (points_since mark others) ≡ []) [
+        | true ↦ λ l. absurd (apart p.0 (le_from mark p.0 l) (same_index (bucket_of p.0 i o) index e))
+        | false ↦ λ l. rest
+      ] refl
+      | false ↦ λ e. rest
+    ] refl
+
+pub none_since : (r : Rule) (mark index : ℤ) (m : PointMap) → pos 1 ≤ℤ r.interval → index <ℤ bucket_of mark r.interval r.offset → points_since mark (points_in_bucket m index r.interval r.offset) ≡ []
+none_since r mark index m long before =
+    none_of_both mark index r.interval r.offset (entries m) (λ t late same.
+    let up = bucket_le mark t r.interval r.offset long late in omega (arith, ints, up, same, before))
 
 -- the next point is one of them, or not
 pub since_here : (mark : ℤ) (p : ℤ × ℤ) (ps : List (ℤ × ℤ)) → mark ≤ℤ p.0 → points_since mark (p ∷ ps) ≡ p ∷ points_since mark ps

@@ -2,7 +2,7 @@
 use Rattle.std.specs.Prelude.{ℕ, ℤ, List, [], ◌∷◌, ◌++◌, None, filter, int_le, get_or, set}
 use Rattle.ts_core.specs.settings.Settings.{Rule}
 use Rattle.ts_core.specs.aggregates.Aggregates.{Aggregate, aggregate_of_points}
-use Rattle.ts_raw.specs.Columns.{ColumnState, points_from, points_in_bucket}
+use Rattle.ts_raw.specs.Columns.{PointMap, ColumnState, points_from, points_in_bucket}
 use Rattle.ts_store.specs.store.ColumnStates.{no_column}
 use Rattle.ts_store.specs.rollup.Rollups.{RollupState, columns_of_rollup_series}
 
@@ -18,6 +18,10 @@ rollup_series_total r s columns series index = aggregate_of_points (points_in r 
 -- the points from a mark on
 abbrev pub points_since : ℤ → List (ℤ × ℤ) → List (ℤ × ℤ)
 points_since mark ps = filter (λ (p : ℤ × ℤ). int_le mark p.0) ps
+
+-- the points of a bucket of a rule from a mark on
+abbrev pub bucket_since : ℤ → Rule → ℤ → PointMap → List (ℤ × ℤ)
+bucket_since mark r index points = points_since mark (points_in_bucket points index r.interval r.offset)
 
 -- a column that has only these left
 abbrev pub left_state : ℤ → ColumnState → ColumnState

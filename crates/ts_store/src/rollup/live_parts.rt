@@ -2,14 +2,14 @@
 ghost use Rattle.std.specs.Prelude.{◌≡◌, ◌+◌, ◌<◌, ◌≤◌, ◌^◌, pos, ◌≤ℤ◌, length};
 ghost use Rattle.ts_core.specs.aggregates.Aggregates.{merged, aggregate_of_points};
 ghost use Rattle.ts_core.specs.lists.Members.{AllDistinct};
-ghost use Rattle.ts_store.specs.rollup.LivePoints.{points_since, left_states, rollup_series_total as total_in};
+ghost use Rattle.ts_store.specs.rollup.LivePoints.{points_since, bucket_since, left_states, rollup_series_total as total_in};
 ghost use Rattle.ts_store.specs.read.PointsRead.{number_of_points};
 
 use crate::rollup::Rollup;
 use crate::store::column_facts::StoredColumn;
 use std::alloc::Allocator;
 use ts_cells::RollupSeriesId;
-use ts_core::{Agg, Partial, Rule, Time};
+use ts_core::{Agg, Partial, Rule, Time, index_of};
 use ts_raw::{Column, Points};
 
 /// Merges points into an aggregate, and returns it.
@@ -38,6 +38,29 @@ fn with_points_since(total: Agg, points: Points<'_>, mark: Time) -> Agg
     all
 }
 
+/// Merges a column's points of a bucket at or above a mark into an aggregate, and returns it. Looks for none in a
+/// bucket before that of the mark.
+fn with_bucket_since<A: Allocator + Copy>(
+    total: Agg,
+    rule: &Rule<A>,
+    column: &StoredColumn<A>,
+    index: &i128,
+    mark: Time,
+) -> Agg
+    requires interval { pos 1 ≤ℤ rule.now.interval }
+    requires few { total.count + length (bucket_since mark rule.now index.now column.now.points) ≤ 2 ^ 62 }
+    ensures { result ≡ merged total (aggregate_of_points (bucket_since mark rule.now index.now column.now.points)) }
+{
+    if *index < index_of(rule, i128::from(mark.nanos())) {
+        return total;
+    }
+    with_points_since(
+        total,
+        column.bucket(index, rule.interval(), rule.offset()),
+        mark,
+    )
+}
+
 /// Returns the aggregate of a bucket's points in the columns of a rollup series.
 pub(crate) fn rollup_series_total<A: Allocator + Copy>(
     rule: &Rule<A>,
@@ -47,11 +70,11 @@ pub(crate) fn rollup_series_total<A: Allocator + Copy>(
     index: &i128,
 ) -> Agg
     requires interval { pos 1 ≤ℤ rule.now.interval }
-    requires series { series < length rollup.now.grid.series_list }
-    requires each { length rollup.now.series_list ≡ length columns.now }
+    requires series { series < length rollup.now.grid.rollup_series }
+    requires each { length rollup.now.series_of_column ≡ length columns.now }
     requires few { number_of_points columns.now ≤ 2 ^ 62 }
     ensures total { result ≡ total_in rule.now rollup.now columns.now series index.now }
-    ensures once { AllDistinct rollup.now.grid.series_list }
+    ensures once { AllDistinct rollup.now.grid.rollup_series }
 {
     let mut total = Agg::empty();
     for column in rollup.columns_of(series) {
@@ -72,20 +95,20 @@ pub(crate) fn rollup_series_left<A: Allocator + Copy>(
     mark: Time,
 ) -> Agg
     requires interval { pos 1 ≤ℤ rule.now.interval }
-    requires series { series < length rollup.now.grid.series_list }
-    requires each { length rollup.now.series_list ≡ length columns.now }
+    requires series { series < length rollup.now.grid.rollup_series }
+    requires each { length rollup.now.series_of_column ≡ length columns.now }
     requires few { number_of_points columns.now ≤ 2 ^ 62 }
     requires moved { moved < length columns.now }
     ensures total { result ≡ total_in rule.now rollup.now (left_states mark moved columns.now) series index.now }
-    ensures once { AllDistinct rollup.now.grid.series_list }
+    ensures once { AllDistinct rollup.now.grid.rollup_series }
 {
     let mut total = Agg::empty();
     for column in rollup.columns_of(series) {
-        let points = columns[column.number()].bucket(index, rule.interval(), rule.offset());
+        let stored = &columns[column.number()];
         total = if column.number() == moved {
-            with_points_since(total, points, mark)
+            with_bucket_since(total, rule, stored, index, mark)
         } else {
-            with_points(total, points)
+            with_points(total, stored.bucket(index, rule.interval(), rule.offset()))
         };
     }
     total

@@ -36,14 +36,12 @@ pub bounds-columns-number : goal.bounds-columns-number
 bounds-columns-number g c =
     number_there c.args.columns.now c.columns_of-column-items.result.now c.loop-column.column-index _ _ c.loop-column-test.true (c.number.ensures ∙ c.column-item.is) c.loop-column.invariant.there
 
-pub with_points_since-total-requires : goal.with_points_since-total-requires
-with_points_since-total-requires g c =
-    let interval : SFits w64 c.interval.result = search rules in
-    let offset : SFits w64 c.offset.result = search rules in
+pub with_bucket_since-total-requires-clause-few : goal.with_bucket_since-total-requires-clause-few
+with_bucket_since-total-requires-clause-few g c =
     let left : List ColumnState = left_states c.args.mark c.args.moved c.args.columns.now in
     let there = number_there c.args.columns.now c.columns_of-column-items.result.now c.loop-column.column-index _ _ c.loop-column-test.true (c.number.ensures ∙ c.column-item.is) c.loop-column.invariant.there in
     let same : c.number.result ≡ c.args.moved = search rules in
-    let ps = column_left c.args.rule.now c.args.mark c.args.moved _ c.args.columns.now _ c.args.index.now _ _ _ _ there c.index-columns-number.is refl (to_z-of_z interval ∙ c.interval.ensures) (to_z-of_z offset ∙ c.offset.ensures) c.bucket-points.ensures.points same in
+    let ps = column_left c.args.rule.now c.args.mark c.args.moved _ c.args.columns.now _ c.args.index.now _ _ _ _ there c.index-columns-number.is refl refl refl refl same in
     let all = subst (λ (m : ℕ). AllByRecursion (λ n. n < m) c.columns_of-column-items.result.now) (sym (left-length c.args.mark c.args.moved c.args.columns.now)) c.loop-column.invariant.there in
     (next_left c.args.rule.now left c.args.index.now _ c.loop-column.column-index _ _ c.loop-column.total _ _ _ c.loop-column-test.true (c.number.ensures ∙ c.column-item.is) all ps c.loop-column.invariant.same c.loop-column.invariant.few).fits
 
@@ -54,14 +52,12 @@ with_points-total-requires g c =
     let left : List ColumnState = left_states c.args.mark c.args.moved c.args.columns.now in
     let there = number_there c.args.columns.now c.columns_of-column-items.result.now c.loop-column.column-index _ _ c.loop-column-test.true (c.number.ensures ∙ c.column-item.is) c.loop-column.invariant.there in
     let apart : c.number.result ≡ c.args.moved → ⊥ = search rules in
-    let ps = column_same c.args.rule.now c.args.mark c.args.moved _ c.args.columns.now _ c.args.index.now _ _ _ _ there c.index-columns-number.is refl (to_z-of_z interval ∙ c.interval.ensures) (to_z-of_z offset ∙ c.offset.ensures) c.bucket-points.ensures.points apart in
+    let ps = column_same c.args.rule.now c.args.mark c.args.moved _ c.args.columns.now _ c.args.index.now _ _ _ _ there c.index-columns-number.is refl (to_z-of_z interval ∙ c.interval.ensures) (to_z-of_z offset ∙ c.offset.ensures) c.bucket.ensures.points apart in
     let all = subst (λ (m : ℕ). AllByRecursion (λ n. n < m) c.columns_of-column-items.result.now) (sym (left-length c.args.mark c.args.moved c.args.columns.now)) c.loop-column.invariant.there in
     (next_left c.args.rule.now left c.args.index.now _ c.loop-column.column-index _ _ c.loop-column.total _ _ _ c.loop-column-test.true (c.number.ensures ∙ c.column-item.is) all ps c.loop-column.invariant.same c.loop-column.invariant.few).fits
 
 pub loop-column-preserved : goal.loop-column-preserved
 loop-column-preserved g c =
-    let interval : SFits w64 c.interval.result = search rules in
-    let offset : SFits w64 c.offset.result = search rules in
     let left : List ColumnState = left_states c.args.mark c.args.moved c.args.columns.now in
     let there = number_there c.args.columns.now c.columns_of-column-items.result.now c.loop-column.column-index _ _ c.loop-column-test.true (c.number.ensures ∙ c.column-item.is) c.loop-column.invariant.there in
     let all = subst (λ (m : ℕ). AllByRecursion (λ n. n < m) c.columns_of-column-items.result.now) (sym (left-length c.args.mark c.args.moved c.args.columns.now)) c.loop-column.invariant.there in
@@ -69,9 +65,9 @@ loop-column-preserved g c =
     elim c.if-number-moved.branch [
       | then-number-moved w ↦
           let same : c.number.result ≡ c.args.moved = search rules in
-          let ps = column_left c.args.rule.now c.args.mark c.args.moved _ c.args.columns.now _ c.args.index.now _ _ _ _ there c.index-columns-number.is refl (to_z-of_z interval ∙ c.interval.ensures) (to_z-of_z offset ∙ c.offset.ensures) c.bucket-points.ensures.points same in
+          let ps = column_left c.args.rule.now c.args.mark c.args.moved _ c.args.columns.now _ c.args.index.now _ _ _ _ there c.index-columns-number.is refl refl refl refl same in
           let next = next_left c.args.rule.now left c.args.index.now _ c.loop-column.column-index _ _ c.loop-column.total _ _ _ c.loop-column-test.true (c.number.ensures ∙ c.column-item.is) all ps c.loop-column.invariant.same c.loop-column.invariant.few in
-          let is = w.total-is ∙ w.with_points_since-total.ensures in
+          let is = w.total-is ∙ w.with_bucket_since-total.ensures in
           let count = ap (λ (a : Aggregate). a.count) is in
           let more = next.more in
           record {
@@ -80,8 +76,10 @@ loop-column-preserved g c =
             few = omega (arith, count, more);
           }
       | else-number-moved w ↦
+          let interval : SFits w64 w.interval.result = search rules in
+          let offset : SFits w64 w.offset.result = search rules in
           let apart : c.number.result ≡ c.args.moved → ⊥ = search rules in
-          let ps = column_same c.args.rule.now c.args.mark c.args.moved _ c.args.columns.now _ c.args.index.now _ _ _ _ there c.index-columns-number.is refl (to_z-of_z interval ∙ c.interval.ensures) (to_z-of_z offset ∙ c.offset.ensures) c.bucket-points.ensures.points apart in
+          let ps = column_same c.args.rule.now c.args.mark c.args.moved _ c.args.columns.now _ c.args.index.now _ _ _ _ there c.index-columns-number.is refl (to_z-of_z interval ∙ w.interval.ensures) (to_z-of_z offset ∙ w.offset.ensures) w.bucket.ensures.points apart in
           let next = next_left c.args.rule.now left c.args.index.now _ c.loop-column.column-index _ _ c.loop-column.total _ _ _ c.loop-column-test.true (c.number.ensures ∙ c.column-item.is) all ps c.loop-column.invariant.same c.loop-column.invariant.few in
           let is = w.total-is ∙ w.with_points-total.ensures in
           let count = ap (λ (a : Aggregate). a.count) is in
