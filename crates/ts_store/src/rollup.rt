@@ -30,7 +30,7 @@ mod series_columns;
 pub(crate) struct Rollup<A: Allocator> {
     cells: Cells<Agg, A>,
     /// Rollup series of each column; `None` if the column is of another measurement.
-    series_list: Vec<Option<RollupSeriesId>, A>,
+    series_of_column: Vec<Option<RollupSeriesId>, A>,
     /// Columns of each rollup series.
     columns: Vec<SeriesColumns<A>, A>,
     /// Rollup series of the column to be created next, once `prepare` has found it and allocated the column's capacity.
@@ -46,9 +46,9 @@ impl<A: Allocator> Model for Rollup<A> {
 
     ghost coded = { coded_rollup };
 
-    ghost view = { λ r. record { grid = r.cells; series_list = r.series_list.items; next = r.next } };
+    ghost view = { λ r. record { grid = r.cells; series_of_column = r.series_of_column.items; next = r.next } };
 
-    ghost invariant = { λ r. IsRollup r.cells.series_list r.series_list.items (lists_in r.columns.items) r.next (has_spare r.series_list) (capacities_in r.columns.items) };
+    ghost invariant = { λ r. IsRollup r.cells.rollup_series r.series_of_column.items (lists_in r.columns.items) r.next (has_spare r.series_of_column) (capacities_in r.columns.items) };
 }
 
 /// Creates empty rollups for this number of rules, with a seed of the hashes of their names.
@@ -89,13 +89,13 @@ fn listed_rollup_series<A: Allocator + Copy>(
     field: &str,
     group: &[&str],
 ) -> Result<RollupSeriesId, AllocError>
-    requires each { length columns.old.items ≡ length cells.old.series_list }
-    ensures number { IfOk result (λ n. IsAt cells.new.series_list n (rollup_series_named field.now group.now)) }
+    requires each { length columns.old.items ≡ length cells.old.rollup_series }
+    ensures number { IfOk result (λ n. IsAt cells.new.rollup_series n (rollup_series_named field.now group.now)) }
     ensures kept { KeepsLists cells.old columns.old.items cells.new columns.new.items }
 {
     reserve_eighth(columns, 1)?;
     let series = cells.series(field, group)?;
-    if columns.len() < cells.series_list() {
+    if columns.len() < cells.series_count() {
         columns.push(SeriesColumns::new()).unwrap();
     }
     Ok(series)
@@ -108,8 +108,8 @@ fn rollup_series_for<A: Allocator + Copy>(
     field: &str,
     group: &[&str],
 ) -> Result<RollupSeriesId, AllocError>
-    requires each { length columns.old.items ≡ length cells.old.series_list }
-    ensures number { IfOk result (λ n. IsAt cells.new.series_list n (rollup_series_named field.now group.now)) }
+    requires each { length columns.old.items ≡ length cells.old.rollup_series }
+    ensures number { IfOk result (λ n. IsAt cells.new.rollup_series n (rollup_series_named field.now group.now)) }
     ensures capacity { IfOk result (λ n. HasCapacityAt columns.new.items n) }
     ensures kept { KeepsLists cells.old columns.old.items cells.new columns.new.items }
 {
@@ -126,7 +126,7 @@ impl<A: Allocator + Copy> Rollup<A> {
     {
         Rollup {
             cells: Cells::new(alloc, seed),
-            series_list: Vec::new(alloc),
+            series_of_column: Vec::new(alloc),
             columns: Vec::new(alloc),
             next: None,
         }
@@ -143,9 +143,9 @@ impl<A: Allocator + Copy> Rollup<A> {
         ensures next { OnOk result (HasNext rule.now (record { series = key.now; field = field.now }) self.new) }
     {
         self.next = None;
-        reserve_eighth(&mut self.series_list, 1)?;
+        reserve_eighth(&mut self.series_of_column, 1)?;
         let series = if key.measurement() == rule.measurement() {
-            let group = group_of(*self.series_list.allocator(), rule, key)?;
+            let group = group_of(*self.series_of_column.allocator(), rule, key)?;
             Some(rollup_series_for(&mut self.cells, &mut self.columns, field, group.as_slice())?)
         } else {
             None
@@ -157,11 +157,11 @@ impl<A: Allocator + Copy> Rollup<A> {
     /// Assigns the new column the rollup series that `prepare` found. Does not allocate.
     pub(crate) fn commit(&mut self, column: ColumnId)
         requires next { IsSome self.old.next }
-        requires number { column ≡ length self.old.series_list }
+        requires number { column ≡ length self.old.series_of_column }
         ensures { self.new ≡ with_next self.old }
     {
         let series = self.next.take().unwrap();
-        self.series_list.push(series).unwrap();
+        self.series_of_column.push(series).unwrap();
         if let Some(series) = &series {
             self.columns[series.number() as usize].push(column);
         }
@@ -169,11 +169,11 @@ impl<A: Allocator + Copy> Rollup<A> {
 
     /// Creates the cell of a column in a bucket unless it exists. Does nothing if the column is of another measurement.
     pub(crate) fn make_room(&mut self, column: ColumnId, index: &i128) -> Result<(), AllocError>
-        requires { column < length self.old.series_list }
+        requires { column < length self.old.series_of_column }
         ensures ok { OnOk result (self.new ≡ with_grid_cells (cell_created_in self.old (rollup_series_at self.old column) index.now) self.old) }
         ensures err { OnErr result (self.new ≡ self.old) }
     {
-        match self.series_list[column.number()] {
+        match self.series_of_column[column.number()] {
             Some(series) => self.cells.make_room(index, series),
             None => Ok(()),
         }
@@ -185,7 +185,7 @@ impl<A: Allocator + Copy> Rollup<A> {
         series: RollupSeriesId,
         index: &i128,
     ) -> Result<(), AllocError>
-        requires { series < length self.old.grid.series_list }
+        requires { series < length self.old.grid.rollup_series }
         ensures ok { OnOk result (self.new ≡ with_grid_cells (cell_created_in self.old (Some series) index.now) self.old) }
         ensures err { OnErr result (self.new ≡ self.old) }
     {
@@ -202,8 +202,8 @@ impl<A: Allocator + Copy> Rollup<A> {
         frozen: Agg,
     ) -> Result<(), AllocError>
         requires absent { finmap.get self.old.grid.cells (cell_at index.now (rollup_series_named field.now group.now)) ≡ None }
-        ensures made { Extends self.old.grid.series_list self.new.grid.series_list }
-        ensures series_list { self.new.series_list ≡ self.old.series_list }
+        ensures made { Extends self.old.grid.rollup_series self.new.grid.rollup_series }
+        ensures kept { self.new.series_of_column ≡ self.old.series_of_column }
         ensures ok { OnOk result (self.new.grid.cells ≡ finmap.insert self.old.grid.cells (cell_at index.now (rollup_series_named field.now group.now)) (record { frozen = frozen; live = empty_aggregate })) }
         ensures err { OnErr result (self.new.grid.cells ≡ self.old.grid.cells) }
     {
@@ -219,10 +219,10 @@ impl<A: Allocator + Copy> Rollup<A> {
     /// Merges a part into the frozen part of the cell of a column in a bucket. Does nothing if the cell doesn't exist,
     /// or if the counts add up to more than 2^62. Does not allocate.
     pub(crate) fn freeze(&mut self, column: usize, index: &i128, part: Agg)
-        requires { column < length self.old.series_list }
+        requires { column < length self.old.series_of_column }
         ensures { self.new ≡ with_grid_cells (frozen_in self.old (rollup_series_at self.old column) index.now part) self.old }
     {
-        if let Some(series) = self.series_list[column] {
+        if let Some(series) = self.series_of_column[column] {
             self.cells.freeze(index, series, part);
         }
     }
@@ -230,7 +230,7 @@ impl<A: Allocator + Copy> Rollup<A> {
     /// Merges a part into the live part of the cell of a bucket in a rollup series. Does nothing if the cell doesn't
     /// exist, or if the counts add up to more than 2^62. Does not allocate.
     pub(crate) fn add(&mut self, index: &i128, series: RollupSeriesId, part: Agg)
-        requires { series < length self.old.grid.series_list }
+        requires { series < length self.old.grid.rollup_series }
         ensures { self.new ≡ with_grid_cells (added_in self.old series index.now part) self.old }
     {
         self.cells.add(index, series, part);
@@ -238,7 +238,7 @@ impl<A: Allocator + Copy> Rollup<A> {
 
     /// Replaces the live part of the cell of a bucket in a rollup series, if the cell exists. Does not allocate.
     pub(crate) fn correct(&mut self, index: &i128, series: RollupSeriesId, live: Agg)
-        requires { series < length self.old.grid.series_list }
+        requires { series < length self.old.grid.rollup_series }
         ensures { self.new ≡ with_grid_cells (corrected_in self.old series index.now live) self.old }
     {
         self.cells.correct(index, series, live);
@@ -246,8 +246,8 @@ impl<A: Allocator + Copy> Rollup<A> {
 
     /// Returns the live part of the cell of a bucket in a rollup series, if the cell exists.
     pub(crate) fn live(&self, index: &i128, series: RollupSeriesId) -> Option<Agg>
-        requires { series < length self.now.grid.series_list }
-        ensures { result ≡ option_map live_part (finmap.get self.now.grid.cells (cell_in self.now.grid.series_list index.now series)) }
+        requires { series < length self.now.grid.rollup_series }
+        ensures { result ≡ option_map live_part (finmap.get self.now.grid.cells (cell_in self.now.grid.rollup_series index.now series)) }
     {
         let parts = self.cells.get(index, series)?;
         Some(parts.live)
@@ -255,19 +255,19 @@ impl<A: Allocator + Copy> Rollup<A> {
 
     /// Returns true if the column is of the rule's measurement.
     pub(crate) fn rolls(&self, column: usize) -> bool
-        requires { column < length self.now.series_list }
+        requires { column < length self.now.series_of_column }
         ensures { result ≡ is_some (rollup_series_at self.now column) }
     {
-        self.series_list[column].is_some()
+        self.series_of_column[column].is_some()
     }
 
     /// Returns the rollup series of a column, or `None` if the column is of another measurement.
     pub(crate) fn rollup_series_of(&self, column: usize) -> Option<RollupSeriesId>
-        requires { column < length self.now.series_list }
+        requires { column < length self.now.series_of_column }
         ensures series { result ≡ rollup_series_at self.now column }
-        ensures inside { IfSome result (λ l. l < length self.now.grid.series_list) }
+        ensures inside { IfSome result (λ l. l < length self.now.grid.rollup_series) }
     {
-        self.series_list[column]
+        self.series_of_column[column]
     }
 
     /// Removes up to 256 cells below an index, and returns the number of removed cells.
@@ -280,9 +280,9 @@ impl<A: Allocator + Copy> Rollup<A> {
 
     /// Returns the columns of a rollup series, in creation order.
     pub(crate) fn columns_of(&self, series: RollupSeriesId) -> &[ColumnId]
-        requires { series < length self.now.grid.series_list }
+        requires { series < length self.now.grid.rollup_series }
         ensures columns { result.now ≡ columns_of_rollup_series series self.now }
-        ensures once { AllDistinct self.now.grid.series_list }
+        ensures once { AllDistinct self.now.grid.rollup_series }
     {
         self.columns[series.number() as usize].as_slice()
     }
@@ -291,7 +291,7 @@ impl<A: Allocator + Copy> Rollup<A> {
     /// field and group. Does not allocate.
     pub(crate) fn walk(&self, from: &i128, to: &i128) -> Walk<'_, Parts<Agg>, A>
         ensures entries { map entry_of result ≡ entries_within from.now to.now self.now.grid.cells }
-        ensures series_list { AllByRecursion (λ k. IsAt self.now.grid.series_list k.series (rollup_series_of k.cell)) result }
+        ensures numbers { AllByRecursion (λ k. IsAt self.now.grid.rollup_series k.series (rollup_series_of k.cell)) result }
     {
         self.cells.walk(from, to)
     }

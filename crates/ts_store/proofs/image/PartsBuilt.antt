@@ -68,13 +68,13 @@ cells-stay (x ∷ ss) zero s t e f = ap (λ m. m ∷ cells_of ss) (f ∙ ap (λ 
 cells-stay (x ∷ ss) (suc n) s t e f = ap (λ ms. x.grid.cells ∷ ms) (cells-stay ss n s t e f)
 
 -- more rollup series in one rollup
-pub rollups-set : (rs : List Rule) (cs : List Column) (ss : List RollupState) (n : ℕ) (s t : RollupState) → s ≡ get_or ss n s → Extends s.grid.series_list t.grid.series_list → t.series_list ≡ s.series_list → AreRollups rs cs ss → AreRollups rs cs (set ss n t)
+pub rollups-set : (rs : List Rule) (cs : List Column) (ss : List RollupState) (n : ℕ) (s t : RollupState) → s ≡ get_or ss n s → Extends s.grid.rollup_series t.grid.rollup_series → t.series_of_column ≡ s.series_of_column → AreRollups rs cs ss → AreRollups rs cs (set ss n t)
 rollups-set [] cs [] n s t e more same h = tt
 rollups-set [] cs (x ∷ ss) n s t e more same h = absurd h
 rollups-set (r ∷ rs) cs [] n s t e more same h = absurd h
 rollups-set (r ∷ rs) cs (x ∷ ss) zero s t e more same h =
     let one : AreRollups (r ∷ []) cs (with_grid_cells s.grid.cells t ∷ []) =
-    rollups_kept (r ∷ []) cs (s ∷ []) (with_grid_cells s.grid.cells t ∷ []) (subst (λ (z : RollupState). AreRollups (r ∷ []) cs (z ∷ [])) (sym e) (h.0, tt)) (record { made = more; cells = refl; series_list = same }, tt) in
+    rollups_kept (r ∷ []) cs (s ∷ []) (with_grid_cells s.grid.cells t ∷ []) (subst (λ (z : RollupState). AreRollups (r ∷ []) cs (z ∷ [])) (sym e) (h.0, tt)) (record { made = more; cells = refl; kept = same }, tt) in
     (one.0, h.1)
 rollups-set (r ∷ rs) cs (x ∷ ss) (suc n) s t e more same h = (h.0, rollups-set rs cs ss n s t e more same h.1)
 

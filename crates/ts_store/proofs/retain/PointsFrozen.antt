@@ -92,14 +92,14 @@ frozen_most m q part k =
 
 -- ---- under the rollup series of a rule, which stay
 
-pub series_list_stay : (before s t : RollupState) (m : CellMap) → s ≡ with_grid_cells s.grid.cells before → t ≡ with_grid_cells m s → t ≡ with_grid_cells t.grid.cells before
-series_list_stay before s t m e f = f ∙ ap (with_grid_cells m) e ∙ ap (λ (x : CellMap). with_grid_cells x before) (sym (ap (λ (x : RollupState). x.grid.cells) f))
+pub grid_kept_then : (before s t : RollupState) (m : CellMap) → s ≡ with_grid_cells s.grid.cells before → t ≡ with_grid_cells m s → t ≡ with_grid_cells t.grid.cells before
+grid_kept_then before s t m e f = f ∙ ap (with_grid_cells m) e ∙ ap (λ (x : CellMap). with_grid_cells x before) (sym (ap (λ (x : RollupState). x.grid.cells) f))
 
-pub frozen_in-series : (before s : RollupState) (column n : ℕ) (r : Rule) (c : Column) (index : ℤ) (part : Aggregate) → s ≡ with_grid_cells s.grid.cells before → rollup_series_at before column ≡ Some n → IsRollupSeriesOf r c before.grid.series_list (Some n)
+pub frozen_in-series : (before s : RollupState) (column n : ℕ) (r : Rule) (c : Column) (index : ℤ) (part : Aggregate) → s ≡ with_grid_cells s.grid.cells before → rollup_series_at before column ≡ Some n → IsRollupSeriesOf r c before.grid.rollup_series (Some n)
     → frozen_in s (rollup_series_at s column) index part ≡ changed s.grid.cells (cell_at index (rollup_series_under r c)) (in_frozen (merged_within part))
 frozen_in-series before s column n r c index part e at is =
     let series : rollup_series_at s column ≡ Some n = ap (λ (x : RollupState). rollup_series_at x column) e ∙ at in
-    let key : get_or s.grid.series_list n no_rollup_series ≡ rollup_series_under r c = ap (λ (x : RollupState). get_or x.grid.series_list n no_rollup_series) e ∙ get_or_from_slice_get before.grid.series_list n (rollup_series_under r c) no_rollup_series is.1 in
+    let key : get_or s.grid.rollup_series n no_rollup_series ≡ rollup_series_under r c = ap (λ (x : RollupState). get_or x.grid.rollup_series n no_rollup_series) e ∙ get_or_from_slice_get before.grid.rollup_series n (rollup_series_under r c) no_rollup_series is.1 in
     ap (λ o. frozen_in s o index part) series ∙ ap (λ l. changed s.grid.cells (cell_at index l) (in_frozen (merged_within part))) key
 
 -- ---- points of a column, of which those of the last bucket are folded and not yet frozen

@@ -89,16 +89,16 @@ maps_left mark n ss =
     ∙ ap (λ (m : PointMap). set (point_maps ss) n (points_from m mark)) (sym (points_at ss n))
 
 pub left_total : (r : Rule) (mark : ℤ) (cs : List Column) (c : Column) (ss : List ColumnState) (s t : RollupState) (n l : ℕ) (index : ℤ) (new : Aggregate) → IsOver r cs ss s → slice_get cs n ≡ Some c → rollup_series_at s n ≡ Some l → t ≡ with_grid_cells t.grid.cells s
-    → AllDistinct t.grid.series_list → new ≡ rollup_series_total r t (left_states mark n ss) l index → corrected_in t l index new ≡ refolded r (cell_at index (rollup_series_under r c)) (facts_left mark c cs ss) t.grid.cells
+    → AllDistinct t.grid.rollup_series → new ≡ rollup_series_total r t (left_states mark n ss) l index → corrected_in t l index new ≡ refolded r (cell_at index (rollup_series_under r c)) (facts_left mark c cs ss) t.grid.cells
 left_total r mark cs c ss s t n l index new over at series kept once made =
     let k : Cell = cell_at index (rollup_series_under r c) in
-    let is : IsRollupSeriesOf r c s.grid.series_list (Some l) = subst (IsRollupSeriesOf r c s.grid.series_list) series (rollup_series_known r s.grid.series_list cs s.series_list n c over.series_list at) in
+    let is : IsRollupSeriesOf r c s.grid.rollup_series (Some l) = subst (IsRollupSeriesOf r c s.grid.rollup_series) series (rollup_series_known r s.grid.rollup_series cs s.series_of_column n c over.series at) in
     let each : length (left_states mark n ss) ≡ length cs = left-length mark n ss ∙ over.each in
     let maps : length (point_maps ss) ≡ length cs = length-map ss (λ (x : ColumnState). x.points) ∙ over.each in
     let columns : with_points cs (point_maps (left_states mark n ss)) ≡ map (kept_points c mark) (with_points cs (point_maps ss)) = ap (with_points cs) (maps_left mark n ss) ∙ columns_left c mark cs (point_maps ss) n over.once maps at in
     let total : new ≡ total_of r k (facts_left mark c cs ss) =
     made ∙ ap (λ (x : RollupState). rollup_series_total r x (left_states mark n ss) l index) kept
-    ∙ cell_total r s k l cs (left_states mark n ss) (subst (λ (x : RollupState). AllDistinct x.grid.series_list) kept once) is.1 each over.series_list
+    ∙ cell_total r s k l cs (left_states mark n ss) (subst (λ (x : RollupState). AllDistinct x.grid.rollup_series) kept once) is.1 each over.series
     ∙ ap (λ (xs : List ColumnPoints). total_of r k (facts_of xs)) columns in
-    let key : get_or t.grid.series_list l no_rollup_series ≡ rollup_series_under r c = ap (λ (x : RollupState). get_or x.grid.series_list l no_rollup_series) kept ∙ get_or_from_slice_get s.grid.series_list l (rollup_series_under r c) no_rollup_series is.1 in
+    let key : get_or t.grid.rollup_series l no_rollup_series ≡ rollup_series_under r c = ap (λ (x : RollupState). get_or x.grid.rollup_series l no_rollup_series) kept ∙ get_or_from_slice_get s.grid.rollup_series l (rollup_series_under r c) no_rollup_series is.1 in
     ap (λ (x : Cell). changed t.grid.cells x (with_live new)) (ap (cell_at index) key) ∙ ap (λ a. changed t.grid.cells k (with_live a)) total

@@ -6,9 +6,9 @@ use Rattle.ts_store.specs.rollup.Rollups.{RollupState, with_grid_cells, cells_of
 use Rattle.ts_store.specs.retain.RollupSteps.{with_all_grid_cells}
 use Rattle.ts_store.specs.retain.WholeRuns.{AreAbove, FirstLoses}
 
-pub same_series_list : (ss : List RollupState) → ss ≡ with_all_grid_cells (cells_of ss) ss
-same_series_list [] = refl
-same_series_list (s ∷ ss) = ap (λ ts. s ∷ ts) (same_series_list ss)
+pub grids_kept : (ss : List RollupState) → ss ≡ with_all_grid_cells (cells_of ss) ss
+grids_kept [] = refl
+grids_kept (s ∷ ss) = ap (λ ts. s ∷ ts) (grids_kept ss)
 
 -- without rules no cell is below a low index
 pub none_above : (lows : List ℤ) (ss : List RollupState) → length ss ≡ 0 → AreAbove lows (cells_of ss)
@@ -27,8 +27,8 @@ none_gone low n m after e r = let none : Removes low 0 m after = subst (λ k. Re
 same_state : (low : ℤ) (n : ℕ) (s t : RollupState) → n ≡ 0 → IsExpired low n s t → t ≡ s
 same_state low n s t e x = x.cells ∙ ap (λ (m : CellMap). with_grid_cells m s) (none_gone low n s.grid.cells t.grid.cells e x.below.removed)
 
-pub series_list_first : (low : ℤ) (n : ℕ) (s t : RollupState) (ss all : List RollupState) → all ≡ s ∷ ss → IsExpired low n s t → t ∷ ss ≡ with_all_grid_cells (t.grid.cells ∷ cells_of ss) all
-series_list_first low n s t ss all e x = ap₂ (λ u us. u ∷ us) x.cells (same_series_list ss) ∙ sym (ap (with_all_grid_cells (t.grid.cells ∷ cells_of ss)) e)
+pub grids_kept_first : (low : ℤ) (n : ℕ) (s t : RollupState) (ss all : List RollupState) → all ≡ s ∷ ss → IsExpired low n s t → t ∷ ss ≡ with_all_grid_cells (t.grid.cells ∷ cells_of ss) all
+grids_kept_first low n s t ss all e x = ap₂ (λ u us. u ∷ us) x.cells (grids_kept ss) ∙ sym (ap (with_all_grid_cells (t.grid.cells ∷ cells_of ss)) e)
 
 pub first_loses : (low : ℤ) (lows lows' : List ℤ) (n : ℕ) (s t : RollupState) (ss all : List RollupState) → lows' ≡ low ∷ lows → all ≡ s ∷ ss → 0 < n → IsExpired low n s t
     → FirstLoses lows' (cells_of all) (t.grid.cells ∷ cells_of ss)

@@ -27,8 +27,8 @@ use Rattle.ts_store.specs.retain.RollupSteps.{with_all_grid_cells, FreezesFit, F
 use Rattle.ts_store.specs.write.LivePuts.{IsOver}
 use Rattle.ts_store.proofs.store.ColumnsLemmas.{names_held}
 use Rattle.ts_store.proofs.write.StagedColumns.{points_at}
-use Rattle.ts_store.proofs.rollup.RollupsGrow.{series_list-length}
-use Rattle.ts_store.proofs.retain.RollupExpiry.{same_series_list}
+use Rattle.ts_store.proofs.rollup.RollupsGrow.{rollup_series-length}
+use Rattle.ts_store.proofs.retain.RollupExpiry.{grids_kept}
 
 -- ---- other cells under the same rollup series
 
@@ -53,11 +53,11 @@ moved-length (r ∷ rs) c ps facts (m ∷ ms) = let e = moved-length rs c ps fac
 -- ---- a column is moved under a rule
 
 -- a rule that has a rollup series for it
-pub moved_rolled : (r : Rule) (c : Column) (ps : List (ℤ × ℤ)) (facts : List Fact) (n : ℕ) (s t u : RollupState) → is_some (rollup_series_at s n) ≡ true → IsRollupSeriesOf r c s.grid.series_list (rollup_series_at s n) → t ≡ with_grid_cells t.grid.cells s → u ≡ with_grid_cells u.grid.cells t
-    → ((l : ℕ) → rollup_series_at s n ≡ Some l → IsRollupSeriesOf r c s.grid.series_list (Some l) → t.grid.cells ≡ frozen_points r c ps s.grid.cells)
+pub moved_rolled : (r : Rule) (c : Column) (ps : List (ℤ × ℤ)) (facts : List Fact) (n : ℕ) (s t u : RollupState) → is_some (rollup_series_at s n) ≡ true → IsRollupSeriesOf r c s.grid.rollup_series (rollup_series_at s n) → t ≡ with_grid_cells t.grid.cells s → u ≡ with_grid_cells u.grid.cells t
+    → ((l : ℕ) → rollup_series_at s n ≡ Some l → IsRollupSeriesOf r c s.grid.rollup_series (Some l) → t.grid.cells ≡ frozen_points r c ps s.grid.cells)
     → ((l : ℕ) → rollup_series_at t n ≡ Some l → u.grid.cells ≡ refolded_points r c ps facts t.grid.cells) → u ≡ with_grid_cells (moved_cells r c ps facts s.grid.cells) s
 moved_rolled r c ps facts n s t u rolled is kept still frozen refold =
-    elim (rollup_series_at s n) as (λ o. rollup_series_at s n ≡ o → is_some o ≡ true → IsRollupSeriesOf r c s.grid.series_list o → u ≡ with_grid_cells (moved_cells r c ps facts s.grid.cells) s) [
+    elim (rollup_series_at s n) as (λ o. rollup_series_at s n ≡ o → is_some o ≡ true → IsRollupSeriesOf r c s.grid.rollup_series o → u ≡ with_grid_cells (moved_cells r c ps facts s.grid.cells) s) [
       | None ↦ λ e k h. absurd (true≢false (sym k))
       | Some l ↦ λ e k h.
           let cells : u.grid.cells ≡ moved_cells r c ps facts s.grid.cells =
@@ -67,9 +67,9 @@ moved_rolled r c ps facts n s t u rolled is kept still frozen refold =
     ] refl rolled is
 
 -- and one that has none
-pub moved_passed : (r : Rule) (c : Column) (ps : List (ℤ × ℤ)) (facts : List Fact) (n : ℕ) (s : RollupState) → is_some (rollup_series_at s n) ≡ false → IsRollupSeriesOf r c s.grid.series_list (rollup_series_at s n) → s ≡ with_grid_cells (moved_cells r c ps facts s.grid.cells) s
+pub moved_passed : (r : Rule) (c : Column) (ps : List (ℤ × ℤ)) (facts : List Fact) (n : ℕ) (s : RollupState) → is_some (rollup_series_at s n) ≡ false → IsRollupSeriesOf r c s.grid.rollup_series (rollup_series_at s n) → s ≡ with_grid_cells (moved_cells r c ps facts s.grid.cells) s
 moved_passed r c ps facts n s passed is =
-    elim (rollup_series_at s n) as (λ o. is_some o ≡ false → IsRollupSeriesOf r c s.grid.series_list o → s ≡ with_grid_cells (moved_cells r c ps facts s.grid.cells) s) [
+    elim (rollup_series_at s n) as (λ o. is_some o ≡ false → IsRollupSeriesOf r c s.grid.rollup_series o → s ≡ with_grid_cells (moved_cells r c ps facts s.grid.cells) s) [
       | None ↦ λ k h. ap (λ (m : CellMap). with_grid_cells m s) (sym (ap (λ b. cond b (refolded_points r c ps facts (frozen_points r c ps s.grid.cells)) s.grid.cells) h))
       | Some l ↦ λ k h. absurd (true≢false k)
     ] passed is
@@ -111,11 +111,11 @@ columns_left c mark (b ∷ cs) (m ∷ ms) (suc n) d l e =
 
 -- ---- under all rules
 
-pub series_list_within : (rs : List Rule) (cs : List Column) (ss : List RollupState) (n : ℕ) → AreRollups rs cs ss → n < length cs → AllByRecursion (λ (s : RollupState). n < length s.series_list) ss
-series_list_within [] cs [] n a l = tt
-series_list_within [] cs (s ∷ ss) n a l = absurd a
-series_list_within (r ∷ rs) cs [] n a l = tt
-series_list_within (r ∷ rs) cs (s ∷ ss) n a l = (let e = series_list-length r s.grid.series_list cs s.series_list a.0 in omega arith, series_list_within rs cs ss n a.1 l)
+pub columns_within : (rs : List Rule) (cs : List Column) (ss : List RollupState) (n : ℕ) → AreRollups rs cs ss → n < length cs → AllByRecursion (λ (s : RollupState). n < length s.series_of_column) ss
+columns_within [] cs [] n a l = tt
+columns_within [] cs (s ∷ ss) n a l = absurd a
+columns_within (r ∷ rs) cs [] n a l = tt
+columns_within (r ∷ rs) cs (s ∷ ss) n a l = (let e = rollup_series-length r s.grid.rollup_series cs s.series_of_column a.0 in omega arith, columns_within rs cs ss n a.1 l)
 
 -- without rules
 pub none_frozen : (ms : List CellMap) (ss : List RollupState) → length ss ≡ 0 → ss ≡ with_all_grid_cells ms ss
@@ -123,7 +123,7 @@ none_frozen ms [] e = refl
 none_frozen ms (s ∷ ss) e = absurd (omega arith)
 
 pub all_moved-none : (rs : List Rule) (cs : List Column) (ss : List RollupState) (c : Column) (ps : List (ℤ × ℤ)) (facts : List Fact) → length rs ≡ 0 → AreRollups rs cs ss → ss ≡ with_all_grid_cells (all_moved rs c ps facts (cells_of ss)) ss
-all_moved-none [] cs ss c ps facts e a = same_series_list ss
+all_moved-none [] cs ss c ps facts e a = grids_kept ss
 all_moved-none (r ∷ rs) cs ss c ps facts e a = absurd (let n : ⊥ = omega arith in n)
 
 -- the first rule, and the others
@@ -135,7 +135,7 @@ pub all_moved-more : (r : Rule) (rs rs' : List Rule) (cs : List Column) (states 
 all_moved-more r rs rs' cs states n c ps facts s t ss ts ss' d e each once a fit one others =
     let a' : AreRollups (r ∷ rs) cs (s ∷ ss) = subst (λ (us : List RollupState). AreRollups (r ∷ rs) cs us) e (subst (λ (qs : List Rule). AreRollups qs cs ss') d a) in
     let fit' : FreezeFit (r ∷ rs) c ps (cells_of (s ∷ ss)) = subst (λ (us : List RollupState). FreezeFit (r ∷ rs) c ps (cells_of us)) e (subst (λ (qs : List Rule). FreezeFit qs c ps (cells_of ss')) d fit) in
-    ap₂ (λ u us. u ∷ us) (one (record { each = each; once = once; series_list = a'.0 }) fit'.0) (others a'.1 fit'.1)
+    ap₂ (λ u us. u ∷ us) (one (record { each = each; once = once; series = a'.0 }) fit'.0) (others a'.1 fit'.1)
     ∙ sym (ap₂ (λ (qs : List Rule) (us : List RollupState). with_all_grid_cells (all_moved qs c ps facts (cells_of us)) us) d e)
 
 -- ---- a column of the content

@@ -217,8 +217,8 @@ each_made-more P (Ok x) r rs rs' low lows lows' s t ss ts ss' d e f one others =
 
 -- ---- under the rollup series of a rule, which stay
 
-pub cell_created_in-series : (before s : RollupState) (l : ℕ) (r : Rule) (c : Column) (index : ℤ) → s ≡ with_grid_cells s.grid.cells before → IsRollupSeriesOf r c before.grid.series_list (Some l)
+pub cell_created_in-series : (before s : RollupState) (l : ℕ) (r : Rule) (c : Column) (index : ℤ) → s ≡ with_grid_cells s.grid.cells before → IsRollupSeriesOf r c before.grid.rollup_series (Some l)
     → cell_created_in s (Some l) index ≡ inserted_if_absent s.grid.cells (cell_at index (rollup_series_under r c)) no_parts
 cell_created_in-series before s l r c index e is =
-    let key : get_or s.grid.series_list l no_rollup_series ≡ rollup_series_under r c = ap (λ (x : RollupState). get_or x.grid.series_list l no_rollup_series) e ∙ get_or_from_slice_get before.grid.series_list l (rollup_series_under r c) no_rollup_series is.1 in
+    let key : get_or s.grid.rollup_series l no_rollup_series ≡ rollup_series_under r c = ap (λ (x : RollupState). get_or x.grid.rollup_series l no_rollup_series) e ∙ get_or_from_slice_get before.grid.rollup_series l (rollup_series_under r c) no_rollup_series is.1 in
     ap (λ k. inserted_if_absent s.grid.cells (cell_at index k) no_parts) key

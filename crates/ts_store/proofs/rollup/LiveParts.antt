@@ -45,7 +45,7 @@ other_rollup_series a b n = elim (same_cell a b) as (λ z. same_cell a b ≡ z �
 ] refl
 
 -- of distinct rollup series each has one number
-one_number : (series_list : List RollupSeries) (m n : ℕ) (l : RollupSeries) → AllDistinct series_list → IsAt series_list m l → IsAt series_list n l → m ≡ n
+one_number : (rollup_series : List RollupSeries) (m n : ℕ) (l : RollupSeries) → AllDistinct rollup_series → IsAt rollup_series m l → IsAt rollup_series n l → m ≡ n
 one_number [] m n l d a b = absurd (at_among {X = RollupSeries} [] m l a)
 one_number (x ∷ xs) zero zero l d a b = refl
 one_number (x ∷ xs) zero (suc n) l d a b = absurd (d.0 (subst (λ y. Among y xs) (sym (same_at (x ∷ xs) zero x l refl a)) (at_among xs n l b)))
@@ -53,17 +53,17 @@ one_number (x ∷ xs) (suc m) zero l d a b = absurd (d.0 (subst (λ y. Among y x
 one_number (x ∷ xs) (suc m) (suc n) l d a b = ap suc (one_number xs m n l d.1 a b)
 
 -- a point of a column is in a cell where the column is of the cell's rollup series and the point in its bucket
-in_cell : (r : Rule) (k : Cell) (n : ℕ) (series_list : List RollupSeries) → AllDistinct series_list → IsAt series_list n (rollup_series_of k) → (c : Column) (o : Option ℕ) → IsRollupSeriesOf r c series_list o → (p : ℤ × ℤ)
+in_cell : (r : Rule) (k : Cell) (n : ℕ) (rollup_series : List RollupSeries) → AllDistinct rollup_series → IsAt rollup_series n (rollup_series_of k) → (c : Column) (o : Option ℕ) → IsRollupSeriesOf r c rollup_series o → (p : ℤ × ℤ)
     → is_in_cell r k (fact_at c p) ≡ is_of_rollup_series n o && int_eq (index_of r p.0) k.index
-in_cell r k n series_list d at c None of p = ap (λ b. b && same_cell (cell_of r (fact_at c p)) k) of
-in_cell r k n series_list d at c (Some m) of p =
+in_cell r k n rollup_series d at c None of p = ap (λ b. b && same_cell (cell_of r (fact_at c p)) k) of
+in_cell r k n rollup_series d at c (Some m) of p =
     ap (λ b. b && same_cell (cell_of r (fact_at c p)) k) of.0
     ∙ elim (m == n) as (λ b. m == n ≡ b → same_cell (cell_of r (fact_at c p)) k ≡ b && int_eq (index_of r p.0) k.index) [
       | true ↦ λ e.
-          let same : rollup_series_under r c ≡ rollup_series_of k = same_at series_list n (rollup_series_under r c) (rollup_series_of k) (subst (λ i. IsAt series_list i (rollup_series_under r c)) ((Decides-eqb m n).0 e) of.1) at in
+          let same : rollup_series_under r c ≡ rollup_series_of k = same_at rollup_series n (rollup_series_under r c) (rollup_series_of k) (subst (λ i. IsAt rollup_series i (rollup_series_under r c)) ((Decides-eqb m n).0 e) of.1) at in
           ap (λ l. same_cell (cell_at (index_of r p.0) l) k) same ∙ same_bucket (index_of r p.0) k.index (rollup_series_of k)
       | false ↦ λ e. other_rollup_series (cell_of r (fact_at c p)) k
-          (λ same. true≢false (sym ((Decides-eqb m n).1 (one_number series_list m n (rollup_series_of k) d (subst (IsAt series_list m) same of.1) at)) ∙ e))
+          (λ same. true≢false (sym ((Decides-eqb m n).1 (one_number rollup_series m n (rollup_series_of k) d (subst (IsAt rollup_series m) same of.1) at)) ∙ e))
     ] refl
 
 -- ---- the points of columns
@@ -84,20 +84,20 @@ points_append : (fs gs : List Fact) → points_of_facts (fs ++ gs) ≡ points_of
 points_append [] gs = refl
 points_append (f ∷ fs) gs = ap (λ xs. (f.time, f.value) ∷ xs) (points_append fs gs)
 
-columns_parts : (r : Rule) (k : Cell) (l : ℕ) (series_list : List RollupSeries) → AllDistinct series_list → IsAt series_list l (rollup_series_of k) → (all : List ColumnState) (n : ℕ) (cs : List Column) (ss : List ColumnState) (os : List (Option ℕ))
-    → length ss ≡ length cs → HaveRollupSeries r series_list cs os → ((i : ℕ) → i < length ss → get_or all (n + i) no_column ≡ get_or ss i no_column)
+columns_parts : (r : Rule) (k : Cell) (l : ℕ) (rollup_series : List RollupSeries) → AllDistinct rollup_series → IsAt rollup_series l (rollup_series_of k) → (all : List ColumnState) (n : ℕ) (cs : List Column) (ss : List ColumnState) (os : List (Option ℕ))
+    → length ss ≡ length cs → HaveRollupSeries r rollup_series cs os → ((i : ℕ) → i < length ss → get_or all (n + i) no_column ≡ get_or ss i no_column)
     → points_of_facts (filter (is_in_cell r k) (facts_of (with_points cs (point_maps ss)))) ≡ points_in r all k.index (numbers_where_from (is_of_rollup_series l) n os)
-columns_parts r k l series_list d at all n [] ss [] len have same = refl
-columns_parts r k l series_list d at all n [] ss (o ∷ os) len have same = absurd have
-columns_parts r k l series_list d at all n (c ∷ cs) ss [] len have same = absurd have
-columns_parts r k l series_list d at all n (c ∷ cs) [] (o ∷ os) len have same = absurd (omega (arith, len))
-columns_parts r k l series_list d at all n (c ∷ cs) (s ∷ ss) (o ∷ os) len have same =
+columns_parts r k l rollup_series d at all n [] ss [] len have same = refl
+columns_parts r k l rollup_series d at all n [] ss (o ∷ os) len have same = absurd have
+columns_parts r k l rollup_series d at all n (c ∷ cs) ss [] len have same = absurd have
+columns_parts r k l rollup_series d at all n (c ∷ cs) [] (o ∷ os) len have same = absurd (omega (arith, len))
+columns_parts r k l rollup_series d at all n (c ∷ cs) (s ∷ ss) (o ∷ os) len have same =
     let test : Fact → Bool = is_in_cell r k in
     let ps : List (ℤ × ℤ) = finmap.entries s.points in
     let q : ℤ × ℤ → Bool = λ p. int_eq (index_of r p.0) k.index in
     let after : (i : ℕ) → i < length ss → get_or all (n + 1 + i) no_column ≡ get_or ss i no_column = λ i below. let e : n + 1 + i ≡ n + suc i = omega arith in ap (λ j. get_or all j no_column) e ∙ same (suc i) (omega (arith, below)) in
-    let rest = columns_parts r k l series_list d at all (n + 1) cs ss os (omega (arith, len)) have.1 after in
-    let first = column_part test c (is_of_rollup_series l o) q (in_cell r k l series_list d at c o have.0) ps in
+    let rest = columns_parts r k l rollup_series d at all (n + 1) cs ss os (omega (arith, len)) have.1 after in
+    let first = column_part test c (is_of_rollup_series l o) q (in_cell r k l rollup_series d at c o have.0) ps in
     let e : n ≡ n + 0 = omega arith in
     let here : get_or all n no_column ≡ s = ap (λ j. get_or all j no_column) e ∙ same 0 (omega arith) in
     ap points_of_facts (filter-append test (facts_at c ps) (facts_of (with_points cs (point_maps ss))))
@@ -109,19 +109,19 @@ columns_parts r k l series_list d at all n (c ∷ cs) (s ∷ ss) (o ∷ os) len 
     ]
 
 -- of a whole store's columns
-pub cell_points : (r : Rule) (s : RollupState) (k : Cell) (l : ℕ) (cs : List Column) (ss : List ColumnState) → AllDistinct s.grid.series_list → IsAt s.grid.series_list l (rollup_series_of k) → length ss ≡ length cs → HaveRollupSeries r s.grid.series_list cs s.series_list
+pub cell_points : (r : Rule) (s : RollupState) (k : Cell) (l : ℕ) (cs : List Column) (ss : List ColumnState) → AllDistinct s.grid.rollup_series → IsAt s.grid.rollup_series l (rollup_series_of k) → length ss ≡ length cs → HaveRollupSeries r s.grid.rollup_series cs s.series_of_column
     → points_of_facts (filter (is_in_cell r k) (facts_of (with_points cs (point_maps ss)))) ≡ points_in r ss k.index (columns_of_rollup_series l s)
 cell_points r s k l cs ss d at len have =
-    columns_parts r k l s.grid.series_list d at ss 0 cs ss s.series_list len have (λ i below. let e : 0 + i ≡ i = omega arith in ap (λ j. get_or ss j no_column) e)
+    columns_parts r k l s.grid.rollup_series d at ss 0 cs ss s.series_of_column len have (λ i below. let e : 0 + i ≡ i = omega arith in ap (λ j. get_or ss j no_column) e)
 
 -- the aggregate of these points
-pub cell_total : (r : Rule) (s : RollupState) (k : Cell) (l : ℕ) (cs : List Column) (ss : List ColumnState) → AllDistinct s.grid.series_list → IsAt s.grid.series_list l (rollup_series_of k) → length ss ≡ length cs → HaveRollupSeries r s.grid.series_list cs s.series_list
+pub cell_total : (r : Rule) (s : RollupState) (k : Cell) (l : ℕ) (cs : List Column) (ss : List ColumnState) → AllDistinct s.grid.rollup_series → IsAt s.grid.rollup_series l (rollup_series_of k) → length ss ≡ length cs → HaveRollupSeries r s.grid.rollup_series cs s.series_of_column
     → aggregate_of_points (points_in r ss k.index (columns_of_rollup_series l s)) ≡ total_of r k (facts_of (with_points cs (point_maps ss)))
 cell_total r s k l cs ss d at len have =
     sym (aggregate_of-points (filter (is_in_cell r k) (facts_of (with_points cs (point_maps ss)))) ∙ ap aggregate_of_points (cell_points r s k l cs ss d at len have))
 
 -- and how many they are
-pub cell_count : (r : Rule) (s : RollupState) (k : Cell) (l : ℕ) (cs : List Column) (ss : List ColumnState) → AllDistinct s.grid.series_list → IsAt s.grid.series_list l (rollup_series_of k) → length ss ≡ length cs → HaveRollupSeries r s.grid.series_list cs s.series_list
+pub cell_count : (r : Rule) (s : RollupState) (k : Cell) (l : ℕ) (cs : List Column) (ss : List ColumnState) → AllDistinct s.grid.rollup_series → IsAt s.grid.rollup_series l (rollup_series_of k) → length ss ≡ length cs → HaveRollupSeries r s.grid.rollup_series cs s.series_of_column
     → length (points_in r ss k.index (columns_of_rollup_series l s)) ≡ length (filter (is_in_cell r k) (facts_of (with_points cs (point_maps ss))))
 cell_count r s k l cs ss d at len have =
     let fs : List Fact = filter (is_in_cell r k) (facts_of (with_points cs (point_maps ss))) in

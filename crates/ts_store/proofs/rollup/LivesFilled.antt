@@ -129,8 +129,8 @@ frozen-then m n o a b = λ k. b k ∙ a k
 
 -- ---- under the rollup series of a rule, which stay
 
-pub added_in-series : (before s : RollupState) (l : ℕ) (r : Rule) (c : Column) (index : ℤ) (part : Aggregate) → s ≡ with_grid_cells s.grid.cells before → IsRollupSeriesOf r c before.grid.series_list (Some l)
+pub added_in-series : (before s : RollupState) (l : ℕ) (r : Rule) (c : Column) (index : ℤ) (part : Aggregate) → s ≡ with_grid_cells s.grid.cells before → IsRollupSeriesOf r c before.grid.rollup_series (Some l)
     → added_in s l index part ≡ changed s.grid.cells (cell_at index (rollup_series_under r c)) (in_live (merged_within part))
 added_in-series before s l r c index part e is =
-    let key : get_or s.grid.series_list l no_rollup_series ≡ rollup_series_under r c = ap (λ (x : RollupState). get_or x.grid.series_list l no_rollup_series) e ∙ get_or_from_slice_get before.grid.series_list l (rollup_series_under r c) no_rollup_series is.1 in
+    let key : get_or s.grid.rollup_series l no_rollup_series ≡ rollup_series_under r c = ap (λ (x : RollupState). get_or x.grid.rollup_series l no_rollup_series) e ∙ get_or_from_slice_get before.grid.rollup_series l (rollup_series_under r c) no_rollup_series is.1 in
     ap (λ k. changed s.grid.cells (cell_at index k) (in_live (merged_within part))) key

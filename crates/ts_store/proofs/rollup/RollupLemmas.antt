@@ -113,16 +113,16 @@ replicate_push (suc n) x = ap (λ xs. x ∷ xs) (replicate_push n x) ∙ ap (λ 
 
 -- ---- the invariant
 
-module _ (series_list : List RollupSeries) (os : List (Option ℕ)) (ms : List (List ℕ)) (next : Option (Option ℕ)) (spare : Bool) (spares : List Bool) (kept : IsRollup series_list os ms next spare spares) where
+module _ (rollup_series : List RollupSeries) (os : List (Option ℕ)) (ms : List (List ℕ)) (next : Option (Option ℕ)) (spare : Bool) (spares : List Bool) (kept : IsRollup rollup_series os ms next spare spares) where
   -- the rollup series of a column is there
-  pub rollup_series_inside : (n l : ℕ) → slice_get os n ≡ Some (Some l) → l < length series_list
+  pub rollup_series_inside : (n l : ℕ) → slice_get os n ≡ Some (Some l) → l < length rollup_series
   rollup_series_inside n l at =
       let there : Among n (get_or ms l []) = subst (Among n) (sym (kept.grouped l)) (numbers_there (is_of_rollup_series l) os n (Some l) at (same_number l)) in
       let w = members_within ms l n there in
       omega (arith, w, kept.each)
 
   -- a column of no rollup series is created
-  pub made_apart : (os' : List (Option ℕ)) (next' : Option (Option ℕ)) (spare' : Bool) (spares' : List Bool) → os' ≡ os ++ None ∷ [] → next' ≡ None → IsRollup series_list os' ms next' spare' spares'
+  pub made_apart : (os' : List (Option ℕ)) (next' : Option (Option ℕ)) (spare' : Bool) (spares' : List Bool) → os' ≡ os ++ None ∷ [] → next' ≡ None → IsRollup rollup_series os' ms next' spare' spares'
   made_apart os' next' spare' spares' e none = record {
     once = kept.once;
     each = kept.each;
@@ -132,7 +132,7 @@ module _ (series_list : List RollupSeries) (os : List (Option ℕ)) (ms : List (
 
   -- one of a rollup series is
   pub made_in : (n : ℕ) → n < length ms → (os' : List (Option ℕ)) (ms' : List (List ℕ)) (next' : Option (Option ℕ)) (spare' : Bool) (spares' : List Bool) → os' ≡ os ++ Some n ∷ []
-      → ms' ≡ set ms n (get_or ms n [] ++ length os ∷ []) → next' ≡ None → IsRollup series_list os' ms' next' spare' spares'
+      → ms' ≡ set ms n (get_or ms n [] ++ length os ∷ []) → next' ≡ None → IsRollup rollup_series os' ms' next' spare' spares'
   made_in n within os' ms' next' spare' spares' e f none = record {
     once = kept.once;
     each = ap length f ∙ length-set ms n (get_or ms n [] ++ length os ∷ []) ∙ kept.each;

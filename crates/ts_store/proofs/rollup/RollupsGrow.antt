@@ -18,19 +18,19 @@ none_next (r ∷ rs) c ss e h = absurd (omega arith)
 
 pub keep_same : (ss : List RollupState) → KeepCells ss ss
 keep_same [] = tt
-keep_same (s ∷ ss) = (record { made = ([], sym (append-nil s.grid.series_list)); cells = refl; series_list = refl }, keep_same ss)
+keep_same (s ∷ ss) = (record { made = ([], sym (append-nil s.grid.rollup_series)); cells = refl; kept = refl }, keep_same ss)
 
 -- ---- more rollup series
 
-rollup_series_kept : (r : Rule) (c : Column) (series_list series_list' : List RollupSeries) (o : Option ℕ) → Extends series_list series_list' → IsRollupSeriesOf r c series_list o → IsRollupSeriesOf r c series_list' o
-rollup_series_kept r c series_list series_list' None e at = at
-rollup_series_kept r c series_list series_list' (Some l) e at = (at.0, ap (λ (ls : List RollupSeries). slice_get ls l) e.1 ∙ slice_get_left series_list e.0 l (rollup_series_under r c) at.1)
+rollup_series_kept : (r : Rule) (c : Column) (rollup_series rollup_series' : List RollupSeries) (o : Option ℕ) → Extends rollup_series rollup_series' → IsRollupSeriesOf r c rollup_series o → IsRollupSeriesOf r c rollup_series' o
+rollup_series_kept r c rollup_series rollup_series' None e at = at
+rollup_series_kept r c rollup_series rollup_series' (Some l) e at = (at.0, ap (λ (ls : List RollupSeries). slice_get ls l) e.1 ∙ slice_get_left rollup_series e.0 l (rollup_series_under r c) at.1)
 
-pub series_list_kept : (r : Rule) (series_list series_list' : List RollupSeries) (cs : List Column) (os : List (Option ℕ)) → Extends series_list series_list' → HaveRollupSeries r series_list cs os → HaveRollupSeries r series_list' cs os
-series_list_kept r series_list series_list' [] [] e h = tt
-series_list_kept r series_list series_list' [] (o ∷ os) e h = absurd h
-series_list_kept r series_list series_list' (c ∷ cs) [] e h = absurd h
-series_list_kept r series_list series_list' (c ∷ cs) (o ∷ os) e h = (rollup_series_kept r c series_list series_list' o e h.0, series_list_kept r series_list series_list' cs os e h.1)
+pub rollup_series_all_kept : (r : Rule) (rollup_series rollup_series' : List RollupSeries) (cs : List Column) (os : List (Option ℕ)) → Extends rollup_series rollup_series' → HaveRollupSeries r rollup_series cs os → HaveRollupSeries r rollup_series' cs os
+rollup_series_all_kept r rollup_series rollup_series' [] [] e h = tt
+rollup_series_all_kept r rollup_series rollup_series' [] (o ∷ os) e h = absurd h
+rollup_series_all_kept r rollup_series rollup_series' (c ∷ cs) [] e h = absurd h
+rollup_series_all_kept r rollup_series rollup_series' (c ∷ cs) (o ∷ os) e h = (rollup_series_kept r c rollup_series rollup_series' o e h.0, rollup_series_all_kept r rollup_series rollup_series' cs os e h.1)
 
 pub rollups_kept : (rs : List Rule) (cs : List Column) (ss ts : List RollupState) → AreRollups rs cs ss → KeepCells ss ts → AreRollups rs cs ts
 rollups_kept [] cs [] [] h k = tt
@@ -39,7 +39,7 @@ rollups_kept [] cs (s ∷ ss) ts h k = absurd h
 rollups_kept (r ∷ rs) cs [] ts h k = absurd h
 rollups_kept (r ∷ rs) cs (s ∷ ss) [] h k = absurd k
 rollups_kept (r ∷ rs) cs (s ∷ ss) (t ∷ ts) h k = (
-  subst (HaveRollupSeries r t.grid.series_list cs) (sym k.0.series_list) (series_list_kept r s.grid.series_list t.grid.series_list cs s.series_list k.0.made h.0),
+  subst (HaveRollupSeries r t.grid.rollup_series cs) (sym k.0.kept) (rollup_series_all_kept r s.grid.rollup_series t.grid.rollup_series cs s.series_of_column k.0.made h.0),
   rollups_kept rs cs ss ts h.1 k.1,
 )
 
@@ -63,31 +63,31 @@ rollups-length [] cs (s ∷ ss) h = absurd h
 rollups-length (r ∷ rs) cs [] h = absurd h
 rollups-length (r ∷ rs) cs (s ∷ ss) h = ap suc (rollups-length rs cs ss h.1)
 
-pub series_list-length : (r : Rule) (series_list : List RollupSeries) (cs : List Column) (os : List (Option ℕ)) → HaveRollupSeries r series_list cs os → length os ≡ length cs
-series_list-length r series_list [] [] h = refl
-series_list-length r series_list [] (o ∷ os) h = absurd h
-series_list-length r series_list (c ∷ cs) [] h = absurd h
-series_list-length r series_list (c ∷ cs) (o ∷ os) h = ap suc (series_list-length r series_list cs os h.1)
+pub rollup_series-length : (r : Rule) (rollup_series : List RollupSeries) (cs : List Column) (os : List (Option ℕ)) → HaveRollupSeries r rollup_series cs os → length os ≡ length cs
+rollup_series-length r rollup_series [] [] h = refl
+rollup_series-length r rollup_series [] (o ∷ os) h = absurd h
+rollup_series-length r rollup_series (c ∷ cs) [] h = absurd h
+rollup_series-length r rollup_series (c ∷ cs) (o ∷ os) h = ap suc (rollup_series-length r rollup_series cs os h.1)
 
 -- each number of a column is the index of a rollup series
-pub numbers_inside : (rs : List Rule) (cs : List Column) (ss : List RollupState) (ns : List ℕ) → AreRollups rs cs ss → AllByRecursion (λ n. n < length cs) ns → AllByRecursion (λ (s : RollupState). AllByRecursion (λ n. n < length s.series_list) ns) ss
+pub numbers_inside : (rs : List Rule) (cs : List Column) (ss : List RollupState) (ns : List ℕ) → AreRollups rs cs ss → AllByRecursion (λ n. n < length cs) ns → AllByRecursion (λ (s : RollupState). AllByRecursion (λ n. n < length s.series_of_column) ns) ss
 numbers_inside [] cs [] ns h a = tt
 numbers_inside [] cs (s ∷ ss) ns h a = absurd h
 numbers_inside (r ∷ rs) cs [] ns h a = absurd h
-numbers_inside (r ∷ rs) cs (s ∷ ss) ns h a = (subst (λ m. AllByRecursion (λ n. n < m) ns) (sym (series_list-length r s.grid.series_list cs s.series_list h.0)) a, numbers_inside rs cs ss ns h.1 a)
+numbers_inside (r ∷ rs) cs (s ∷ ss) ns h a = (subst (λ m. AllByRecursion (λ n. n < m) ns) (sym (rollup_series-length r s.grid.rollup_series cs s.series_of_column h.0)) a, numbers_inside rs cs ss ns h.1 a)
 
-pub series_list_push : (r : Rule) (series_list : List RollupSeries) (cs : List Column) (os : List (Option ℕ)) (c : Column) (o : Option ℕ) → HaveRollupSeries r series_list cs os → IsRollupSeriesOf r c series_list o → HaveRollupSeries r series_list (cs ++ c ∷ []) (os ++ o ∷ [])
-series_list_push r series_list [] [] c o h at = (at, tt)
-series_list_push r series_list [] (p ∷ os) c o h at = absurd h
-series_list_push r series_list (d ∷ cs) [] c o h at = absurd h
-series_list_push r series_list (d ∷ cs) (p ∷ os) c o h at = (h.0, series_list_push r series_list cs os c o h.1 at)
+pub rollup_series_push : (r : Rule) (rollup_series : List RollupSeries) (cs : List Column) (os : List (Option ℕ)) (c : Column) (o : Option ℕ) → HaveRollupSeries r rollup_series cs os → IsRollupSeriesOf r c rollup_series o → HaveRollupSeries r rollup_series (cs ++ c ∷ []) (os ++ o ∷ [])
+rollup_series_push r rollup_series [] [] c o h at = (at, tt)
+rollup_series_push r rollup_series [] (p ∷ os) c o h at = absurd h
+rollup_series_push r rollup_series (d ∷ cs) [] c o h at = absurd h
+rollup_series_push r rollup_series (d ∷ cs) (p ∷ os) c o h at = (h.0, rollup_series_push r rollup_series cs os c o h.1 at)
 
 pub rollups_made : (rs : List Rule) (cs : List Column) (c : Column) (ss : List RollupState) → AreRollups rs cs ss → HaveNext rs c ss → AreRollups rs (cs ++ c ∷ []) (map with_next ss)
 rollups_made [] cs c [] h k = tt
 rollups_made [] cs c (s ∷ ss) h k = absurd h
 rollups_made (r ∷ rs) cs c [] h k = absurd h
 rollups_made (r ∷ rs) cs c (s ∷ ss) h k = (
-  subst (λ (o : Option (Option ℕ)). HaveRollupSeries r s.grid.series_list (cs ++ c ∷ []) (joined_rollup_series s.series_list o)) (sym k.0.1) (series_list_push r s.grid.series_list cs s.series_list c k.0.0 h.0 k.0.2),
+  subst (λ (o : Option (Option ℕ)). HaveRollupSeries r s.grid.rollup_series (cs ++ c ∷ []) (joined_rollup_series s.series_of_column o)) (sym k.0.1) (rollup_series_push r s.grid.rollup_series cs s.series_of_column c k.0.0 h.0 k.0.2),
   rollups_made rs cs c ss h.1 k.1,
 )
 
@@ -97,12 +97,12 @@ cells_made (s ∷ ss) = ap (λ ms. s.grid.cells ∷ ms) (cells_made ss)
 
 -- a column after the others can be created
 pub ready_to_make : (rs : List Rule) (cs : List Column) (c : Column) (n : ℕ) (ss : List RollupState) → AreRollups rs cs ss → HaveNext rs c ss → n ≡ length cs
-    → AllByRecursion (λ (s : RollupState). IsSome s.next × (n ≡ length s.series_list)) ss
+    → AllByRecursion (λ (s : RollupState). IsSome s.next × (n ≡ length s.series_of_column)) ss
 ready_to_make [] cs c n [] h k e = tt
 ready_to_make [] cs c n (s ∷ ss) h k e = absurd h
 ready_to_make (r ∷ rs) cs c n [] h k e = absurd h
 ready_to_make (r ∷ rs) cs c n (s ∷ ss) h k e = (
-  (subst (λ (o : Option (Option ℕ)). IsSome o) (sym k.0.1) refl, e ∙ sym (series_list-length r s.grid.series_list cs s.series_list h.0)),
+  (subst (λ (o : Option (Option ℕ)). IsSome o) (sym k.0.1) refl, e ∙ sym (rollup_series-length r s.grid.rollup_series cs s.series_of_column h.0)),
   ready_to_make rs cs c n ss h.1 k.1 e,
 )
 

@@ -26,7 +26,7 @@ use Rattle.ts_store.specs.write.LinesPut.{OfEachRule, IsOfFacts, PutsCells}
 use Rattle.ts_store.specs.rollup.Rollups.{RollupState, AreRollups, HaveRollupSeries, IsRollupSeriesOf, rollup_series_at, cells_of}
 use Rattle.ts_store.specs.retain.RollupSteps.{with_all_grid_cells}
 use Rattle.ts_store.proofs.store.ColumnsLemmas.{known_of, names_held, facts-distinct}
-use Rattle.ts_store.proofs.write.PointsPut.{series_list_then}
+use Rattle.ts_store.proofs.write.PointsPut.{grids_kept_then}
 use Rattle.ts_store.proofs.retain.RollupMoves.{rollups_with}
 use Rattle.ts_store.proofs.rollup.RollupsGrow.{rollups-length}
 use Rattle.ts_store.proofs.write.CellsCreatedLemmas.{rollup_series_known}
@@ -34,13 +34,13 @@ use Rattle.ts_store.proofs.write.CellsCreatedLemmas.{rollup_series_known}
 -- ---- the first rule, and the others
 
 -- the properties of the first rollup, and of the others
-pub rollups_first : (r : Rule) (rs rs' : List Rule) (cs : List Column) (s : RollupState) (ss ss' : List RollupState) → rs' ≡ r ∷ rs → ss' ≡ s ∷ ss → AreRollups rs' cs ss' → HaveRollupSeries r s.grid.series_list cs s.series_list × AreRollups rs cs ss
+pub rollups_first : (r : Rule) (rs rs' : List Rule) (cs : List Column) (s : RollupState) (ss ss' : List RollupState) → rs' ≡ r ∷ rs → ss' ≡ s ∷ ss → AreRollups rs' cs ss' → HaveRollupSeries r s.grid.rollup_series cs s.series_of_column × AreRollups rs cs ss
 rollups_first r rs rs' cs s ss ss' d e h = subst (λ (us : List RollupState). AreRollups (r ∷ rs) cs us) e (subst (λ (qs : List Rule). AreRollups qs cs ss') d h)
 
-pub rollup_series_first : (r : Rule) (cs : List Column) (n : ℕ) (c : Column) (s : RollupState) → HaveRollupSeries r s.grid.series_list cs s.series_list → IsAt cs n c → IsRollupSeriesOf r c s.grid.series_list (rollup_series_at s n)
-rollup_series_first r cs n c s h at = rollup_series_known r s.grid.series_list cs s.series_list n c h at
+pub rollup_series_first : (r : Rule) (cs : List Column) (n : ℕ) (c : Column) (s : RollupState) → HaveRollupSeries r s.grid.rollup_series cs s.series_of_column → IsAt cs n c → IsRollupSeriesOf r c s.grid.rollup_series (rollup_series_at s n)
+rollup_series_first r cs n c s h at = rollup_series_known r s.grid.rollup_series cs s.series_of_column n c h at
 
-pub wide_first : (n : ℕ) (ss : List RollupState) (m : ℕ) → m < n → AllByRecursion (λ (s : RollupState). length s.series_list ≡ n) ss → AllByRecursion (λ (s : RollupState). m < length s.series_list) ss
+pub wide_first : (n : ℕ) (ss : List RollupState) (m : ℕ) → m < n → AllByRecursion (λ (s : RollupState). length s.series_of_column ≡ n) ss → AllByRecursion (λ (s : RollupState). m < length s.series_of_column) ss
 wide_first n [] m l h = tt
 wide_first n (s ∷ ss) m l h = (subst (λ k. m < k) (sym h.0) l, wide_first n ss m l h.1)
 
@@ -299,7 +299,7 @@ module _ (rs : List Rule) (lows : List ℤ) (index : Indexed) (ss : List ColumnS
       add index.columns held.each between (idle-made facts rs lows (cells_of us) (cells_of vs) many (length-map us (λ (s : RollupState). s.grid.cells) ∙ rollups-length rs index.columns us names) made idle) in
       let cells : OfEachRule (PutsCells facts) rs lows (cells_of us) (cells_of ws) = all-filled (columns_in index ss) rs lows (cells_of us) (cells_of vs) (cells_of ws) made frozen live idle in
       record {
-        others = ap (content_of index ss) (series_list_then us vs ws one two);
+        others = ap (content_of index ss) (grids_kept_then us vs ws one two);
         cells = cells;
         has_cells = has_cells-had facts rs lows (cells_of us) (cells_of ws) cells;
         live = live;

@@ -29,28 +29,28 @@ use Rattle.ts_store.specs.rules.RuleRollups.{HasFirstRollupSeries, IsRollupOf}
 use Rattle.ts_store.specs.rollup.Rollups.{RollupState, HaveRollupSeries, KeepsCells, HasNext, cells_of, new_rollup, joined_rollup_series, with_next, with_grid_cells}
 use Rattle.ts_store.specs.retain.RollupSteps.{with_all_grid_cells}
 use Rattle.ts_store.proofs.store.ColumnsLemmas.{names_held}
-use Rattle.ts_store.proofs.write.PointsPut.{series_list_then}
-use Rattle.ts_store.proofs.rollup.RollupsGrow.{series_list_kept, series_list_push}
+use Rattle.ts_store.proofs.write.PointsPut.{grids_kept_then}
+use Rattle.ts_store.proofs.rollup.RollupsGrow.{rollup_series_all_kept, rollup_series_push}
 use Rattle.ts_store.proofs.rollup.RulesFilled.{Makes, Adds, all_fill}
 
 -- ---- rollup series
 
-pub no_series_list : (r : Rule) (columns : List Column) → HasFirstRollupSeries r columns 0 new_rollup
-no_series_list r columns = record { series_list = tt; many = refl; cells = refl }
+pub no_series : (r : Rule) (columns : List Column) → HasFirstRollupSeries r columns 0 new_rollup
+no_series r columns = record { series = tt; many = refl; cells = refl }
 
 take-push : {X : Type 0} (xs : List X) (n : ℕ) (x : X) → IsAt xs n x → take (n + 1) xs ≡ take n xs ++ x ∷ []
 take-push xs n x at = ap (λ k. take k xs) (let e : n + 1 ≡ suc n = omega arith in e) ∙ take-suc xs n x (slice_get_within xs n x at) ∙ ap (λ y. take n xs ++ y ∷ []) (get_or_from_slice_get xs n x x at)
 
 pub one_rollup_series : (r : Rule) (columns : List Column) (n : ℕ) (c : Column) (s t : RollupState) → IsAt columns n c → KeepsCells s t → HasNext r c t → HasFirstRollupSeries r columns n s → HasFirstRollupSeries r columns (n + 1) (with_next t)
 one_rollup_series r columns n c s t at keeps next h =
-    let os : List (Option ℕ) = t.series_list in
+    let os : List (Option ℕ) = t.series_of_column in
     let first : List Column = take n columns in
-    let series_list : HaveRollupSeries r t.grid.series_list first os = subst (HaveRollupSeries r t.grid.series_list first) (sym keeps.series_list) (series_list_kept r s.grid.series_list t.grid.series_list first s.series_list keeps.made h.series_list) in
+    let series : HaveRollupSeries r t.grid.rollup_series first os = subst (HaveRollupSeries r t.grid.rollup_series first) (sym keeps.kept) (rollup_series_all_kept r s.grid.rollup_series t.grid.rollup_series first s.series_of_column keeps.made h.series) in
     let joined : joined_rollup_series os t.next ≡ os ++ next.0 ∷ [] = ap (joined_rollup_series os) next.1 in
     record {
-      series_list = subst (λ (cs : List Column). HaveRollupSeries r t.grid.series_list cs (joined_rollup_series os t.next)) (sym (take-push columns n c at))
-          (subst (HaveRollupSeries r t.grid.series_list (first ++ c ∷ [])) (sym joined) (series_list_push r t.grid.series_list first os c next.0 series_list next.2));
-      many = ap (λ (xs : List (Option ℕ)). length xs) joined ∙ length_push os next.0 ∙ ap (λ (xs : List (Option ℕ)). length xs + 1) keeps.series_list ∙ ap (λ k. k + 1) h.many;
+      series = subst (λ (cs : List Column). HaveRollupSeries r t.grid.rollup_series cs (joined_rollup_series os t.next)) (sym (take-push columns n c at))
+          (subst (HaveRollupSeries r t.grid.rollup_series (first ++ c ∷ [])) (sym joined) (rollup_series_push r t.grid.rollup_series first os c next.0 series next.2));
+      many = ap (λ (xs : List (Option ℕ)). length xs) joined ∙ length_push os next.0 ∙ ap (λ (xs : List (Option ℕ)). length xs + 1) keeps.kept ∙ ap (λ k. k + 1) h.many;
       cells = keeps.cells ∙ h.cells;
     }
 
@@ -84,9 +84,9 @@ pub rollup_made : (index : Indexed) (ss : List ColumnState) (us : List RollupSta
 rollup_made index ss us r low s t held first same fills =
     let facts : List Fact = facts_of (content_of index ss us).columns in
     let puts : PutsCells facts r low finmap.empty t.grid.cells = subst (λ (m : CellMap). PutsCells facts r low m t.grid.cells) first.cells (fills.cells.1 0 r low s.grid.cells t.grid.cells refl refl refl refl) in
-    let series_list : HaveRollupSeries r s.grid.series_list index.columns s.series_list = subst (λ (cs : List Column). HaveRollupSeries r s.grid.series_list cs s.series_list) (take-length index.columns) first.series_list in
+    let series : HaveRollupSeries r s.grid.rollup_series index.columns s.series_of_column = subst (λ (cs : List Column). HaveRollupSeries r s.grid.rollup_series cs s.series_of_column) (take-length index.columns) first.series in
     record {
-      series_list = subst (λ (x : RollupState). HaveRollupSeries r x.grid.series_list (map column_of (content_of index ss us).columns) x.series_list) (sym same) (subst (λ (cs : List Column). HaveRollupSeries r s.grid.series_list cs s.series_list) (sym (names_held index ss held.each)) series_list);
+      series = subst (λ (x : RollupState). HaveRollupSeries r x.grid.rollup_series (map column_of (content_of index ss us).columns) x.series_of_column) (sym same) (subst (λ (cs : List Column). HaveRollupSeries r s.grid.rollup_series cs s.series_of_column) (sym (names_held index ss held.each)) series);
       fresh = fresh_of facts r low t.grid.cells puts fills.live.0;
       filled = filled_of facts r low t.grid.cells puts;
       possible = (fills.possible (subst (HasPossibleCells r) (sym first.cells) (none_possible r), tt)).0;
@@ -99,16 +99,16 @@ pub alone : {X : Type 0} (xs ys : List X) (x : X) → length xs ≡ 1 → xs ≡
 alone xs [] x one e = e
 alone {X} xs (y ∷ ys) x one e = absurd (let n : length xs ≡ length (y ∷ (ys ++ x ∷ [])) = ap (λ (zs : List X). length zs) e in let m = length_push ys x in omega (arith, n, m, one))
 
-pub alone_wide : (n : ℕ) (s : RollupState) (us : List RollupState) → us ≡ s ∷ [] → length s.series_list ≡ n → AllByRecursion (λ (u : RollupState). length u.series_list ≡ n) us
-alone_wide n s us e wide = subst (AllByRecursion (λ (u : RollupState). length u.series_list ≡ n)) (sym e) (wide, tt)
+pub alone_wide : (n : ℕ) (s : RollupState) (us : List RollupState) → us ≡ s ∷ [] → length s.series_of_column ≡ n → AllByRecursion (λ (u : RollupState). length u.series_of_column ≡ n) us
+alone_wide n s us e wide = subst (AllByRecursion (λ (u : RollupState). length u.series_of_column ≡ n)) (sym e) (wide, tt)
 
 pub alone_made : (index : Indexed) (ss : List ColumnState) (us : List RollupState) (r : Rule) (low : ℤ) (s t : RollupState) (vs ws : List RollupState) → IsSoundContent index ss → HasFirstRollupSeries r index.columns (length index.columns) s
     → vs ≡ with_all_grid_cells (cells_of vs) (s ∷ []) → ws ≡ with_all_grid_cells (cells_of ws) vs → Makes (r ∷ []) (low ∷ []) vs ss (s ∷ []) → KeepFrozen (cells_of vs) (cells_of ws) → Adds (r ∷ []) ws ss vs → ws ≡ t ∷ [] → IsRollupOf (content_of index ss us) r low t
 alone_made index ss us r low s t vs ws held first one two make frozen add only =
-    let series_list : HaveRollupSeries r s.grid.series_list index.columns s.series_list = subst (λ (cs : List Column). HaveRollupSeries r s.grid.series_list cs s.series_list) (take-length index.columns) first.series_list in
-    let named : HaveRollupSeries r s.grid.series_list (map column_of (columns_in index ss)) s.series_list = subst (λ (cs : List Column). HaveRollupSeries r s.grid.series_list cs s.series_list) (sym (names_held index ss held.each)) series_list in
+    let series : HaveRollupSeries r s.grid.rollup_series index.columns s.series_of_column = subst (λ (cs : List Column). HaveRollupSeries r s.grid.rollup_series cs s.series_of_column) (take-length index.columns) first.series in
+    let named : HaveRollupSeries r s.grid.rollup_series (map column_of (columns_in index ss)) s.series_of_column = subst (λ (cs : List Column). HaveRollupSeries r s.grid.rollup_series cs s.series_of_column) (sym (names_held index ss held.each)) series in
     let idle : AreIdle (cells_of (s ∷ [])) = (λ k p e. absurd (none-some p (sym (ap (λ (m : CellMap). finmap.get m k) first.cells ∙ get-empty cell_cmp k) ∙ e)), tt) in
     let fills : FillsCells (r ∷ []) (low ∷ []) (content_of index ss (s ∷ [])) (content_of index ss ws) = all_fill (r ∷ []) (low ∷ []) index ss (s ∷ []) vs ws held refl (named, tt) idle one two make frozen add in
     let same : t ≡ with_grid_cells t.grid.cells s =
-    same_head t (with_grid_cells t.grid.cells s) [] [] (sym only ∙ series_list_then (s ∷ []) vs ws one two ∙ ap (λ (xs : List RollupState). with_all_grid_cells (cells_of xs) (s ∷ [])) only) in
+    same_head t (with_grid_cells t.grid.cells s) [] [] (sym only ∙ grids_kept_then (s ∷ []) vs ws one two ∙ ap (λ (xs : List RollupState). with_all_grid_cells (cells_of xs) (s ∷ [])) only) in
     rollup_made index ss us r low s t held first same (subst (λ (xs : List RollupState). FillsCells (r ∷ []) (low ∷ []) (content_of index ss (s ∷ [])) (content_of index ss xs)) only fills)

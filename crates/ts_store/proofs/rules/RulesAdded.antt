@@ -40,7 +40,7 @@ use Rattle.ts_store.specs.store.SizedStores.{IsSizedRule}
 
 -- ---- lists that are one longer
 
-rollups_push : (rs : List Rule) (cs : List Column) (ss : List RollupState) (r : Rule) (s : RollupState) → AreRollups rs cs ss → HaveRollupSeries r s.grid.series_list cs s.series_list → AreRollups (rs ++ r ∷ []) cs (ss ++ s ∷ [])
+rollups_push : (rs : List Rule) (cs : List Column) (ss : List RollupState) (r : Rule) (s : RollupState) → AreRollups rs cs ss → HaveRollupSeries r s.grid.rollup_series cs s.series_of_column → AreRollups (rs ++ r ∷ []) cs (ss ++ s ∷ [])
 rollups_push [] cs [] r s h one = (one, tt)
 rollups_push [] cs (t ∷ ss) r s h one = absurd h
 rollups_push (q ∷ rs) cs [] r s h one = absurd h
@@ -137,7 +137,7 @@ module _ (settings : Settings) (marks : Marks) (n : ℕ) (held : StoreContent) (
 
     pub kept_added : IsSoundStore later (with_rollup s held) run
     kept_added = record {
-      rollups = rollups_push settings.rules (map column_of held.columns) held.rollups r s kept.rollups rollup.series_list;
+      rollups = rollups_push settings.rules (map column_of held.columns) held.rollups r s kept.rollups rollup.series;
       few = kept.few;
       counts = counts_push n held.columns settings.rules (cells_of held.rollups) r cells kept.sized.cells few kept.counts;
       live = lives_push held.columns settings.rules (cells_of held.rollups) r cells kept.sized.cells rollup.fresh.live kept.live;

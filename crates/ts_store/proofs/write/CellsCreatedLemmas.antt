@@ -73,10 +73,10 @@ roomy_there m c none =
 
 pub roomed_room : (r : Rule) (low : ℤ) (s : RollupState) (o : Option ℕ) (index : ℤ) → low ≤ℤ index → GainsEmptyCells r low [] s.grid.cells (cell_created_in s o index)
 roomed_room r low s None index above = room_same r low s.grid.cells
-roomed_room r low s (Some l) index above = roomy_room r low s.grid.cells (cell_in s.grid.series_list index l) above
+roomed_room r low s (Some l) index above = roomy_room r low s.grid.cells (cell_in s.grid.rollup_series index l) above
 
 -- of the rollup series of a column, for its facts
-rollup_series_capacity : (r : Rule) (low : ℤ) (s : RollupState) (o : Option ℕ) (f : Fact) → low ≤ℤ index_of r f.time → IsRollupSeriesOf r f.column s.grid.series_list o → GainsEmptyCells r low (f ∷ []) s.grid.cells (cell_created_in s o (index_of r f.time))
+rollup_series_capacity : (r : Rule) (low : ℤ) (s : RollupState) (o : Option ℕ) (f : Fact) → low ≤ℤ index_of r f.time → IsRollupSeriesOf r f.column s.grid.rollup_series o → GainsEmptyCells r low (f ∷ []) s.grid.cells (cell_created_in s o (index_of r f.time))
 rollup_series_capacity r low s None f above other = record {
   there = λ g k rolled l none. ⊎_elim {C = ⊥} (λ e. true≢false (sym rolled ∙ ap (is_rolled r) e ∙ other)) (λ q. q) k;
   stays = λ k e. e;
@@ -84,8 +84,8 @@ rollup_series_capacity r low s None f above other = record {
   above = λ k l. refl;
 }
 rollup_series_capacity r low s (Some l) f above at =
-    let cell : Cell = cell_in s.grid.series_list (index_of r f.time) l in
-    let same : cell ≡ cell_of r f = ap (cell_at (index_of r f.time)) (get_or_from_slice_get s.grid.series_list l (rollup_series_under r f.column) no_rollup_series at.1) in
+    let cell : Cell = cell_in s.grid.rollup_series (index_of r f.time) l in
+    let same : cell ≡ cell_of r f = ap (cell_at (index_of r f.time)) (get_or_from_slice_get s.grid.rollup_series l (rollup_series_under r f.column) no_rollup_series at.1) in
     let capacity : GainsEmptyCells r low [] s.grid.cells (inserted_if_absent s.grid.cells cell no_parts) = roomy_room r low s.grid.cells cell above in
     record {
       there = λ g k rolled low none. ⊎_elim {C = ⊥}
@@ -96,13 +96,13 @@ rollup_series_capacity r low s (Some l) f above at =
     }
 
 -- the rollup series of a column of a number
-pub rollup_series_known : (r : Rule) (series_list : List RollupSeries) (cs : List Column) (os : List (Option ℕ)) (n : ℕ) (c : Column) → HaveRollupSeries r series_list cs os → slice_get cs n ≡ Some c → IsRollupSeriesOf r c series_list (get_or os n None)
-rollup_series_known r series_list [] os n c h at = absurd (none-some c at)
-rollup_series_known r series_list (d ∷ cs) [] n c h at = absurd h
-rollup_series_known r series_list (d ∷ cs) (o ∷ os) zero c h at = subst (λ (x : Column). IsRollupSeriesOf r x series_list o) (same_Some d c at) h.0
-rollup_series_known r series_list (d ∷ cs) (o ∷ os) (suc n) c h at = rollup_series_known r series_list cs os n c h.1 at
+pub rollup_series_known : (r : Rule) (rollup_series : List RollupSeries) (cs : List Column) (os : List (Option ℕ)) (n : ℕ) (c : Column) → HaveRollupSeries r rollup_series cs os → slice_get cs n ≡ Some c → IsRollupSeriesOf r c rollup_series (get_or os n None)
+rollup_series_known r rollup_series [] os n c h at = absurd (none-some c at)
+rollup_series_known r rollup_series (d ∷ cs) [] n c h at = absurd h
+rollup_series_known r rollup_series (d ∷ cs) (o ∷ os) zero c h at = subst (λ (x : Column). IsRollupSeriesOf r x rollup_series o) (same_Some d c at) h.0
+rollup_series_known r rollup_series (d ∷ cs) (o ∷ os) (suc n) c h at = rollup_series_known r rollup_series cs os n c h.1 at
 
-all_roomed : (r : Rule) (low : ℤ) (cs : List Column) (time : ℤ) (ns : List ℕ) (fs : List Fact) (s : RollupState) → low ≤ℤ index_of r time → HaveRollupSeries r s.grid.series_list cs s.series_list → AreAt cs time ns fs
+all_roomed : (r : Rule) (low : ℤ) (cs : List Column) (time : ℤ) (ns : List ℕ) (fs : List Fact) (s : RollupState) → low ≤ℤ index_of r time → HaveRollupSeries r s.grid.rollup_series cs s.series_of_column → AreAt cs time ns fs
     → GainsEmptyCells r low fs s.grid.cells (cells_created_for (index_of r time) ns s).grid.cells
 all_roomed r low cs time [] [] s above h a = room_same r low s.grid.cells
 all_roomed r low cs time [] (f ∷ fs) s above h a = absurd a
@@ -111,7 +111,7 @@ all_roomed r low cs time (n ∷ ns) (f ∷ fs) s above h a =
     let t : RollupState = with_grid_cells (cell_created_in s (rollup_series_at s n) (index_of r time)) s in
     let its : low ≤ℤ index_of r f.time = subst (λ (z : ℤ). low ≤ℤ index_of r z) (sym a.1) above in
     let one : GainsEmptyCells r low (f ∷ []) s.grid.cells t.grid.cells =
-    subst (λ (z : ℤ). GainsEmptyCells r low (f ∷ []) s.grid.cells (cell_created_in s (rollup_series_at s n) (index_of r z))) a.1 (rollup_series_capacity r low s (rollup_series_at s n) f its (rollup_series_known r s.grid.series_list cs s.series_list n f.column h a.0)) in
+    subst (λ (z : ℤ). GainsEmptyCells r low (f ∷ []) s.grid.cells (cell_created_in s (rollup_series_at s n) (index_of r z))) a.1 (rollup_series_capacity r low s (rollup_series_at s n) f its (rollup_series_known r s.grid.rollup_series cs s.series_of_column n f.column h a.0)) in
     room_both r low f fs s.grid.cells t.grid.cells (cells_created_for (index_of r time) ns t).grid.cells one (all_roomed r low cs time ns fs t above h a.2)
 
 time_at : (cs : List Column) (time : ℤ) (ns : List ℕ) (fs : List Fact) → AreAt cs time ns fs → (f : Fact) → Among f fs → f.time ≡ time
@@ -128,7 +128,7 @@ none_roomed r low cs time ns fs m below a = record {
   above = λ k l. refl;
 }
 
-from_roomed : (r : Rule) (low : ℤ) (cs : List Column) (time : ℤ) (ns : List ℕ) (fs : List Fact) (s : RollupState) → HaveRollupSeries r s.grid.series_list cs s.series_list → AreAt cs time ns fs
+from_roomed : (r : Rule) (low : ℤ) (cs : List Column) (time : ℤ) (ns : List ℕ) (fs : List Fact) (s : RollupState) → HaveRollupSeries r s.grid.rollup_series cs s.series_of_column → AreAt cs time ns fs
     → GainsEmptyCells r low fs s.grid.cells (cells_created_from low (index_of r time) ns s).grid.cells
 from_roomed r low cs time ns fs s h a =
     elim (int_lt (index_of r time) low) as (λ b. int_lt (index_of r time) low ≡ b → GainsEmptyCells r low fs s.grid.cells (cond b s (cells_created_for (index_of r time) ns s)).grid.cells) [
@@ -172,9 +172,9 @@ no_rollups (r ∷ rs) [] time ns ss e = refl
 no_rollups (r ∷ rs) (low ∷ lows) time ns [] e = refl
 no_rollups (r ∷ rs) (low ∷ lows) time ns (s ∷ ss) e = absurd (omega arith)
 
-pub series_list_same : (ss : List RollupState) → KeepRollupSeries ss ss
-series_list_same [] = tt
-series_list_same (s ∷ ss) = (refl, series_list_same ss)
+pub rollup_series_same : (ss : List RollupState) → KeepRollupSeries ss ss
+rollup_series_same [] = tt
+rollup_series_same (s ∷ ss) = (refl, rollup_series_same ss)
 
 pub rollups_stay : (rs : List Rule) (cs : List Column) (ss ts : List RollupState) → AreRollups rs cs ss → KeepRollupSeries ss ts → AreRollups rs cs ts
 rollups_stay [] cs [] [] h k = tt
@@ -183,7 +183,7 @@ rollups_stay [] cs (s ∷ ss) ts h k = absurd h
 rollups_stay (r ∷ rs) cs [] ts h k = absurd h
 rollups_stay (r ∷ rs) cs (s ∷ ss) [] h k = absurd k
 rollups_stay (r ∷ rs) cs (s ∷ ss) (t ∷ ts) h k = (
-  subst (λ (u : RollupState). HaveRollupSeries r u.grid.series_list cs u.series_list) (sym k.0) h.0,
+  subst (λ (u : RollupState). HaveRollupSeries r u.grid.rollup_series cs u.series_of_column) (sym k.0) h.0,
   rollups_stay rs cs ss ts h.1 k.1,
 )
 

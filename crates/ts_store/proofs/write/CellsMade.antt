@@ -43,13 +43,13 @@ module _ (P : Rule → ℤ → CellMap → CellMap → Type 0) where
 
 -- the cell of one of the columns of these numbers, in a bucket
 abbrev IsCellAt : RollupState → ℤ → List ℕ → Cell → Type 0
-IsCellAt s index ns k = (n : ℕ) × Among n ns × (l : ℕ) × (rollup_series_at s n ≡ Some l) × (k ≡ cell_in s.grid.series_list index l)
+IsCellAt s index ns k = (n : ℕ) × Among n ns × (l : ℕ) × (rollup_series_at s n ≡ Some l) × (k ≡ cell_in s.grid.rollup_series index l)
 
 one_kept : (s : RollupState) (o : Option ℕ) (index : ℤ) (k : Cell) (p : CellParts) → finmap.get s.grid.cells k ≡ Some p → finmap.get (cell_created_in s o index) k ≡ Some p
 one_kept s None index k p e = e
 one_kept s (Some l) index k p e =
     let m : CellMap = s.grid.cells in
-    let c : Cell = cell_in s.grid.series_list index l in
+    let c : Cell = cell_in s.grid.rollup_series index l in
     get-inserted_if_absent m c no_parts k
     ∙ elim (same_cell k c) as (λ b. same_cell k c ≡ b → cond b (Some (or_else no_parts (finmap.get m c))) (finmap.get m k) ≡ Some p) [
       | true ↦ λ q. ap (λ o. Some (or_else no_parts o)) (ap (finmap.get m) (sym (same_cell-eq k c q)) ∙ e)
@@ -57,12 +57,12 @@ one_kept s (Some l) index k p e =
     ] refl
 
 one_made : (s : RollupState) (o : Option ℕ) (index : ℤ) (k : Cell) (p : CellParts) → finmap.get s.grid.cells k ≡ None → finmap.get (cell_created_in s o index) k ≡ Some p
-    → (p ≡ no_parts) × (l : ℕ) × (o ≡ Some l) × (k ≡ cell_in s.grid.series_list index l)
+    → (p ≡ no_parts) × (l : ℕ) × (o ≡ Some l) × (k ≡ cell_in s.grid.rollup_series index l)
 one_made s None index k p none some = absurd (none-some p (sym none ∙ some))
 one_made s (Some l) index k p none some =
     let m : CellMap = s.grid.cells in
-    let c : Cell = cell_in s.grid.series_list index l in
-    elim (same_cell k c) as (λ b. same_cell k c ≡ b → cond b (Some (or_else no_parts (finmap.get m c))) (finmap.get m k) ≡ Some p → (p ≡ no_parts) × (j : ℕ) × (Some l ≡ Some j) × (k ≡ cell_in s.grid.series_list index j)) [
+    let c : Cell = cell_in s.grid.rollup_series index l in
+    elim (same_cell k c) as (λ b. same_cell k c ≡ b → cond b (Some (or_else no_parts (finmap.get m c))) (finmap.get m k) ≡ Some p → (p ≡ no_parts) × (j : ℕ) × (Some l ≡ Some j) × (k ≡ cell_in s.grid.rollup_series index j)) [
       | true ↦ λ q e.
           let is : k ≡ c = same_cell-eq k c q in
           (sym (same_Some no_parts p (sym (ap (λ o. Some (or_else no_parts o)) (ap (finmap.get m) (sym is) ∙ none)) ∙ e)), l, refl, is)
@@ -87,17 +87,17 @@ all_made index (n ∷ ns) s k p none some =
 
 -- ---- the cell of a column is that of its fact
 
-cell_in_part : (r : Rule) (cs : List Column) (time : ℤ) (ns : List ℕ) (fs : List Fact) (s : RollupState) → HaveRollupSeries r s.grid.series_list cs s.series_list → AreAt cs time ns fs
-    → (n : ℕ) → Among n ns → (l : ℕ) → rollup_series_at s n ≡ Some l → IsOfFacts fs r (cell_in s.grid.series_list (index_of r time) l)
+cell_in_part : (r : Rule) (cs : List Column) (time : ℤ) (ns : List ℕ) (fs : List Fact) (s : RollupState) → HaveRollupSeries r s.grid.rollup_series cs s.series_of_column → AreAt cs time ns fs
+    → (n : ℕ) → Among n ns → (l : ℕ) → rollup_series_at s n ≡ Some l → IsOfFacts fs r (cell_in s.grid.rollup_series (index_of r time) l)
 cell_in_part r cs time [] fs s h a n k l at = absurd k
 cell_in_part r cs time (x ∷ ns) [] s h a n k l at = absurd a
 cell_in_part r cs time (x ∷ ns) (f ∷ fs) s h a n k l at =
-    ⊎_elim {C = IsOfFacts (f ∷ fs) r (cell_in s.grid.series_list (index_of r time) l)}
+    ⊎_elim {C = IsOfFacts (f ∷ fs) r (cell_in s.grid.rollup_series (index_of r time) l)}
     (λ e.
-    let series : IsRollupSeriesOf r f.column s.grid.series_list (Some l) = subst (IsRollupSeriesOf r f.column s.grid.series_list) (ap (rollup_series_at s) (sym e) ∙ at) (rollup_series_known r s.grid.series_list cs s.series_list x f.column h a.0) in
-    let is : cell_of r f ≡ cell_in s.grid.series_list (index_of r time) l =
-    sym (ap (cell_at (index_of r f.time)) (get_or_from_slice_get s.grid.series_list l (rollup_series_under r f.column) no_rollup_series series.1)) ∙ ap (λ (z : ℤ). cell_in s.grid.series_list (index_of r z) l) a.1 in
-    (f, inl refl, ap (λ b. b && same_cell (cell_of r f) (cell_in s.grid.series_list (index_of r time) l)) series.0 ∙ ap (same_cell (cell_of r f)) (sym is) ∙ same_cell-refl (cell_of r f)))
+    let series : IsRollupSeriesOf r f.column s.grid.rollup_series (Some l) = subst (IsRollupSeriesOf r f.column s.grid.rollup_series) (ap (rollup_series_at s) (sym e) ∙ at) (rollup_series_known r s.grid.rollup_series cs s.series_of_column x f.column h a.0) in
+    let is : cell_of r f ≡ cell_in s.grid.rollup_series (index_of r time) l =
+    sym (ap (cell_at (index_of r f.time)) (get_or_from_slice_get s.grid.rollup_series l (rollup_series_under r f.column) no_rollup_series series.1)) ∙ ap (λ (z : ℤ). cell_in s.grid.rollup_series (index_of r z) l) a.1 in
+    (f, inl refl, ap (λ b. b && same_cell (cell_of r f) (cell_in s.grid.rollup_series (index_of r time) l)) series.0 ∙ ap (same_cell (cell_of r f)) (sym is) ∙ same_cell-refl (cell_of r f)))
     (λ q. let later = cell_in_part r cs time ns fs s h a.2 n q l at in (later.0, inr later.1, later.2)) k
 
 among_first : (i : ℕ) (ns : List ℕ) (n : ℕ) → Among n (take i ns) → Among n ns
@@ -108,7 +108,7 @@ among_first (suc i) (x ∷ ns) n a = ⊎_elim {C = Among n (x ∷ ns)} (λ e. in
 pub gains_nothing : (fs : List Fact) (r : Rule) (low : ℤ) (m : CellMap) → GainsCells fs r low m m
 gains_nothing fs r low m = record { stays = λ k p e. e; created = λ k p none some. absurd (none-some p (sym none ∙ some)) }
 
-part_gains : (r : Rule) (low : ℤ) (cs : List Column) (time : ℤ) (ns : List ℕ) (fs : List Fact) (s : RollupState) (i : ℕ) → HaveRollupSeries r s.grid.series_list cs s.series_list → AreAt cs time ns fs
+part_gains : (r : Rule) (low : ℤ) (cs : List Column) (time : ℤ) (ns : List ℕ) (fs : List Fact) (s : RollupState) (i : ℕ) → HaveRollupSeries r s.grid.rollup_series cs s.series_of_column → AreAt cs time ns fs
     → GainsCells fs r low s.grid.cells (cells_created_from low (index_of r time) (take i ns) s).grid.cells
 part_gains r low cs time ns fs s i h a =
     elim (int_lt (index_of r time) low) as (λ b. int_lt (index_of r time) low ≡ b → GainsCells fs r low s.grid.cells (cond b s (cells_created_for (index_of r time) (take i ns) s)).grid.cells) [
@@ -118,7 +118,7 @@ part_gains r low cs time ns fs s i h a =
         created = λ k p none some.
             let made = all_made (index_of r time) (take i ns) s k p none some in
             let at = made.1 in
-            let facts : IsOfFacts fs r (cell_in s.grid.series_list (index_of r time) at.2) = cell_in_part r cs time ns fs s h a at.0 (among_first i ns at.0 at.1) at.2 at.3 in
+            let facts : IsOfFacts fs r (cell_in s.grid.rollup_series (index_of r time) at.2) = cell_in_part r cs time ns fs s h a at.0 (among_first i ns at.0 at.1) at.2 at.3 in
             (made.0, subst (λ (q : Cell). low ≤ℤ q.index) (sym at.4) (lt_not (index_of r time) low e), subst (IsOfFacts fs r) (sym at.4) facts);
       }
     ] refl

@@ -34,21 +34,21 @@ module _ (r : Rule) (cs : List Column) (states : List ColumnState) (before : Lis
   abbrev after : List ColumnPoints
   after = with_points cs (point_maps states)
 
-  rollup_series_is : IsRollupSeriesOf r f.column s.grid.series_list (rollup_series_at s column)
-  rollup_series_is = rollup_series_known r s.grid.series_list cs s.series_list column f.column over.series_list put.at
+  rollup_series_is : IsRollupSeriesOf r f.column s.grid.rollup_series (rollup_series_at s column)
+  rollup_series_is = rollup_series_known r s.grid.rollup_series cs s.series_of_column column f.column over.series put.at
 
   -- a rule that doesn't roll it up
   pub put_passed : rollup_series_at s column ≡ None → s.grid.cells ≡ put_cell r f (facts_of after) s.grid.cells
   put_passed e =
-      let passed : is_rolled r f ≡ false = subst (IsRollupSeriesOf r f.column s.grid.series_list) e rollup_series_is in
+      let passed : is_rolled r f ≡ false = subst (IsRollupSeriesOf r f.column s.grid.rollup_series) e rollup_series_is in
       sym (ap (λ b. cond b (refolded r (cell_of r f) (facts_of after) s.grid.cells) s.grid.cells) passed)
 
   module _ (l : ℕ) (at : rollup_series_at s column ≡ Some l) (index : ℤ) (at_index : index ≡ index_of r f.time) where
-    is : IsRollupSeriesOf r f.column s.grid.series_list (Some l)
-    is = subst (IsRollupSeriesOf r f.column s.grid.series_list) at rollup_series_is
+    is : IsRollupSeriesOf r f.column s.grid.rollup_series (Some l)
+    is = subst (IsRollupSeriesOf r f.column s.grid.rollup_series) at rollup_series_is
 
-    key : cell_in s.grid.series_list index l ≡ cell_of r f
-    key = ap (λ i. cell_in s.grid.series_list i l) at_index ∙ ap (cell_at (index_of r f.time)) (get_or_from_slice_get s.grid.series_list l (rollup_series_under r f.column) no_rollup_series is.1)
+    key : cell_in s.grid.rollup_series index l ≡ cell_of r f
+    key = ap (λ i. cell_in s.grid.rollup_series i l) at_index ∙ ap (cell_at (index_of r f.time)) (get_or_from_slice_get s.grid.rollup_series l (rollup_series_under r f.column) no_rollup_series is.1)
 
     put_is : put_cell r f (facts_of after) s.grid.cells ≡ refolded r (cell_of r f) (facts_of after) s.grid.cells
     put_is = ap (λ b. cond b (refolded r (cell_of r f) (facts_of after) s.grid.cells) s.grid.cells) is.0
@@ -67,7 +67,7 @@ module _ (r : Rule) (cs : List Column) (states : List ColumnState) (before : Lis
         omega (arith, count, fewer, few))
 
     -- the cell is missing
-    pub put_missing : option_map live_part (finmap.get s.grid.cells (cell_in s.grid.series_list index l)) ≡ None → s.grid.cells ≡ put_cell r f (facts_of after) s.grid.cells
+    pub put_missing : option_map live_part (finmap.get s.grid.cells (cell_in s.grid.rollup_series index l)) ≡ None → s.grid.cells ≡ put_cell r f (facts_of after) s.grid.cells
     put_missing none =
         let gone : option_map live_part (finmap.get s.grid.cells (cell_of r f)) ≡ None = ap (λ k. option_map live_part (finmap.get s.grid.cells k)) (sym key) ∙ none in
         sym (put_is ∙ elim (finmap.get s.grid.cells (cell_of r f)) as (λ o. option_map live_part o ≡ None → with_change s.grid.cells (cell_of r f) (with_live (total_of r (cell_of r f) (facts_of after))) o ≡ s.grid.cells) [
@@ -76,7 +76,7 @@ module _ (r : Rule) (cs : List Column) (states : List ColumnState) (before : Lis
         ] gone)
 
     -- instead of a value, where the rest is determined
-    pub put_corrected : (v : ℤ) (a rest new : Aggregate) → old ≡ Some v → option_map live_part (finmap.get s.grid.cells (cell_in s.grid.series_list index l)) ≡ Some a → IsOnlyRest IsSound merged a (aggregate_of_one f.time v) rest
+    pub put_corrected : (v : ℤ) (a rest new : Aggregate) → old ≡ Some v → option_map live_part (finmap.get s.grid.cells (cell_in s.grid.rollup_series index l)) ≡ Some a → IsOnlyRest IsSound merged a (aggregate_of_one f.time v) rest
         → new ≡ merged (aggregate_of_one f.time f.value) rest → corrected_in s l index new ≡ put_cell r f (facts_of after) s.grid.cells
     put_corrected v a rest new was there determined made =
         let there' : option_map live_part (finmap.get s.grid.cells (cell_of r f)) ≡ Some a = ap (λ k. option_map live_part (finmap.get s.grid.cells k)) (sym key) ∙ there in
@@ -91,9 +91,9 @@ module _ (r : Rule) (cs : List Column) (states : List ColumnState) (before : Lis
         (subst (λ x. IsOnlyRest IsSound merged x (aggregate_of_one f.time v) rest) whole determined)
 
     -- and where it isn't, folded anew
-    pub put_folded : (new : Aggregate) → AllDistinct s.grid.series_list → new ≡ rollup_series_total r s states l index → corrected_in s l index new ≡ put_cell r f (facts_of after) s.grid.cells
+    pub put_folded : (new : Aggregate) → AllDistinct s.grid.rollup_series → new ≡ rollup_series_total r s states l index → corrected_in s l index new ≡ put_cell r f (facts_of after) s.grid.cells
     put_folded new once made =
-        let total : new ≡ total_of r (cell_of r f) (facts_of after) = made ∙ ap (rollup_series_total r s states l) at_index ∙ cell_total r s (cell_of r f) l cs states once is.1 over.each over.series_list in
+        let total : new ≡ total_of r (cell_of r f) (facts_of after) = made ∙ ap (rollup_series_total r s states l) at_index ∙ cell_total r s (cell_of r f) l cs states once is.1 over.each over.series in
         ap (λ k. changed s.grid.cells k (with_live new)) key
         ∙ ap (λ x. changed s.grid.cells (cell_of r f) (with_live x)) total
         ∙ sym put_is

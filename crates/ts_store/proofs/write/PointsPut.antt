@@ -32,7 +32,7 @@ use Rattle.ts_store.proofs.write.StagedColumns.{points_at, one_committed, staged
 use Rattle.ts_store.proofs.store.ColumnsLemmas.{in_column, column_among, to_column, facts-distinct}
 use Rattle.ts_store.proofs.read.ColumnsReads.{facts-length}
 use Rattle.ts_store.proofs.retain.RollupMoves.{rollups_with}
-use Rattle.ts_store.proofs.rollup.RollupsGrow.{series_list-length}
+use Rattle.ts_store.proofs.rollup.RollupsGrow.{rollup_series-length}
 use Rattle.ts_store.proofs.write.CellsCreatedLemmas.{rollup_series_known}
 
 -- ---- what was there
@@ -147,7 +147,7 @@ nowhere_put (r ∷ rs) f facts [] e = refl
 nowhere_put (r ∷ rs) f facts (s ∷ ss) e = absurd (omega arith)
 
 -- each has an entry for the column
-pub inside_each : (n m k : ℕ) (ss : List RollupState) → k ≡ n → n < m → AllByRecursion (λ (s : RollupState). length s.series_list ≡ m) ss → AllByRecursion (λ (s : RollupState). k < length s.series_list) ss
+pub inside_each : (n m k : ℕ) (ss : List RollupState) → k ≡ n → n < m → AllByRecursion (λ (s : RollupState). length s.series_of_column ≡ m) ss → AllByRecursion (λ (s : RollupState). k < length s.series_of_column) ss
 inside_each n m k [] e l all = tt
 inside_each n m k (s ∷ ss) e l all = (let h = all.0 in omega (arith, e, l, h), inside_each n m k ss e l all.1)
 
@@ -171,7 +171,7 @@ pub unrolled_put : (rs : List Rule) (cs : List Column) (ss : List RollupState) (
 unrolled_put [] cs ss n f facts a at none = refl
 unrolled_put (r ∷ rs) cs [] n f facts a at none = refl
 unrolled_put (r ∷ rs) cs (s ∷ ss) n f facts a at none =
-    let passed : is_rolled r f ≡ false = subst (IsRollupSeriesOf r f.column s.grid.series_list) none.0 (rollup_series_known r s.grid.series_list cs s.series_list n f.column a.0 at) in
+    let passed : is_rolled r f ≡ false = subst (IsRollupSeriesOf r f.column s.grid.rollup_series) none.0 (rollup_series_known r s.grid.rollup_series cs s.series_of_column n f.column a.0 at) in
     ap₂ (λ (m : CellMap) (ms : List CellMap). m ∷ ms) (sym (ap (λ b. cond b (refolded r (cell_of r f) facts s.grid.cells) s.grid.cells) passed)) (unrolled_put rs cs ss n f facts a.1 at none.1)
 
 -- the first rule, and the others
@@ -183,30 +183,30 @@ pub all_put-more : (r : Rule) (rs rs' : List Rule) (cs : List Column) (states : 
 all_put-more r rs rs' cs states before f facts s t ss ts ss' d e a live each once one others =
     let a' : AreRollups (r ∷ rs) cs (s ∷ ss) = subst (λ (us : List RollupState). AreRollups (r ∷ rs) cs us) e (subst (λ (qs : List Rule). AreRollups qs cs ss') d a) in
     let live' : AreLive before (r ∷ rs) (cells_of (s ∷ ss)) = subst (λ (us : List RollupState). AreLive before (r ∷ rs) (cells_of us)) e (subst (λ (qs : List Rule). AreLive before qs (cells_of ss')) d live) in
-    ap₂ (λ (m : CellMap) (ms : List CellMap). m ∷ ms) (one (record { each = each; once = once; series_list = a'.0 }) (live'.0, tt)) (others a'.1 live'.1)
+    ap₂ (λ (m : CellMap) (ms : List CellMap). m ∷ ms) (one (record { each = each; once = once; series = a'.0 }) (live'.0, tt)) (others a'.1 live'.1)
     ∙ sym (ap₂ (λ (qs : List Rule) (us : List RollupState). put_cells qs f facts (cells_of us)) d e)
 
-pub series_list_more : (s t : RollupState) (ss ts ss' : List RollupState) → ss' ≡ s ∷ ss → t ≡ with_grid_cells t.grid.cells s → ts ≡ with_all_grid_cells (cells_of ts) ss → t ∷ ts ≡ with_all_grid_cells (cells_of (t ∷ ts)) ss'
-series_list_more s t ss ts ss' e one others = ap₂ (λ (u : RollupState) (us : List RollupState). u ∷ us) one others ∙ sym (ap (with_all_grid_cells (cells_of (t ∷ ts))) e)
+pub grids_kept_more : (s t : RollupState) (ss ts ss' : List RollupState) → ss' ≡ s ∷ ss → t ≡ with_grid_cells t.grid.cells s → ts ≡ with_all_grid_cells (cells_of ts) ss → t ∷ ts ≡ with_all_grid_cells (cells_of (t ∷ ts)) ss'
+grids_kept_more s t ss ts ss' e one others = ap₂ (λ (u : RollupState) (us : List RollupState). u ∷ us) one others ∙ sym (ap (with_all_grid_cells (cells_of (t ∷ ts))) e)
 
-pub series_list_then : (ss ts us : List RollupState) → ts ≡ with_all_grid_cells (cells_of ts) ss → us ≡ with_all_grid_cells (cells_of us) ts → us ≡ with_all_grid_cells (cells_of us) ss
-series_list_then [] ts us e f = f ∙ ap (with_all_grid_cells (cells_of us)) e
-series_list_then (s ∷ ss) [] us e f = absurd (let n : 0 ≡ length (s ∷ ss) = ap (λ (xs : List RollupState). length xs) e in omega (arith, n))
-series_list_then (s ∷ ss) (t ∷ ts) [] e f = absurd (let n : 0 ≡ length (t ∷ ts) = ap (λ (xs : List RollupState). length xs) f in omega (arith, n))
-series_list_then (s ∷ ss) (t ∷ ts) (u ∷ us) e f =
+pub grids_kept_then : (ss ts us : List RollupState) → ts ≡ with_all_grid_cells (cells_of ts) ss → us ≡ with_all_grid_cells (cells_of us) ts → us ≡ with_all_grid_cells (cells_of us) ss
+grids_kept_then [] ts us e f = f ∙ ap (with_all_grid_cells (cells_of us)) e
+grids_kept_then (s ∷ ss) [] us e f = absurd (let n : 0 ≡ length (s ∷ ss) = ap (λ (xs : List RollupState). length xs) e in omega (arith, n))
+grids_kept_then (s ∷ ss) (t ∷ ts) [] e f = absurd (let n : 0 ≡ length (t ∷ ts) = ap (λ (xs : List RollupState). length xs) f in omega (arith, n))
+grids_kept_then (s ∷ ss) (t ∷ ts) (u ∷ us) e f =
     let head : (xs : List RollupState) → RollupState = λ xs. get_or xs 0 s in
     let one : t ≡ with_grid_cells t.grid.cells s = ap head e in
     let two : u ≡ with_grid_cells u.grid.cells t = ap head f in
-    ap₂ (λ (x : RollupState) (xs : List RollupState). x ∷ xs) (two ∙ ap (with_grid_cells u.grid.cells) one) (series_list_then ss ts us (ap (λ (xs : List RollupState). drop 1 xs) e) (ap (λ (xs : List RollupState). drop 1 xs) f))
+    ap₂ (λ (x : RollupState) (xs : List RollupState). x ∷ xs) (two ∙ ap (with_grid_cells u.grid.cells) one) (grids_kept_then ss ts us (ap (λ (xs : List RollupState). drop 1 xs) e) (ap (λ (xs : List RollupState). drop 1 xs) f))
 
-wide_with : (n : ℕ) (ms : List CellMap) (ss : List RollupState) → AllByRecursion (λ (s : RollupState). length s.series_list ≡ n) ss → AllByRecursion (λ (s : RollupState). length s.series_list ≡ n) (with_all_grid_cells ms ss)
+wide_with : (n : ℕ) (ms : List CellMap) (ss : List RollupState) → AllByRecursion (λ (s : RollupState). length s.series_of_column ≡ n) ss → AllByRecursion (λ (s : RollupState). length s.series_of_column ≡ n) (with_all_grid_cells ms ss)
 wide_with n ms [] all = tt
 wide_with n [] (s ∷ ss) all = all
 wide_with n (m ∷ ms) (s ∷ ss) all = (all.0, wide_with n ms ss all.1)
 
 -- each has as many columns as before
-pub wide_still : (n : ℕ) (ss ts : List RollupState) → ts ≡ with_all_grid_cells (cells_of ts) ss → AllByRecursion (λ (s : RollupState). length s.series_list ≡ n) ss → AllByRecursion (λ (s : RollupState). length s.series_list ≡ n) ts
-wide_still n ss ts e all = subst (AllByRecursion (λ (s : RollupState). length s.series_list ≡ n)) (sym e) (wide_with n (cells_of ts) ss all)
+pub wide_still : (n : ℕ) (ss ts : List RollupState) → ts ≡ with_all_grid_cells (cells_of ts) ss → AllByRecursion (λ (s : RollupState). length s.series_of_column ≡ n) ss → AllByRecursion (λ (s : RollupState). length s.series_of_column ≡ n) ts
+wide_still n ss ts e all = subst (AllByRecursion (λ (s : RollupState). length s.series_of_column ≡ n)) (sym e) (wide_with n (cells_of ts) ss all)
 
 -- ---- one after another
 
@@ -241,14 +241,14 @@ line_puts : (rs : List Rule) (cs : List Column) (ss ss' : List ColumnState) (n :
     → ((f : Fact) → f.time ≡ time → f.value ≡ value → AreStaged cs ss (n ∷ []) (f ∷ []) → cells_of us' ≡ put_cells rs f (facts_of (with_points cs (point_maps ss'))) (cells_of us))
     → ((gs : List Fact) → AreOfFields time xs gs → length ss' ≡ length cs → AreRollups rs cs us' → AreStaged cs ss' ns gs → AreLive (with_points cs (point_maps ss')) rs (cells_of us') → PutsFacts rs (with_points cs (point_maps ss')) (cells_of us') after ends gs)
     → PutsFacts rs (with_points cs (point_maps ss)) (cells_of us) after ends fs
-line_puts rs cs ss ss' n ns ns' x xs xs' time value after us us' ends [] e d v is series_list away fields each once have staged live one others = absurd (subst (λ (ys : List (LinePart × ℤ)). AreOfFields time ys []) d fields)
-line_puts rs cs ss ss' n ns ns' x xs xs' time value after us us' ends (f ∷ fs) e d v is series_list away fields each once have staged live one others =
+line_puts rs cs ss ss' n ns ns' x xs xs' time value after us us' ends [] e d v is kept away fields each once have staged live one others = absurd (subst (λ (ys : List (LinePart × ℤ)). AreOfFields time ys []) d fields)
+line_puts rs cs ss ss' n ns ns' x xs xs' time value after us us' ends (f ∷ fs) e d v is kept away fields each once have staged live one others =
     let s : ColumnState = committed (get_or ss n no_column) in
     let of : AreOfFields time (x ∷ xs) (f ∷ fs) = subst (λ (ys : List (LinePart × ℤ)). AreOfFields time ys (f ∷ fs)) d fields in
     let put : AreStaged cs ss (n ∷ ns) (f ∷ fs) = subst (λ (ms : List ℕ). AreStaged cs ss ms (f ∷ fs)) e staged in
     let first : AreStaged cs ss (n ∷ []) (f ∷ []) = (put.0, put.1, tt) in
     puts_more rs cs ss ss' n f fs after (cells_of us) (cells_of us') ends once each first is (one f of.0 (of.1 ∙ sym v) first) live
-    (λ lives. others fs of.2 (ap length is ∙ length-set ss n s ∙ each) (subst (AreRollups rs cs) (sym series_list) (rollups_with rs cs (cells_of us') us have))
+    (λ lives. others fs of.2 (ap length is ∙ length-set ss n s ∙ each) (subst (AreRollups rs cs) (sym kept) (rollups_with rs cs (cells_of us') us have))
     (subst (λ (ys : List ColumnState). AreStaged cs ys ns fs) (sym is) (staged_others cs ss ns fs n s away put.2)) lives)
 
 -- the facts of columns and fields, which are staged, bring columns and cells to an end
@@ -267,8 +267,8 @@ pub rest_put : (rs : List Rule) (time : ℤ) (cs : List Column) (ss ss' : List C
     → ns' ≡ n ∷ ns → xs' ≡ x ∷ xs → value ≡ x.1 → ss' ≡ set ss n (committed (get_or ss n no_column)) → us' ≡ with_all_grid_cells (cells_of us') us → (Among n ns → ⊥) → AllDistinct cs
     → ((f : Fact) → f.time ≡ time → f.value ≡ value → length ss ≡ length cs → AreRollups rs cs us → AreStaged cs ss (n ∷ []) (f ∷ []) → AreLive (with_points cs (point_maps ss)) rs (cells_of us) → cells_of us' ≡ put_cells rs f (facts_of (with_points cs (point_maps ss'))) (cells_of us))
     → PutsRest rs time ns xs cs ss' us' after ends → PutsRest rs time ns' xs' cs ss us after ends
-rest_put rs time cs ss ss' us us' n ns ns' x xs xs' value after ends e d v is series_list away once one others = λ gs fields each have staged live.
-    line_puts rs cs ss ss' n ns ns' x xs xs' time value after us us' ends gs e d v is series_list away fields each once have staged live (λ f at of first. one f at of each have first live) others
+rest_put rs time cs ss ss' us us' n ns ns' x xs xs' value after ends e d v is kept away once one others = λ gs fields each have staged live.
+    line_puts rs cs ss ss' n ns ns' x xs xs' time value after us us' ends gs e d v is kept away fields each once have staged live (λ f at of first. one f at of each have first live) others
 
 -- none are left
 pub none_left : {X Y : Type 0} (xs : List X) (ys : List Y) → length ys ≡ length xs → (xs ≡ []) ⊎ (ys ≡ []) → length xs ≡ 0
@@ -294,11 +294,11 @@ staged_length cs ss [] (f ∷ fs) a = absurd a
 staged_length cs ss (n ∷ ns) [] a = absurd a
 staged_length cs ss (n ∷ ns) (f ∷ fs) a = ap suc (staged_length cs ss ns fs a.2)
 
-pub wide_of : (rs : List Rule) (cs : List Column) (n : ℕ) (ss : List RollupState) → AreRollups rs cs ss → n ≡ length cs → AllByRecursion (λ (s : RollupState). length s.series_list ≡ n) ss
+pub wide_of : (rs : List Rule) (cs : List Column) (n : ℕ) (ss : List RollupState) → AreRollups rs cs ss → n ≡ length cs → AllByRecursion (λ (s : RollupState). length s.series_of_column ≡ n) ss
 wide_of [] cs n [] a e = tt
 wide_of [] cs n (s ∷ ss) a e = absurd a
 wide_of (r ∷ rs) cs n [] a e = absurd a
-wide_of (r ∷ rs) cs n (s ∷ ss) a e = (series_list-length r s.grid.series_list cs s.series_list a.0 ∙ sym e, wide_of rs cs n ss a.1 e)
+wide_of (r ∷ rs) cs n (s ∷ ss) a e = (rollup_series-length r s.grid.rollup_series cs s.series_of_column a.0 ∙ sym e, wide_of rs cs n ss a.1 e)
 
 pub live_same : (before after : List ColumnPoints) → facts_of before ≡ facts_of after → (rs : List Rule) (ms : List CellMap) → AreLive before rs ms → AreLive after rs ms
 live_same before after e [] ms a = tt

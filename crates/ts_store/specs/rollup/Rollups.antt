@@ -22,12 +22,12 @@ use Rattle.ts_store.specs.rollup.ColumnLists.{ColumnList, lists_in}
 -- the column to be created next, if prepared
 pub record RollupState : Type 0 where
   pub grid : Grid CellParts
-  pub series_list : List (Option ℕ)
+  pub series_of_column : List (Option ℕ)
   pub next : Option (Option ℕ)
 
 -- an empty rollup
 abbrev pub new_rollup : RollupState
-new_rollup = record { grid = record { series_list = []; cells = finmap.empty }; series_list = []; next = None }
+new_rollup = record { grid = record { rollup_series = []; cells = finmap.empty }; series_of_column = []; next = None }
 
 -- the cells of each rule
 abbrev pub cells_of : List RollupState → List CellMap
@@ -41,22 +41,22 @@ rollup_series_under r c = record { field = c.field; group = tag_values r.kept_ta
 
 -- the rollup series with this index is that of the column; a column of another measurement has none
 abbrev pub IsRollupSeriesOf : Rule → Column → List RollupSeries → Option ℕ → Type 0
-IsRollupSeriesOf r c series_list None = same_text c.series.measurement r.measurement ≡ false
-IsRollupSeriesOf r c series_list (Some l) = (same_text c.series.measurement r.measurement ≡ true) × IsAt series_list l (rollup_series_under r c)
+IsRollupSeriesOf r c rollup_series None = same_text c.series.measurement r.measurement ≡ false
+IsRollupSeriesOf r c rollup_series (Some l) = (same_text c.series.measurement r.measurement ≡ true) × IsAt rollup_series l (rollup_series_under r c)
 
 -- each column has its rollup series
 abbrev pub HaveRollupSeries : Rule → List RollupSeries → List Column → List (Option ℕ) → Type 0
-HaveRollupSeries r series_list [] [] = Unit {0}
-HaveRollupSeries r series_list [] (o ∷ os) = ⊥
-HaveRollupSeries r series_list (c ∷ cs) [] = ⊥
-HaveRollupSeries r series_list (c ∷ cs) (o ∷ os) = IsRollupSeriesOf r c series_list o × HaveRollupSeries r series_list cs os
+HaveRollupSeries r rollup_series [] [] = Unit {0}
+HaveRollupSeries r rollup_series [] (o ∷ os) = ⊥
+HaveRollupSeries r rollup_series (c ∷ cs) [] = ⊥
+HaveRollupSeries r rollup_series (c ∷ cs) (o ∷ os) = IsRollupSeriesOf r c rollup_series o × HaveRollupSeries r rollup_series cs os
 
 -- the rollups of the rules, one per rule, over these columns
 abbrev pub AreRollups : List Rule → List Column → List RollupState → Type 0
 AreRollups [] cs [] = Unit {0}
 AreRollups [] cs (s ∷ ss) = ⊥
 AreRollups (r ∷ rs) cs [] = ⊥
-AreRollups (r ∷ rs) cs (s ∷ ss) = HaveRollupSeries r s.grid.series_list cs s.series_list × AreRollups rs cs ss
+AreRollups (r ∷ rs) cs (s ∷ ss) = HaveRollupSeries r s.grid.rollup_series cs s.series_of_column × AreRollups rs cs ss
 
 -- a column is of the rollup series with this index
 abbrev pub is_of_rollup_series : ℕ → Option ℕ → Bool
@@ -65,7 +65,7 @@ is_of_rollup_series l (Some n) = n == l
 
 -- the columns of the rollup series with this index, in creation order
 abbrev pub columns_of_rollup_series : ℕ → RollupState → List ℕ
-columns_of_rollup_series l s = numbers_where (is_of_rollup_series l) s.series_list
+columns_of_rollup_series l s = numbers_where (is_of_rollup_series l) s.series_of_column
 
 -- ---- rollup series in memory
 
@@ -81,9 +81,9 @@ HasSpares (Some None) spare spares = spare ≡ true
 HasSpares (Some (Some l)) spare spares = (spare ≡ true) × (get_or spares l false ≡ true)
 
 -- the rollup series are distinct, each has the list of its columns, and there is capacity for the next column
-pub record IsRollup (series_list : List RollupSeries) (of_columns : List (Option ℕ)) (members : List (List ℕ)) (next : Option (Option ℕ)) (spare : Bool) (spares : List Bool) : Type 0 where
-  pub once : AllDistinct series_list
-  pub each : length members ≡ length series_list
+pub record IsRollup (rollup_series : List RollupSeries) (of_columns : List (Option ℕ)) (members : List (List ℕ)) (next : Option (Option ℕ)) (spare : Bool) (spares : List Bool) : Type 0 where
+  pub once : AllDistinct rollup_series
+  pub each : length members ≡ length rollup_series
   pub grouped : (l : ℕ) → get_or members l [] ≡ numbers_where (is_of_rollup_series l) of_columns
   pub capacity : HasSpares next spare spares
 
@@ -96,17 +96,17 @@ Extends before after = (more : List RollupSeries) × (after ≡ before ++ more)
 -- the effect of a call that returns a rollup series and creates it if needed. The rollup series stay distinct, each has
 -- a list of columns, and no list and no cell changes.
 pub record KeepsLists (before : Grid CellParts) (lists : List ColumnList) (after : Grid CellParts) (lists' : List ColumnList) : Type 0 where
-  pub each : length lists' ≡ length after.series_list
-  pub made : Extends before.series_list after.series_list
-  pub once : AllDistinct before.series_list → AllDistinct after.series_list
+  pub each : length lists' ≡ length after.rollup_series
+  pub made : Extends before.rollup_series after.rollup_series
+  pub once : AllDistinct before.rollup_series → AllDistinct after.rollup_series
   pub columns : (n : ℕ) → get_or (lists_in lists') n [] ≡ get_or (lists_in lists) n []
   pub cells : after.cells ≡ before.cells
 
 -- the rollup series of columns and the cells stay; rollup series may have been created
 pub record KeepsCells (before after : RollupState) : Type 0 where
-  pub made : Extends before.grid.series_list after.grid.series_list
+  pub made : Extends before.grid.rollup_series after.grid.rollup_series
   pub cells : after.grid.cells ≡ before.grid.cells
-  pub series_list : after.series_list ≡ before.series_list
+  pub kept : after.series_of_column ≡ before.series_of_column
 
 -- the same for each rule
 abbrev pub KeepCells : List RollupState → List RollupState → Type 0
@@ -117,7 +117,7 @@ KeepCells (s ∷ ss) (t ∷ ts) = KeepsCells s t × KeepCells ss ts
 
 -- a column is prepared: its rollup series is known
 abbrev pub HasNext : Rule → Column → RollupState → Type 0
-HasNext r c s = (o : Option ℕ) × (s.next ≡ Some o) × IsRollupSeriesOf r c s.grid.series_list o
+HasNext r c s = (o : Option ℕ) × (s.next ≡ Some o) × IsRollupSeriesOf r c s.grid.rollup_series o
 
 abbrev pub HaveNext : List Rule → Column → List RollupState → Type 0
 HaveNext [] c [] = Unit {0}
@@ -126,40 +126,40 @@ HaveNext (r ∷ rs) c [] = ⊥
 HaveNext (r ∷ rs) c (s ∷ ss) = HasNext r c s × HaveNext rs c ss
 
 abbrev pub joined_rollup_series : List (Option ℕ) → Option (Option ℕ) → List (Option ℕ)
-joined_rollup_series series_list None = series_list
-joined_rollup_series series_list (Some o) = series_list ++ o ∷ []
+joined_rollup_series rollup_series None = rollup_series
+joined_rollup_series rollup_series (Some o) = rollup_series ++ o ∷ []
 
 -- the column is created: it gets its prepared rollup series
 abbrev pub with_next : RollupState → RollupState
-with_next s = record { grid = s.grid; series_list = joined_rollup_series s.series_list s.next; next = None }
+with_next s = record { grid = s.grid; series_of_column = joined_rollup_series s.series_of_column s.next; next = None }
 
 -- ---- cells
 
 -- replaces the cells; the rollup series stay
 abbrev pub with_grid_cells : CellMap → RollupState → RollupState
-with_grid_cells m s = record { grid = record { series_list = s.grid.series_list; cells = m }; series_list = s.series_list; next = s.next }
+with_grid_cells m s = record { grid = record { rollup_series = s.grid.rollup_series; cells = m }; series_of_column = s.series_of_column; next = s.next }
 
 -- creates the cell of a bucket in a rollup series unless it exists; does nothing without a rollup series
 abbrev pub cell_created_in : RollupState → Option ℕ → ℤ → CellMap
 cell_created_in s None index = s.grid.cells
-cell_created_in s (Some l) index = inserted_if_absent s.grid.cells (cell_in s.grid.series_list index l) no_parts
+cell_created_in s (Some l) index = inserted_if_absent s.grid.cells (cell_in s.grid.rollup_series index l) no_parts
 
 -- merges a part into the frozen part of the cell of a bucket in a rollup series; does nothing without a rollup series
 abbrev pub frozen_in : RollupState → Option ℕ → ℤ → Aggregate → CellMap
 frozen_in s None index part = s.grid.cells
-frozen_in s (Some l) index part = changed s.grid.cells (cell_in s.grid.series_list index l) (in_frozen (merged_within part))
+frozen_in s (Some l) index part = changed s.grid.cells (cell_in s.grid.rollup_series index l) (in_frozen (merged_within part))
 
 -- merges a part into the live part of a cell
 abbrev pub added_in : RollupState → ℕ → ℤ → Aggregate → CellMap
-added_in s l index part = changed s.grid.cells (cell_in s.grid.series_list index l) (in_live (merged_within part))
+added_in s l index part = changed s.grid.cells (cell_in s.grid.rollup_series index l) (in_live (merged_within part))
 
 -- replaces the live part of a cell
 abbrev pub corrected_in : RollupState → ℕ → ℤ → Aggregate → CellMap
-corrected_in s l index live = changed s.grid.cells (cell_in s.grid.series_list index l) (with_live live)
+corrected_in s l index live = changed s.grid.cells (cell_in s.grid.rollup_series index l) (with_live live)
 
 -- the rollup series of the column with this index
 abbrev pub rollup_series_at : RollupState → ℕ → Option ℕ
-rollup_series_at s n = get_or s.series_list n None
+rollup_series_at s n = get_or s.series_of_column n None
 
 -- the live part of a cell
 abbrev pub live_part : CellParts → Aggregate
@@ -170,4 +170,4 @@ live_part p = p.live
 abbrev pub coded_rollup : Coded RollupState
 coded_rollup =
     code_by (Grid CellParts × (List (Option ℕ) × Option (Option ℕ))) (coded× (coded_grid (coded_parts coded_aggregate)) (coded× (coded_list (coded_option coded_ℕ)) (coded_option (coded_option coded_ℕ))))
-    (λ s. (s.grid, (s.series_list, s.next))) (λ p. record { grid = p.0; series_list = p.1.0; next = p.1.1 }) (λ _. refl)
+    (λ s. (s.grid, (s.series_of_column, s.next))) (λ p. record { grid = p.0; series_of_column = p.1.0; next = p.1.1 }) (λ _. refl)

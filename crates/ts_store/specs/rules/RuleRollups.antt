@@ -13,13 +13,13 @@ use Rattle.ts_store.specs.rollup.Rollups.{RollupState, HaveRollupSeries}
 
 -- the first of these columns have their rollup series, and there are no cells yet
 pub record HasFirstRollupSeries (r : Rule) (columns : List Column) (n : ℕ) (s : RollupState) : Type 0 where
-  pub series_list : HaveRollupSeries r s.grid.series_list (take n columns) s.series_list
-  pub many : length s.series_list ≡ n
+  pub series : HaveRollupSeries r s.grid.rollup_series (take n columns) s.series_of_column
+  pub many : length s.series_of_column ≡ n
   pub cells : s.grid.cells ≡ finmap.empty
 
 -- each column has its rollup series, and the rollup has exactly the cells of the raw facts from the low index on
 pub record IsRollupOf (held : StoreContent) (r : Rule) (low : ℤ) (s : RollupState) : Type 0 where
-  pub series_list : HaveRollupSeries r s.grid.series_list (map column_of held.columns) s.series_list
+  pub series : HaveRollupSeries r s.grid.rollup_series (map column_of held.columns) s.series_of_column
   pub fresh : IsFresh r low (facts_of held.columns) s.grid.cells
   pub filled : AreFilled (facts_of held.columns) r low (finmap.keys s.grid.cells)
   pub possible : HasPossibleCells r s.grid.cells

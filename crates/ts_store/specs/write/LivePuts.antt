@@ -16,7 +16,7 @@ use Rattle.ts_store.specs.rollup.Rollups.{RollupState, HaveRollupSeries}
 pub record IsOver (r : Rule) (cs : List Column) (states : List ColumnState) (s : RollupState) : Type 0 where
   pub each : length states ≡ length cs
   pub once : AllDistinct cs
-  pub series_list : HaveRollupSeries r s.grid.series_list cs s.series_list
+  pub series : HaveRollupSeries r s.grid.rollup_series cs s.series_of_column
 
 -- the id of the fact had this value, or none
 abbrev pub WasThere : List ColumnPoints → Fact → Option ℤ → Type 0

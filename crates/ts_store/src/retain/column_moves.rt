@@ -19,7 +19,7 @@ use ts_raw::Column as _;
 
 /// Removes up to 256 cells below the low index of the first rule that has such cells. Returns true if there were any.
 fn expire_first<A: Allocator + Copy>(rollups: &mut [Rollup<A>], lows: &[i128]) -> bool
-    ensures series_list { rollups.new ≡ with_all_grid_cells (cells_of rollups.new) rollups.old }
+    ensures kept { rollups.new ≡ with_all_grid_cells (cells_of rollups.new) rollups.old }
     ensures some { OnTrue result (FirstLoses lows.now (cells_of rollups.old) (cells_of rollups.new)) }
     ensures none { OnFalse result ((rollups.new ≡ rollups.old) × AreAbove lows.now (cells_of rollups.old)) }
 {
@@ -61,7 +61,7 @@ impl<A: Allocator + Copy> ColumnFacts<A> {
     /// Removes up to 256 cells below the low index of the first rule that has such cells. Returns true if there were
     /// any. Does not allocate.
     pub(crate) fn expire(&mut self, lows: &[i128]) -> bool
-        ensures series_list { self.new ≡ content_with_cells (cells_of self.new.rollups) self.old }
+        ensures kept { self.new ≡ content_with_cells (cells_of self.new.rollups) self.old }
         ensures some { OnTrue result (FirstLoses lows.now (cells_of self.old.rollups) (cells_of self.new.rollups)) }
         ensures none { OnFalse result ((self.new ≡ self.old) × AreAbove lows.now (cells_of self.old.rollups)) }
     {

@@ -28,10 +28,10 @@ fn freeze_points<A: Allocator + Copy>(
     points: PointsBelow<'_>,
 )
     requires interval { pos 1 ≤ℤ rule.now.interval }
-    requires column { column < length rollup.old.series_list }
+    requires column { column < length rollup.old.series_of_column }
     requires few { length points ≤ 2 ^ 62 }
-    ensures series_list { rollup.new ≡ with_grid_cells rollup.new.grid.cells rollup.old }
-    ensures cells { (c : Column) (l : ℕ) → rollup_series_at rollup.old column ≡ Some l → IsRollupSeriesOf rule.now c rollup.old.grid.series_list (Some l) → FreezesFit rule.now c points.entry rollup.old.grid.cells → rollup.new.grid.cells ≡ frozen_points rule.now c points.entry rollup.old.grid.cells }
+    ensures kept { rollup.new ≡ with_grid_cells rollup.new.grid.cells rollup.old }
+    ensures cells { (c : Column) (l : ℕ) → rollup_series_at rollup.old column ≡ Some l → IsRollupSeriesOf rule.now c rollup.old.grid.rollup_series (Some l) → FreezesFit rule.now c points.entry rollup.old.grid.cells → rollup.new.grid.cells ≡ frozen_points rule.now c points.entry rollup.old.grid.cells }
 {
     let mut bucket = 0;
     let mut folded = Agg::empty();
@@ -67,9 +67,9 @@ fn refold_points<A: Allocator + Copy>(
 )
     requires interval { pos 1 ≤ℤ rule.now.interval }
     requires column { column < length columns.now }
-    requires each { length rollup.old.series_list ≡ length columns.now }
+    requires each { length rollup.old.series_of_column ≡ length columns.now }
     requires few { number_of_points columns.now ≤ 2 ^ 62 }
-    ensures series_list { rollup.new ≡ with_grid_cells rollup.new.grid.cells rollup.old }
+    ensures kept { rollup.new ≡ with_grid_cells rollup.new.grid.cells rollup.old }
     ensures cells { (cs : List Column) (c : Column) (l : ℕ) → rollup_series_at rollup.old column ≡ Some l → IsOver rule.now cs columns.now rollup.old → IsAt cs column c → rollup.new.grid.cells ≡ refolded_points rule.now c (points_below mark (finmap.entries (get_or columns.now column no_column).points)) (facts_left mark c cs columns.now) rollup.old.grid.cells }
 {
     let Some(series) = rollup.rollup_series_of(column) else {
@@ -97,7 +97,7 @@ fn move_points<A: Allocator + Copy>(
 )
     requires interval { pos 1 ≤ℤ rule.now.interval }
     requires column { column < length columns.now }
-    requires each { length rollup.old.series_list ≡ length columns.now }
+    requires each { length rollup.old.series_of_column ≡ length columns.now }
     requires few { number_of_points columns.now ≤ 2 ^ 62 }
     ensures { (cs : List Column) (c : Column) → IsOver rule.now cs columns.now rollup.old → IsAt cs column c → FreezesFit rule.now c (points_below mark (finmap.entries (get_or columns.now column no_column).points)) rollup.old.grid.cells → rollup.new ≡ with_grid_cells (moved_cells rule.now c (points_below mark (finmap.entries (get_or columns.now column no_column).points)) (facts_left mark c cs columns.now) rollup.old.grid.cells) rollup.old }
 {
@@ -123,7 +123,7 @@ pub(crate) fn move_all<A: Allocator + Copy>(
 )
     requires intervals { AllByRecursion (λ r. pos 1 ≤ℤ r.interval) rules.now }
     requires column { column < length columns.now }
-    requires each { AllByRecursion (λ s. length s.series_list ≡ length columns.now) rollups.old }
+    requires each { AllByRecursion (λ s. length s.series_of_column ≡ length columns.now) rollups.old }
     requires few { number_of_points columns.now ≤ 2 ^ 62 }
     ensures { (cs : List Column) (c : Column) → length columns.now ≡ length cs → AllDistinct cs → AreRollups rules.now cs rollups.old → IsAt cs column c → FreezeFit rules.now c (points_below mark (finmap.entries (get_or columns.now column no_column).points)) (cells_of rollups.old) → rollups.new ≡ with_all_grid_cells (all_moved rules.now c (points_below mark (finmap.entries (get_or columns.now column no_column).points)) (facts_left mark c cs columns.now) (cells_of rollups.old)) rollups.old }
 {

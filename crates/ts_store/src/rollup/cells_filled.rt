@@ -37,9 +37,9 @@ fn make_cells<A: Allocator + Copy>(
     points: Points<'_>,
 ) -> Result<(), AllocError>
     requires interval { pos 1 ≤ℤ rule.now.interval }
-    requires column { column < length rollup.old.series_list }
-    ensures series_list { rollup.new ≡ with_grid_cells rollup.new.grid.cells rollup.old }
-    ensures cells { (c : Column) → IsRollupSeriesOf rule.now c rollup.old.grid.series_list (rollup_series_at rollup.old column) → OnOk result (MakesCells (facts_at c points.entry) rule.now low.now rollup.old.grid.cells rollup.new.grid.cells) }
+    requires column { column < length rollup.old.series_of_column }
+    ensures kept { rollup.new ≡ with_grid_cells rollup.new.grid.cells rollup.old }
+    ensures cells { (c : Column) → IsRollupSeriesOf rule.now c rollup.old.grid.rollup_series (rollup_series_at rollup.old column) → OnOk result (MakesCells (facts_at c points.entry) rule.now low.now rollup.old.grid.cells rollup.new.grid.cells) }
 {
     let Some(series) = rollup.rollup_series_of(column) else {
         return Ok(());
@@ -64,8 +64,8 @@ fn make_under_all<A: Allocator + Copy>(
     column: &StoredColumn<A>,
 ) -> Result<(), AllocError>
     requires intervals { AllByRecursion (λ r. pos 1 ≤ℤ r.interval) rules.now }
-    requires inside { AllByRecursion (λ s. number < length s.series_list) rollups.old }
-    ensures series_list { rollups.new ≡ with_all_grid_cells (cells_of rollups.new) rollups.old }
+    requires inside { AllByRecursion (λ s. number < length s.series_of_column) rollups.old }
+    ensures kept { rollups.new ≡ with_all_grid_cells (cells_of rollups.new) rollups.old }
     ensures cells { (cs : List Column) (c : Column) → IsAt cs number c → AreRollups rules.now cs rollups.old → OnOk result (OfEachRule (MakesCells (facts_at c (finmap.entries column.now.points))) rules.now lows.now (cells_of rollups.old) (cells_of rollups.new)) }
 {
     let Some((rule, rules)) = rules.split_first() else {
@@ -89,8 +89,8 @@ pub(crate) fn make_all_cells<A: Allocator + Copy>(
     columns: &[StoredColumn<A>],
 ) -> Result<(), AllocError>
     requires intervals { AllByRecursion (λ r. pos 1 ≤ℤ r.interval) rules.now }
-    requires each { AllByRecursion (λ s. length s.series_list ≡ length columns.now) rollups.old }
-    ensures series_list { rollups.new ≡ with_all_grid_cells (cells_of rollups.new) rollups.old }
+    requires each { AllByRecursion (λ s. length s.series_of_column ≡ length columns.now) rollups.old }
+    ensures kept { rollups.new ≡ with_all_grid_cells (cells_of rollups.new) rollups.old }
     ensures cells { (cs : List Column) → length columns.now ≡ length cs → AreRollups rules.now cs rollups.old → OnOk result (OfEachRule (MakesCells (facts_of (with_points cs (point_maps columns.now)))) rules.now lows.now (cells_of rollups.old) (cells_of rollups.new)) }
 {
     for number in 0..columns.len() {
@@ -108,11 +108,11 @@ fn add_points<A: Allocator + Copy>(
     points: Points<'_>,
 )
     requires interval { pos 1 ≤ℤ rule.now.interval }
-    requires column { column < length rollup.old.series_list }
+    requires column { column < length rollup.old.series_of_column }
     requires few { length points ≤ 2 ^ 62 }
-    ensures series_list { rollup.new ≡ with_grid_cells rollup.new.grid.cells rollup.old }
+    ensures kept { rollup.new ≡ with_grid_cells rollup.new.grid.cells rollup.old }
     ensures frozen { KeepsFrozen rollup.old.grid.cells rollup.new.grid.cells }
-    ensures live { (c : Column) (left all : List Fact) → IsRollupSeriesOf rule.now c rollup.old.grid.series_list (rollup_series_at rollup.old column) → length all ≤ 2 ^ 62 → IsFilledBut (facts_at c points.entry ++ left) all rule.now rollup.old.grid.cells → IsFilledBut left all rule.now rollup.new.grid.cells }
+    ensures live { (c : Column) (left all : List Fact) → IsRollupSeriesOf rule.now c rollup.old.grid.rollup_series (rollup_series_at rollup.old column) → length all ≤ 2 ^ 62 → IsFilledBut (facts_at c points.entry ++ left) all rule.now rollup.old.grid.cells → IsFilledBut left all rule.now rollup.new.grid.cells }
 {
     let Some(series) = rollup.rollup_series_of(column) else {
         return;
@@ -139,9 +139,9 @@ fn add_under_all<A: Allocator + Copy>(
     column: &StoredColumn<A>,
 )
     requires intervals { AllByRecursion (λ r. pos 1 ≤ℤ r.interval) rules.now }
-    requires inside { AllByRecursion (λ s. number < length s.series_list) rollups.old }
+    requires inside { AllByRecursion (λ s. number < length s.series_of_column) rollups.old }
     requires few { finmap.len column.now.points ≤ 2 ^ 62 }
-    ensures series_list { rollups.new ≡ with_all_grid_cells (cells_of rollups.new) rollups.old }
+    ensures kept { rollups.new ≡ with_all_grid_cells (cells_of rollups.new) rollups.old }
     ensures frozen { KeepFrozen (cells_of rollups.old) (cells_of rollups.new) }
     ensures live { (cs : List Column) (c : Column) (left all : List Fact) → IsAt cs number c → AreRollups rules.now cs rollups.old → length all ≤ 2 ^ 62 → AreFilledBut (facts_at c (finmap.entries column.now.points) ++ left) all rules.now (cells_of rollups.old) → AreFilledBut left all rules.now (cells_of rollups.new) }
 {
@@ -160,9 +160,9 @@ pub(crate) fn add_all_points<A: Allocator + Copy>(
     columns: &[StoredColumn<A>],
 )
     requires intervals { AllByRecursion (λ r. pos 1 ≤ℤ r.interval) rules.now }
-    requires each { AllByRecursion (λ s. length s.series_list ≡ length columns.now) rollups.old }
+    requires each { AllByRecursion (λ s. length s.series_of_column ≡ length columns.now) rollups.old }
     requires few { number_of_points columns.now ≤ 2 ^ 62 }
-    ensures series_list { rollups.new ≡ with_all_grid_cells (cells_of rollups.new) rollups.old }
+    ensures kept { rollups.new ≡ with_all_grid_cells (cells_of rollups.new) rollups.old }
     ensures frozen { KeepFrozen (cells_of rollups.old) (cells_of rollups.new) }
     ensures live { (cs : List Column) → length columns.now ≡ length cs → AreRollups rules.now cs rollups.old → AreIdle (cells_of rollups.old) → AreLive (with_points cs (point_maps columns.now)) rules.now (cells_of rollups.new) }
 {

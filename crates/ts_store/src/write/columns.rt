@@ -42,7 +42,7 @@ fn prepare_rollups<A: Allocator + Copy>(
 
 /// Assigns the new column, under each rule, the rollup series that `prepare_rollups` found. Does not allocate.
 fn commit_rollups<A: Allocator + Copy>(rollups: &mut [Rollup<A>], column: ColumnId)
-    requires { AllByRecursion (λ s. IsSome s.next × (column ≡ length s.series_list)) rollups.old }
+    requires { AllByRecursion (λ s. IsSome s.next × (column ≡ length s.series_of_column)) rollups.old }
     ensures { rollups.new ≡ map with_next rollups.old }
 {
     if let Some((rollup, rollups)) = rollups.split_first_mut() {

@@ -23,7 +23,7 @@ use ts_raw::{Column as _, ColumnId};
 
 /// Returns true if one of the rules rolls a column up.
 fn is_rolled<A: Allocator + Copy>(rollups: &[Rollup<A>], column: usize) -> bool
-    requires { AllByRecursion (λ s. column < length s.series_list) rollups.now }
+    requires { AllByRecursion (λ s. column < length s.series_of_column) rollups.now }
     ensures { OnFalse result (AllByRecursion (λ s. rollup_series_at s column ≡ None) rollups.now) }
 {
     match rollups.split_first() {
@@ -45,9 +45,9 @@ fn update_cell<A: Allocator + Copy>(
 )
     requires interval { pos 1 ≤ℤ rule.now.interval }
     requires column { column < length columns.now }
-    requires each { length rollup.old.series_list ≡ length columns.now }
+    requires each { length rollup.old.series_of_column ≡ length columns.now }
     requires few { number_of_points columns.now ≤ 2 ^ 62 }
-    ensures series_list { rollup.new ≡ with_grid_cells rollup.new.grid.cells rollup.old }
+    ensures kept { rollup.new ≡ with_grid_cells rollup.new.grid.cells rollup.old }
     ensures cells { (cs : List Column) (before : List ColumnPoints) (f : Fact) → f.time ≡ time → f.value ≡ value → IsOver rule.now cs columns.now rollup.old → IsLivePut cs columns.now before column f old → IsLive before rule.now rollup.old.grid.cells → rollup.new.grid.cells ≡ put_cell rule.now f (facts_of (with_points cs (point_maps columns.now))) rollup.old.grid.cells }
 {
     let Some(series) = rollup.rollup_series_of(column.number()) else {
@@ -80,9 +80,9 @@ fn update_cells<A: Allocator + Copy>(
 )
     requires intervals { AllByRecursion (λ r. pos 1 ≤ℤ r.interval) rules.now }
     requires column { column < length columns.now }
-    requires each { AllByRecursion (λ s. length s.series_list ≡ length columns.now) rollups.old }
+    requires each { AllByRecursion (λ s. length s.series_of_column ≡ length columns.now) rollups.old }
     requires few { number_of_points columns.now ≤ 2 ^ 62 }
-    ensures series_list { rollups.new ≡ with_all_grid_cells (cells_of rollups.new) rollups.old }
+    ensures kept { rollups.new ≡ with_all_grid_cells (cells_of rollups.new) rollups.old }
     ensures cells { (cs : List Column) (before : List ColumnPoints) (f : Fact) → f.time ≡ time → f.value ≡ value → length columns.now ≡ length cs → AllDistinct cs → AreRollups rules.now cs rollups.old → IsLivePut cs columns.now before column f old → AreLive before rules.now (cells_of rollups.old) → cells_of rollups.new ≡ put_cells rules.now f (facts_of (with_points cs (point_maps columns.now))) (cells_of rollups.old) }
 {
     if let Some((rule, rules)) = rules.split_first() {
@@ -104,10 +104,10 @@ fn commit_rolled<A: Allocator + Copy>(
 )
     requires intervals { AllByRecursion (λ r. pos 1 ≤ℤ r.interval) rules.now }
     requires ready { AreReady columns.old.items (column ∷ []) }
-    requires each { AllByRecursion (λ s. length s.series_list ≡ length columns.old.items) rollups.old }
+    requires each { AllByRecursion (λ s. length s.series_of_column ≡ length columns.old.items) rollups.old }
     requires few { number_of_points columns.old.items + 1 ≤ 2 ^ 62 }
     ensures columns { columns.new.items ≡ set columns.old.items column (committed (get_or columns.old.items column no_column)) }
-    ensures series_list { rollups.new ≡ with_all_grid_cells (cells_of rollups.new) rollups.old }
+    ensures kept { rollups.new ≡ with_all_grid_cells (cells_of rollups.new) rollups.old }
     ensures cells { (cs : List Column) (f : Fact) → f.time ≡ time → f.value ≡ value → length columns.old.items ≡ length cs → AllDistinct cs → AreRollups rules.now cs rollups.old → AreStaged cs columns.old.items (column ∷ []) (f ∷ []) → AreLive (with_points cs (point_maps columns.old.items)) rules.now (cells_of rollups.old) → cells_of rollups.new ≡ put_cells rules.now f (facts_of (with_points cs (point_maps columns.new.items))) (cells_of rollups.old) }
 {
     let old = columns[column.number()].value_at(time);
@@ -127,10 +127,10 @@ fn commit_point<A: Allocator + Copy>(
 )
     requires intervals { AllByRecursion (λ r. pos 1 ≤ℤ r.interval) rules.now }
     requires ready { AreReady columns.old.items (column ∷ []) }
-    requires each { AllByRecursion (λ s. length s.series_list ≡ length columns.old.items) rollups.old }
+    requires each { AllByRecursion (λ s. length s.series_of_column ≡ length columns.old.items) rollups.old }
     requires few { number_of_points columns.old.items + 1 ≤ 2 ^ 62 }
     ensures columns { columns.new.items ≡ set columns.old.items column (committed (get_or columns.old.items column no_column)) }
-    ensures series_list { rollups.new ≡ with_all_grid_cells (cells_of rollups.new) rollups.old }
+    ensures kept { rollups.new ≡ with_all_grid_cells (cells_of rollups.new) rollups.old }
     ensures cells { (cs : List Column) (f : Fact) → f.time ≡ time → f.value ≡ value → length columns.old.items ≡ length cs → AllDistinct cs → AreRollups rules.now cs rollups.old → AreStaged cs columns.old.items (column ∷ []) (f ∷ []) → AreLive (with_points cs (point_maps columns.old.items)) rules.now (cells_of rollups.old) → cells_of rollups.new ≡ put_cells rules.now f (facts_of (with_points cs (point_maps columns.new.items))) (cells_of rollups.old) }
 {
     if is_rolled(rollups, column.number()) {
@@ -153,10 +153,10 @@ pub(crate) fn commit_points<A: Allocator + Copy, L: Allocator>(
     requires intervals { AllByRecursion (λ r. pos 1 ≤ℤ r.interval) rules.now }
     requires ready { AreReady columns.old.items numbers.now }
     requires fields { length fields.now ≡ length numbers.now }
-    requires each { AllByRecursion (λ s. length s.series_list ≡ length columns.old.items) rollups.old }
+    requires each { AllByRecursion (λ s. length s.series_of_column ≡ length columns.old.items) rollups.old }
     requires few { number_of_points columns.old.items + length numbers.now ≤ 2 ^ 62 }
     ensures columns { columns.new.items ≡ all_committed columns.old.items numbers.now }
-    ensures series_list { rollups.new ≡ with_all_grid_cells (cells_of rollups.new) rollups.old }
+    ensures kept { rollups.new ≡ with_all_grid_cells (cells_of rollups.new) rollups.old }
     ensures cells { (cs : List Column) (fs : List Fact) → AreOfFields time fields.now fs → length columns.old.items ≡ length cs → AllDistinct cs → AreRollups rules.now cs rollups.old → AreStaged cs columns.old.items numbers.now fs → AreLive (with_points cs (point_maps columns.old.items)) rules.now (cells_of rollups.old) → PutsFacts rules.now (with_points cs (point_maps columns.old.items)) (cells_of rollups.old) (with_points cs (point_maps columns.new.items)) (cells_of rollups.new) fs }
 {
     for (number, field) in numbers.iter().zip(fields) {

@@ -20,8 +20,8 @@ fn create_cells_under<A: Allocator + Copy>(
     time: Time,
 ) -> Result<(), AllocError>
     requires interval { pos 1 ≤ℤ rule.now.interval }
-    requires inside { AllByRecursion (λ n. n < length rollup.old.series_list) touched.now }
-    ensures series_list { rollup.new ≡ with_grid_cells rollup.new.grid.cells rollup.old }
+    requires inside { AllByRecursion (λ n. n < length rollup.old.series_of_column) touched.now }
+    ensures kept { rollup.new ≡ with_grid_cells rollup.new.grid.cells rollup.old }
     ensures ok { OnOk result (rollup.new ≡ cells_created_from low.now (index_of rule.now time) touched.now rollup.old) }
     ensures err { OnErr result (IsCreatedInPart rule.now low.now time touched.now rollup.old rollup.new) }
 {
@@ -45,8 +45,8 @@ pub(crate) fn create_cells<A: Allocator + Copy>(
     time: Time,
 ) -> Result<(), AllocError>
     requires intervals { AllByRecursion (λ r. pos 1 ≤ℤ r.interval) rules.now }
-    requires inside { AllByRecursion (λ s. AllByRecursion (λ n. n < length s.series_list) touched.now) rollups.old }
-    ensures series_list { KeepRollupSeries rollups.old rollups.new }
+    requires inside { AllByRecursion (λ s. AllByRecursion (λ n. n < length s.series_of_column) touched.now) rollups.old }
+    ensures kept { KeepRollupSeries rollups.old rollups.new }
     ensures ok { OnOk result (rollups.new ≡ cells_created_under rules.now lows.now time touched.now rollups.old) }
     ensures err { OnErr result (AreCreatedInPart rules.now lows.now time touched.now rollups.old rollups.new) }
 {

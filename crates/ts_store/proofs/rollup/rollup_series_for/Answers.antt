@@ -10,7 +10,7 @@ returns-in_err-reserve-clause-kept g c = list_roomed _ _ _ _ c.index_mut.ensures
 pub returns-clause-capacity : goal.returns-clause-capacity
 returns-clause-capacity g c =
     let lists = c.listed_rollup_series.new.columns.items in
-    let there : c.in_ok-series.series < length c.listed_rollup_series.new.cells.series_list = slice_get_within c.listed_rollup_series.new.cells.series_list c.in_ok-series.series _ c.in_ok-series.ensures.number in
+    let there : c.in_ok-series.series < length c.listed_rollup_series.new.cells.rollup_series = slice_get_within c.listed_rollup_series.new.cells.rollup_series c.in_ok-series.series _ c.in_ok-series.ensures.number in
     let each = c.in_ok-series.ensures.kept.each in
     subst (HasCapacityAt (set lists c.number.result c.reserve.new.self)) c.number.ensures
     (place_taken lists c.number.result c.reserve.new.self (omega (arith, there, each, c.number.ensures)) c.in_ok-reserve.ensures.ok)

@@ -1,25 +1,25 @@
 use Rattle.std.proofs.Common.{◌≡◌, List, ◌∷◌, refl, arith}
 use Rattle.ts_cells.proofs.ExpiryLemmas.{on_true, on_false}
 use Rattle.ts_store.specs.rollup.Rollups.{RollupState}
-use Rattle.ts_store.proofs.retain.RollupExpiry.{IsExpired, none_above, same_series_list, series_list_first, first_loses, later_loses, none_lost}
+use Rattle.ts_store.proofs.retain.RollupExpiry.{IsExpired, none_above, grids_kept, grids_kept_first, first_loses, later_loses, none_lost}
 use Rattle.ts_store.proofs.retain.column_moves.+expire_first.Goals as goal
 
-pub returns-in_default-clause-series_list : goal.returns-in_default-clause-series_list
-returns-in_default-clause-series_list g t c = same_series_list c.args.rollups.now
+pub returns-in_default-clause-kept : goal.returns-in_default-clause-kept
+returns-in_default-clause-kept g t c = grids_kept c.args.rollups.now
 
-pub returns-in_default-split_first_mut-clause-series_list : goal.returns-in_default-split_first_mut-clause-series_list
-returns-in_default-split_first_mut-clause-series_list g t c = same_series_list c.args.rollups.now
+pub returns-in_default-split_first_mut-clause-kept : goal.returns-in_default-split_first_mut-clause-kept
+returns-in_default-split_first_mut-clause-kept g t c = grids_kept c.args.rollups.now
 
 pub returns-in_default-split_first_mut-clause-none : goal.returns-in_default-split_first_mut-clause-none
 returns-in_default-split_first_mut-clause-none g t c = (refl, none_above c.args.lows.now c.args.rollups.now c.in_default-split_first_mut.ensures.cases)
 
-pub returns-then-expire-gt0-clause-series_list : goal.returns-then-expire-gt0-clause-series_list
-returns-then-expire-gt0-clause-series_list g t c =
+pub returns-then-expire-gt0-clause-kept : goal.returns-then-expire-gt0-clause-kept
+returns-then-expire-gt0-clause-kept g t c =
     let s : RollupState = c.in-Some-split_first_mut.rollup.now in
     let ss : List RollupState = c.in-Some-split_first_mut.rollups.now in
     let kept : c.args.rollups.now ≡ s ∷ ss = c.in-Some-split_first_mut.ensures.cases.0 in
     let gone : IsExpired c.in-Some.low.now c.expire.result s c.expire.new.self = record { cells = c.expire.ensures.cells; below = c.expire.ensures.below } in
-    series_list_first c.in-Some.low.now c.expire.result s c.expire.new.self ss c.args.rollups.now kept gone
+    grids_kept_first c.in-Some.low.now c.expire.result s c.expire.new.self ss c.args.rollups.now kept gone
 
 pub returns-then-expire-gt0-clause-some : goal.returns-then-expire-gt0-clause-some
 returns-then-expire-gt0-clause-some g t c =

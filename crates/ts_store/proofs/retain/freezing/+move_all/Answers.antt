@@ -28,7 +28,7 @@ pub move_all-requires : goal.move_all-requires
 move_all-requires g t c κs within =
     let longer : length c.args.rules.now ≡ suc (length c.in-Some.rules.now) = ap length c.in-Some.ensures.cases.0 in
     let intervals = subst (AllByRecursion (λ (r : Rule). pos 1 ≤ℤ r.interval)) c.in-Some.ensures.cases.0 c.requires.intervals in
-    let each = subst (AllByRecursion (λ (s : RollupState). length s.series_list ≡ length c.args.columns.now)) c.in-Some-split_first_mut.ensures.cases.0 c.requires.each in
+    let each = subst (AllByRecursion (λ (s : RollupState). length s.series_of_column ≡ length c.args.columns.now)) c.in-Some-split_first_mut.ensures.cases.0 c.requires.each in
     (omega arith, (within, (intervals.1, (c.requires.column, (each.1, c.requires.few)))))
 
 pub returns-in_default-split_first_mut : goal.returns-in_default-split_first_mut

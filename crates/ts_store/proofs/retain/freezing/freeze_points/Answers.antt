@@ -10,7 +10,7 @@ use Rattle.ts_core.specs.store.StoreStates.{fact_at}
 use Rattle.ts_core.specs.store.TwoParts.{in_frozen}
 use Rattle.ts_cells.specs.Grids.{cell_at}
 use Rattle.ts_store.specs.rollup.Rollups.{RollupState, rollup_series_under, rollup_series_at, with_grid_cells, frozen_in}
-use Rattle.ts_store.proofs.retain.PointsFrozen.{IsFolded, folded-as, folded-none, folded-more, folded-next, series_list_stay, frozen_in-series}
+use Rattle.ts_store.proofs.retain.PointsFrozen.{IsFolded, folded-as, folded-none, folded-more, folded-next, grid_kept_then, frozen_in-series}
 use Rattle.ts_store.proofs.retain.freezing.freeze_points.Goals.{then-index-bucket, else-index-bucket}
 use Rattle.ts_store.proofs.retain.freezing.freeze_points.Goals as goal
 
@@ -20,7 +20,7 @@ loop-time-init g c =
     let all : c.into_iter-time-iterator.result ≡ c.args.points = c.into_iter-time-iterator.ensures.into_iter_gives in
     let m : CellMap = c.args.rollup.now.grid.cells in
     record {
-      series_list = refl;
+      kept = refl;
       few = let count : c.empty-folded.result.count ≡ 0 = ap (λ (a : Aggregate). a.count) none in subst (λ (ps : List (ℤ × ℤ)). c.empty-folded.result.count + length ps ≤ 2 ^ 62) (sym all) (omega arith);
       cells = λ d n at is fit.
           let q : Cell = cell_at (pos 0) (rollup_series_under c.args.rule.now d) in
@@ -66,14 +66,14 @@ loop-time-preserved g c =
           let cells : CellMap = frozen_in old (rollup_series_at old c.args.column) bucket folded in
           let next : c.if-index-bucket.rollup ≡ with_grid_cells cells old = w.rollup-is ∙ w.freeze.ensures in
           record {
-            series_list = series_list_stay c.args.rollup.now old c.if-index-bucket.rollup cells c.loop-time.invariant.series_list next;
+            kept = grid_kept_then c.args.rollup.now old c.if-index-bucket.rollup cells c.loop-time.invariant.kept next;
             few = omega (arith, few, none, merged_count);
             cells = λ d n at series fit.
                 let q : Cell = cell_at bucket (rollup_series_under r d) in
                 let h : IsFolded r d all before (p ∷ rest) old.grid.cells q folded =
                 subst (λ (ps : List (ℤ × ℤ)). IsFolded r d all before ps old.grid.cells q folded) left (c.loop-time.invariant.cells d n at series fit) in
                 let frozen : c.if-index-bucket.rollup.grid.cells ≡ changed old.grid.cells q (in_frozen (merged_within folded)) =
-                ap (λ (s : RollupState). s.grid.cells) next ∙ frozen_in-series c.args.rollup.now old c.args.column n r d bucket folded c.loop-time.invariant.series_list at series in
+                ap (λ (s : RollupState). s.grid.cells) next ∙ frozen_in-series c.args.rollup.now old c.args.column n r d bucket folded c.loop-time.invariant.kept at series in
                 folded-as r d all before rest (changed old.grid.cells q (in_frozen (merged_within folded))) c.if-index-bucket.rollup.grid.cells (cell_of r (fact_at d p)) (cell_at (to_z w128 c.if-index-bucket.bucket-bits) (rollup_series_under r d))
                 (merged empty_aggregate one) c.merge-folded.result frozen (ap (λ i. cell_at i (rollup_series_under r d)) (w.bucket-is ∙ index)) (merge ∙ ap (λ a. merged a one) nothing)
                 (folded-next r d all before p rest old.grid.cells q folded series.0 h);
@@ -82,7 +82,7 @@ loop-time-preserved g c =
           let here : bucket ≡ index_of r p.0 = sym (ap (to_z w128) w.if-index-bucket.false) ∙ index in
           let same : c.if-index-bucket.folded.count ≡ folded.count = ap (λ (a : Aggregate). a.count) w.folded-is in
           record {
-            series_list = w.rollup-is ∙ c.loop-time.invariant.series_list ∙ ap (λ (s : RollupState). with_grid_cells s.grid.cells c.args.rollup.now) (sym w.rollup-is);
+            kept = w.rollup-is ∙ c.loop-time.invariant.kept ∙ ap (λ (s : RollupState). with_grid_cells s.grid.cells c.args.rollup.now) (sym w.rollup-is);
             few = omega (arith, few, same, merged_count);
             cells = λ d n at series fit.
                 let q : Cell = cell_at bucket (rollup_series_under r d) in
@@ -105,4 +105,4 @@ returns-clause-cells g c = λ d n at series fit.
     let h : IsFolded r d c.args.points c.args.rollup.now.grid.cells [] old.grid.cells q folded =
     subst (λ (ps : List (ℤ × ℤ)). IsFolded r d c.args.points c.args.rollup.now.grid.cells ps old.grid.cells q folded) left (c.loop-time.invariant.cells d n at series fit) in
     let end : c.freeze-2.new.self.grid.cells ≡ frozen_in old (rollup_series_at old c.args.column) bucket folded = ap (λ (s : RollupState). s.grid.cells) c.freeze-2.ensures in
-    end ∙ frozen_in-series c.args.rollup.now old c.args.column n r d bucket folded c.loop-time.invariant.series_list at series ∙ h.same
+    end ∙ frozen_in-series c.args.rollup.now old c.args.column n r d bucket folded c.loop-time.invariant.kept at series ∙ h.same

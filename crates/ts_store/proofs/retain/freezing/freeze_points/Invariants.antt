@@ -8,8 +8,8 @@ use Rattle.ts_store.proofs.retain.freezing.freeze_points.Given as goal
 
 abbrev pub invariant-loop-time : goal.invariant-loop-time
 invariant-loop-time g l = record {
-  series_list : l.rollup ≡ with_grid_cells l.rollup.grid.cells l.fn.rollup;
+  kept : l.rollup ≡ with_grid_cells l.rollup.grid.cells l.fn.rollup;
   few : l.folded.count + length l.time-iterator ≤ 2 ^ 62;
-  cells : (c : Column) (n : ℕ) → rollup_series_at l.fn.rollup l.column ≡ Some n → IsRollupSeriesOf l.rule c l.fn.rollup.grid.series_list (Some n) → FreezesFit l.rule c l.fn.points l.fn.rollup.grid.cells
+  cells : (c : Column) (n : ℕ) → rollup_series_at l.fn.rollup l.column ≡ Some n → IsRollupSeriesOf l.rule c l.fn.rollup.grid.rollup_series (Some n) → FreezesFit l.rule c l.fn.points l.fn.rollup.grid.cells
       → IsFolded l.rule c l.fn.points l.fn.rollup.grid.cells l.time-iterator l.rollup.grid.cells (cell_at l.bucket (rollup_series_under l.rule c)) l.folded;
 }

@@ -31,9 +31,9 @@ returns-then-rolls g c = λ cs d over at fit.
     let below : List (ℤ × ℤ) = points_below c.args.mark (finmap.entries (get_or c.args.columns.now c.args.column no_column).points) in
     let col = c.index-columns-column.is ∙ get_or_default c.args.columns.now c.args.column c.index-columns-column.result no_column c.requires.column in
     let points = c.new.ensures ∙ ap (λ (x : ColumnState). points_below c.args.mark (finmap.entries x.points)) col in
-    let kept = c.freeze_points.ensures.series_list in
-    let over' : IsOver c.args.rule.now cs c.args.columns.now c.freeze_points.new.rollup = subst (λ (t : RollupState). IsOver c.args.rule.now cs c.args.columns.now t) (sym kept) (record { each = over.each; once = over.once; series_list = over.series_list }) in
-    moved_rolled c.args.rule.now d below (facts_left c.args.mark d cs c.args.columns.now) c.args.column s c.freeze_points.new.rollup c.refold_points.new.rollup rolled (rollup_series_known c.args.rule.now s.grid.series_list cs s.series_list c.args.column d over.series_list at) kept c.refold_points.ensures.series_list
+    let kept = c.freeze_points.ensures.kept in
+    let over' : IsOver c.args.rule.now cs c.args.columns.now c.freeze_points.new.rollup = subst (λ (t : RollupState). IsOver c.args.rule.now cs c.args.columns.now t) (sym kept) (record { each = over.each; once = over.once; series = over.series }) in
+    moved_rolled c.args.rule.now d below (facts_left c.args.mark d cs c.args.columns.now) c.args.column s c.freeze_points.new.rollup c.refold_points.new.rollup rolled (rollup_series_known c.args.rule.now s.grid.rollup_series cs s.series_of_column c.args.column d over.series at) kept c.refold_points.ensures.kept
     (λ l here series.
     c.freeze_points.ensures.cells d l here series (subst (λ (ps : List (ℤ × ℤ)). FreezesFit c.args.rule.now d ps s.grid.cells) (sym points) fit)
     ∙ ap (λ (ps : List (ℤ × ℤ)). frozen_points c.args.rule.now d ps s.grid.cells) points)
@@ -42,4 +42,4 @@ returns-then-rolls g c = λ cs d over at fit.
 pub returns-else-rolls : goal.returns-else-rolls
 returns-else-rolls g c = λ cs d over at fit.
     let s : RollupState = c.args.rollup.now in
-    moved_passed c.args.rule.now d (points_below c.args.mark (finmap.entries (get_or c.args.columns.now c.args.column no_column).points)) (facts_left c.args.mark d cs c.args.columns.now) c.args.column s (sym c.rolls.ensures ∙ c.if-rolls.false) (rollup_series_known c.args.rule.now s.grid.series_list cs s.series_list c.args.column d over.series_list at)
+    moved_passed c.args.rule.now d (points_below c.args.mark (finmap.entries (get_or c.args.columns.now c.args.column no_column).points)) (facts_left c.args.mark d cs c.args.columns.now) c.args.column s (sym c.rolls.ensures ∙ c.if-rolls.false) (rollup_series_known c.args.rule.now s.grid.rollup_series cs s.series_of_column c.args.column d over.series at)

@@ -12,7 +12,7 @@ use Rattle.ts_raw.specs.Columns.{ColumnState}
 use Rattle.ts_store.specs.store.ColumnStates.{no_column}
 use Rattle.ts_store.specs.rollup.Rollups.{RollupState, rollup_series_at, rollup_series_under, corrected_in}
 use Rattle.ts_store.specs.retain.RollupSteps.{facts_left}
-use Rattle.ts_store.proofs.retain.PointsFrozen.{series_list_stay}
+use Rattle.ts_store.proofs.retain.PointsFrozen.{grid_kept_then}
 use Rattle.ts_store.proofs.retain.Refolds.{refolded-none, refolded-same, refolded-next, left_total}
 use Rattle.ts_store.proofs.retain.TimeBounds.{time_bound}
 use Rattle.ts_store.proofs.retain.freezing.refold_points.Goals as goal
@@ -27,7 +27,7 @@ loop-time-init g c =
     let points : c.into_iter-time-iterator.result ≡ all =
     c.into_iter-time-iterator.ensures.into_iter_gives ∙ c.new-time-items.ensures ∙ ap (λ (x : ColumnState). points_below c.args.mark (finmap.entries x.points)) col in
     record {
-      series_list = refl;
+      kept = refl;
       cells = λ cs d n at over here. refolded-none c.args.rule.now d (facts_left c.args.mark d cs c.args.columns.now) all c.args.rollup.now.grid.cells c.into_iter-time-iterator.result None points refl;
     }
 
@@ -43,14 +43,14 @@ loop-time-preserved-then-not-is_last g c =
     let left : c.loop-time.time-iterator ≡ p ∷ c.next.new.self = search rules in
     let cells : CellMap = corrected_in old c.in-Some.series index c.rollup_series_left-live.result in
     record {
-      series_list = series_list_stay c.args.rollup.now old c.correct.new.self cells c.loop-time.invariant.series_list c.correct.ensures;
+      kept = grid_kept_then c.args.rollup.now old c.correct.new.self cells c.loop-time.invariant.kept c.correct.ensures;
       cells = λ cs d n at over here.
           let facts : List Fact = facts_left c.args.mark d cs c.args.columns.now in
           let all : List (ℤ × ℤ) = points_below c.args.mark (finmap.entries (get_or c.args.columns.now c.args.column no_column).points) in
           let series : rollup_series_at c.args.rollup.now c.args.column ≡ Some c.in-Some.series = search rules in
           let made : c.correct.new.self.grid.cells ≡ refolded r (cell_at index (rollup_series_under r d)) facts old.grid.cells =
           ap (λ (s : RollupState). s.grid.cells) c.correct.ensures
-          ∙ left_total r c.args.mark cs d c.args.columns.now c.args.rollup.now old c.args.column c.in-Some.series index c.rollup_series_left-live.result over here series c.loop-time.invariant.series_list c.rollup_series_left-live.ensures.once c.rollup_series_left-live.ensures.total in
+          ∙ left_total r c.args.mark cs d c.args.columns.now c.args.rollup.now old c.args.column c.in-Some.series index c.rollup_series_left-live.result over here series c.loop-time.invariant.kept c.rollup_series_left-live.ensures.once c.rollup_series_left-live.ensures.total in
           refolded-next r d facts all c.args.rollup.now.grid.cells p c.next.new.self c.loop-time.time-iterator old.grid.cells c.correct.new.self.grid.cells index c.loop-time.last (Some index) left made refl at_index (c.loop-time.invariant.cells cs d n at over here);
     }
 
@@ -66,7 +66,7 @@ loop-time-preserved g c =
     let same : c.is_last.result ≡ true = search rules in
     let last : c.loop-time.last ≡ Some index = c.is_last.ensures same in
     record {
-      series_list = c.loop-time.invariant.series_list;
+      kept = c.loop-time.invariant.kept;
       cells = λ cs d n at over here.
           let facts : List Fact = facts_left c.args.mark d cs c.args.columns.now in
           let all : List (ℤ × ℤ) = points_below c.args.mark (finmap.entries (get_or c.args.columns.now c.args.column no_column).points) in

@@ -12,7 +12,7 @@ use Rattle.ts_store.proofs.retain.freezing.refold_points.Given as goal
 
 abbrev pub invariant-loop-time : goal.invariant-loop-time
 invariant-loop-time g l = record {
-  series_list : l.rollup ≡ with_grid_cells l.rollup.grid.cells l.initial.rollup;
+  kept : l.rollup ≡ with_grid_cells l.rollup.grid.cells l.initial.rollup;
   cells : (cs : List Column) (c : Column) (n : ℕ) → rollup_series_at l.initial.rollup l.column ≡ Some n → IsOver l.rule cs l.columns l.initial.rollup → IsAt cs l.column c
       → IsRefolded l.rule c (facts_left l.mark c cs l.columns) (points_below l.mark (finmap.entries (get_or l.columns l.column no_column).points)) l.initial.rollup.grid.cells l.time-iterator l.rollup.grid.cells l.last;
 }

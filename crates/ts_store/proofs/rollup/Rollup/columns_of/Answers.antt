@@ -8,6 +8,6 @@ pub returns-clause-columns : goal.returns-clause-columns
 returns-clause-columns g c =
     let vs = c.self.inside.columns.items in
     let within : c.number.result < length vs =
-    omega (arith, c.number.ensures, c.requires, c.self.invariant.each, length-map vs (λ v. v.items), ap (λ (s : RollupState). length s.grid.series_list) c.self.view_is) in
+    omega (arith, c.number.ensures, c.requires, c.self.invariant.each, length-map vs (λ v. v.items), ap (λ (s : RollupState). length s.grid.rollup_series) c.self.view_is) in
     c.as_slice.ensures ∙ ap (λ v. v.items) c.index.ensures ∙ sym (get_or-map (λ v. v.items) vs c.number.result c.index.result.now [] within)
     ∙ ap (λ n. get_or (lists_in vs) n []) c.number.ensures ∙ c.self.invariant.grouped c.args.series ∙ ap (λ (s : RollupState). columns_of_rollup_series c.args.series s) c.self.view_is

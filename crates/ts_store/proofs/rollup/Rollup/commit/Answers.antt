@@ -13,12 +13,12 @@ push-requires-in-Some g c =
 
 pub invariant_of-self : goal.invariant_of-self
 invariant_of-self g c =
-    let os : List (Option ℕ) = c.self.inside.series_list.items in
+    let os : List (Option ℕ) = c.self.inside.series_of_column.items in
     let vs = c.self.inside.columns.items in
     let here : c.unwrap-series.result ≡ Some c.number.result = c.in-Some.is ∙ ap Some (sym c.number.ensures) in
     let next : c.self.inside.next ≡ Some (Some c.number.result) = sym c.take.ensures.value ∙ c.unwrap-series.ensures ∙ ap Some here in
     let within : c.number.result < length vs = place_within vs c.number.result (room_in c.number.result _ _ _ next c.self.invariant.capacity) in
-    let number : c.args.column ≡ length os = c.requires.number ∙ sym (ap (λ (s : RollupState). length s.series_list) c.self.view_is) in
+    let number : c.args.column ≡ length os = c.requires.number ∙ sym (ap (λ (s : RollupState). length s.series_of_column) c.self.view_is) in
     let pushed : c.push.new.self.items ≡ os ++ Some c.number.result ∷ [] =
     c.push.ensures.items ∙ ap (λ r. cond (is_ok r) (os ++ c.unwrap-series.result ∷ []) os) c.unwrap.ensures ∙ ap (λ (o : Option ℕ). os ++ o ∷ []) here in
     let joined : c.push-in-Some.new.self.items ≡ c.index_mut.result.now.items ++ length os ∷ [] =
@@ -29,7 +29,7 @@ invariant_of-self g c =
 
 pub invariant_of-self-in_default : goal.invariant_of-self-in_default
 invariant_of-self-in_default g c =
-    let os : List (Option ℕ) = c.self.inside.series_list.items in
+    let os : List (Option ℕ) = c.self.inside.series_of_column.items in
     let none : c.unwrap-series.result ≡ None = c.in_default.is in
     let pushed : c.push.new.self.items ≡ os ++ None ∷ [] =
     c.push.ensures.items ∙ ap (λ r. cond (is_ok r) (os ++ c.unwrap-series.result ∷ []) os) c.unwrap.ensures ∙ ap (λ (o : Option ℕ). os ++ o ∷ []) none in

@@ -6,6 +6,6 @@ use Rattle.ts_store.proofs.rollup.Rollup.make_room.Goals as goal
 
 pub make_room-requires : goal.make_room-requires
 make_room-requires g c =
-    let os : List (Option ℕ) = c.self.inside.series_list.items in
-    let within : c.number.result < length os = omega (arith, c.number.ensures, c.requires, ap (λ (s : RollupState). length s.series_list) c.self.view_is) in
+    let os : List (Option ℕ) = c.self.inside.series_of_column.items in
+    let within : c.number.result < length os = omega (arith, c.number.ensures, c.requires, ap (λ (s : RollupState). length s.series_of_column) c.self.view_is) in
     rollup_series_inside _ _ _ _ _ _ c.self.invariant c.number.result c.in-Some.series (slice_get-get_or os c.number.result c.index.result.now within ∙ ap Some (sym c.index.ensures ∙ c.in-Some.is))

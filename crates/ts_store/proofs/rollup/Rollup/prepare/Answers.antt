@@ -9,14 +9,14 @@ returns-clause-kept g c = elim c.if-eq.branch [
   | then-eq+in_ok-group+in_ok-rollup_series_for w ↦ record {
     made = (
       w.rollup_series_for.ensures.kept.made.0,
-      ap (λ s. s.cells.series_list) w.self-inside-is ∙ w.rollup_series_for.ensures.kept.made.1 ∙ ap (λ (s : RollupState). s.grid.series_list ++ w.rollup_series_for.ensures.kept.made.0) c.self.view_is,
+      ap (λ s. s.cells.rollup_series) w.self-inside-is ∙ w.rollup_series_for.ensures.kept.made.1 ∙ ap (λ (s : RollupState). s.grid.rollup_series ++ w.rollup_series_for.ensures.kept.made.0) c.self.view_is,
     );
     cells = ap (λ s. s.cells.cells) w.self-inside-is ∙ w.rollup_series_for.ensures.kept.cells ∙ ap (λ (s : RollupState). s.grid.cells) c.self.view_is;
-    series_list = ap (λ s. s.series_list.items) w.self-inside-is ∙ c.reserve_eighth.ensures.items ∙ ap (λ (s : RollupState). s.series_list) c.self.view_is;
+    kept = ap (λ s. s.series_of_column.items) w.self-inside-is ∙ c.reserve_eighth.ensures.items ∙ ap (λ (s : RollupState). s.series_of_column) c.self.view_is;
   }
   | else-eq w ↦ record {
-    made = ([], ap (λ s. s.cells.series_list) w.self-inside-is ∙ ap (λ (s : RollupState). s.grid.series_list) c.self.view_is ∙ sym (append-nil c.args.self.now.grid.series_list));
+    made = ([], ap (λ s. s.cells.rollup_series) w.self-inside-is ∙ ap (λ (s : RollupState). s.grid.rollup_series) c.self.view_is ∙ sym (append-nil c.args.self.now.grid.rollup_series));
     cells = ap (λ s. s.cells.cells) w.self-inside-is ∙ ap (λ (s : RollupState). s.grid.cells) c.self.view_is;
-    series_list = ap (λ s. s.series_list.items) w.self-inside-is ∙ c.reserve_eighth.ensures.items ∙ ap (λ (s : RollupState). s.series_list) c.self.view_is;
+    kept = ap (λ s. s.series_of_column.items) w.self-inside-is ∙ c.reserve_eighth.ensures.items ∙ ap (λ (s : RollupState). s.series_of_column) c.self.view_is;
   }
 ]

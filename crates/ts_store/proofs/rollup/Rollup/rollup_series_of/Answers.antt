@@ -6,11 +6,11 @@ use Rattle.ts_store.proofs.rollup.Rollup.rollup_series_of.Goals as goal
 
 pub returns-clause-inside : goal.returns-clause-inside
 returns-clause-inside g c =
-    let os : List (Option ℕ) = c.self.inside.series_list.items in
-    let series_list : ℕ = length c.args.self.now.grid.series_list in
-    let same : length c.self.inside.cells.series_list ≡ series_list = ap (λ (s : RollupState). length s.grid.series_list) c.self.view_is in
-    let within : c.args.column < length os = omega (arith, c.requires, ap (λ (s : RollupState). length s.series_list) c.self.view_is) in
-    elim c.index.result.now as (λ o. c.index.result.now ≡ o → IfSome o (λ l. l < series_list)) [
+    let os : List (Option ℕ) = c.self.inside.series_of_column.items in
+    let count : ℕ = length c.args.self.now.grid.rollup_series in
+    let same : length c.self.inside.cells.rollup_series ≡ count = ap (λ (s : RollupState). length s.grid.rollup_series) c.self.view_is in
+    let within : c.args.column < length os = omega (arith, c.requires, ap (λ (s : RollupState). length s.series_of_column) c.self.view_is) in
+    elim c.index.result.now as (λ o. c.index.result.now ≡ o → IfSome o (λ l. l < count)) [
       | None ↦ λ e. tt
       | Some l ↦ λ e.
           let inside = rollup_series_inside _ _ _ _ _ _ c.self.invariant c.args.column l (slice_get-get_or os c.args.column c.index.result.now within ∙ ap Some (sym c.index.ensures ∙ e)) in

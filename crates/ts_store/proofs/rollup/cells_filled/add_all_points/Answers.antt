@@ -10,15 +10,15 @@ use Rattle.ts_store.specs.store.ColumnStates.{no_column, with_points, point_maps
 use Rattle.ts_store.specs.rollup.Rollups.{AreRollups, cells_of}
 use Rattle.ts_store.proofs.image.ColumnsInTurn.{column-there, turn-dropped, some-points}
 use Rattle.ts_store.proofs.read.ColumnsReads.{with_points-length, facts-length}
-use Rattle.ts_store.proofs.write.PointsPut.{series_list_then, wide_still}
-use Rattle.ts_store.proofs.retain.RollupExpiry.{same_series_list}
+use Rattle.ts_store.proofs.write.PointsPut.{grids_kept_then, wide_still}
+use Rattle.ts_store.proofs.retain.RollupExpiry.{grids_kept}
 use Rattle.ts_store.proofs.retain.RollupMoves.{rollups_with}
 use Rattle.ts_store.proofs.rollup.RulesFilled.{wide_first, frozen-same, frozen-both, filled-idle, filled-live}
 use Rattle.ts_store.proofs.rollup.cells_filled.add_all_points.Goals as goal
 
 pub loop-number-init : goal.loop-number-init
 loop-number-init g c = record {
-  series_list = same_series_list c.args.rollups.now;
+  kept = grids_kept c.args.rollups.now;
   frozen = frozen-same (cells_of c.args.rollups.now);
   live = λ cs each h idle. filled-idle (facts_of (with_points cs (point_maps c.args.columns.now))) c.args.rules.now (cells_of c.args.rollups.now) idle;
 }
@@ -26,7 +26,7 @@ loop-number-init g c = record {
 pub add_under_all-requires-clause-inside : goal.add_under_all-requires-clause-inside
 add_under_all-requires-clause-inside g c =
     wide_first (length c.args.columns.now) c.loop-number.rollups c.loop-number.number (omega arith)
-    (wide_still (length c.args.columns.now) c.args.rollups.now c.loop-number.rollups c.loop-number.invariant.series_list c.requires.each)
+    (wide_still (length c.args.columns.now) c.args.rollups.now c.loop-number.rollups c.loop-number.invariant.kept c.requires.each)
 
 pub add_under_all-requires-clause-few : goal.add_under_all-requires-clause-few
 add_under_all-requires-clause-few g c =
@@ -46,11 +46,11 @@ loop-number-preserved g c =
     let within : n < length ss = omega arith in
     let is : c.index-columns-number.result ≡ get_or ss n no_column = c.index-columns-number.is ∙ get_or_default ss n c.index-columns-number.result no_column within in
     record {
-      series_list = series_list_then c.args.rollups.now c.loop-number.rollups c.add_under_all.new.rollups c.loop-number.invariant.series_list c.add_under_all.ensures.series_list;
+      kept = grids_kept_then c.args.rollups.now c.loop-number.rollups c.add_under_all.new.rollups c.loop-number.invariant.kept c.add_under_all.ensures.kept;
       frozen = frozen-both (cells_of c.args.rollups.now) (cells_of c.loop-number.rollups) (cells_of c.add_under_all.new.rollups) c.loop-number.invariant.frozen c.add_under_all.ensures.frozen;
       live = λ cs each h idle.
           let there = column-there cs n (subst (λ k. n < k) each within) in
-          let now : AreRollups rs cs c.loop-number.rollups = subst (AreRollups rs cs) (sym c.loop-number.invariant.series_list) (rollups_with rs cs (cells_of c.loop-number.rollups) c.args.rollups.now h) in
+          let now : AreRollups rs cs c.loop-number.rollups = subst (AreRollups rs cs) (sym c.loop-number.invariant.kept) (rollups_with rs cs (cells_of c.loop-number.rollups) c.args.rollups.now h) in
           let columns : List ColumnPoints = with_points cs (point_maps ss) in
           let few : length (facts_of columns) ≤ 2 ^ 62 = let e = facts-length cs ss each in omega (arith, e, c.requires.few) in
           c.add_under_all.ensures.live cs there.0 (facts_of (drop (n + 1) columns)) (facts_of columns) there.1 now few

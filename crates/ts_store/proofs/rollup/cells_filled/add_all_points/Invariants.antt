@@ -9,7 +9,7 @@ use Rattle.ts_store.proofs.rollup.cells_filled.add_all_points.Given as goal
 
 abbrev pub invariant-loop-number : goal.invariant-loop-number
 invariant-loop-number g l = record {
-  series_list : l.rollups ≡ with_all_grid_cells (cells_of l.rollups) l.fn.rollups;
+  kept : l.rollups ≡ with_all_grid_cells (cells_of l.rollups) l.fn.rollups;
   frozen : KeepFrozen (cells_of l.fn.rollups) (cells_of l.rollups);
   live : (cs : List Column) → length l.columns ≡ length cs → AreRollups l.rules cs l.fn.rollups → AreIdle (cells_of l.fn.rollups)
       → AreFilledBut (facts_of (drop l.number (with_points cs (point_maps l.columns)))) (facts_of (with_points cs (point_maps l.columns))) l.rules (cells_of l.rollups);

@@ -9,9 +9,9 @@ use Rattle.ts_store.proofs.rollup.cells_filled.add_points.Given as goal
 
 abbrev pub invariant-loop-time : goal.invariant-loop-time
 invariant-loop-time g l = record {
-  series_list : l.rollup ≡ with_grid_cells l.rollup.grid.cells l.fn.rollup;
+  kept : l.rollup ≡ with_grid_cells l.rollup.grid.cells l.fn.rollup;
   few : l.folded.count + length l.time-iterator ≤ 2 ^ 62;
   frozen : KeepsFrozen l.fn.rollup.grid.cells l.rollup.grid.cells;
-  live : (c : Column) (left all : List Fact) → IsRollupSeriesOf l.rule c l.fn.rollup.grid.series_list (Some l.series) → length all ≤ 2 ^ 62 → IsFilledBut (facts_at c l.fn.points ++ left) all l.rule l.fn.rollup.grid.cells
+  live : (c : Column) (left all : List Fact) → IsRollupSeriesOf l.rule c l.fn.rollup.grid.rollup_series (Some l.series) → length all ≤ 2 ^ 62 → IsFilledBut (facts_at c l.fn.points ++ left) all l.rule l.fn.rollup.grid.cells
       → IsPending (facts_at c l.time-iterator ++ left) all l.rule l.rollup.grid.cells (cell_at l.bucket (rollup_series_under l.rule c)) l.folded;
 }

@@ -12,25 +12,25 @@ use Rattle.ts_store.specs.rollup.Rollups.{AreRollups, cells_of}
 use Rattle.ts_store.proofs.rollup.CellsCreated.{all-made-none, all-made-then}
 use Rattle.ts_store.proofs.image.ColumnsInTurn.{column-there, turn-taken}
 use Rattle.ts_store.proofs.read.ColumnsReads.{with_points-length}
-use Rattle.ts_store.proofs.write.PointsPut.{series_list_then, wide_still}
-use Rattle.ts_store.proofs.retain.RollupExpiry.{same_series_list}
+use Rattle.ts_store.proofs.write.PointsPut.{grids_kept_then, wide_still}
+use Rattle.ts_store.proofs.retain.RollupExpiry.{grids_kept}
 use Rattle.ts_store.proofs.retain.RollupMoves.{rollups_with}
 use Rattle.ts_store.proofs.rollup.RulesFilled.{wide_first}
 use Rattle.ts_store.proofs.rollup.cells_filled.make_all_cells.Goals as goal
 
 pub loop-number-init : goal.loop-number-init
 loop-number-init g c = record {
-  series_list = same_series_list c.args.rollups.now;
+  kept = grids_kept c.args.rollups.now;
   cells = λ cs each h. all-made-none c.args.rules.now c.args.lows.now (cells_of c.args.rollups.now);
 }
 
 pub make_under_all-requires-clause-inside : goal.make_under_all-requires-clause-inside
 make_under_all-requires-clause-inside g c =
     wide_first (length c.args.columns.now) c.loop-number.rollups c.loop-number.number (omega arith)
-    (wide_still (length c.args.columns.now) c.args.rollups.now c.loop-number.rollups c.loop-number.invariant.series_list c.requires.each)
+    (wide_still (length c.args.columns.now) c.args.rollups.now c.loop-number.rollups c.loop-number.invariant.kept c.requires.each)
 
-pub returns-in_err-make_under_all-clause-series_list : goal.returns-in_err-make_under_all-clause-series_list
-returns-in_err-make_under_all-clause-series_list g c = series_list_then c.args.rollups.now c.loop-number.rollups c.make_under_all.new.rollups c.loop-number.invariant.series_list c.make_under_all.ensures.series_list
+pub returns-in_err-make_under_all-clause-kept : goal.returns-in_err-make_under_all-clause-kept
+returns-in_err-make_under_all-clause-kept g c = grids_kept_then c.args.rollups.now c.loop-number.rollups c.make_under_all.new.rollups c.loop-number.invariant.kept c.make_under_all.ensures.kept
 
 pub loop-number-preserved : goal.loop-number-preserved
 loop-number-preserved g c =
@@ -40,10 +40,10 @@ loop-number-preserved g c =
     let within : n < length ss = omega arith in
     let is : c.index-columns-number.result ≡ get_or ss n no_column = c.index-columns-number.is ∙ get_or_default ss n c.index-columns-number.result no_column within in
     record {
-      series_list = series_list_then c.args.rollups.now c.loop-number.rollups c.make_under_all.new.rollups c.loop-number.invariant.series_list c.make_under_all.ensures.series_list;
+      kept = grids_kept_then c.args.rollups.now c.loop-number.rollups c.make_under_all.new.rollups c.loop-number.invariant.kept c.make_under_all.ensures.kept;
       cells = λ cs each h.
           let there = column-there cs n (subst (λ k. n < k) each within) in
-          let now : AreRollups rs cs c.loop-number.rollups = subst (AreRollups rs cs) (sym c.loop-number.invariant.series_list) (rollups_with rs cs (cells_of c.loop-number.rollups) c.args.rollups.now h) in
+          let now : AreRollups rs cs c.loop-number.rollups = subst (AreRollups rs cs) (sym c.loop-number.invariant.kept) (rollups_with rs cs (cells_of c.loop-number.rollups) c.args.rollups.now h) in
           let before : List Fact = facts_of (take n (with_points cs (point_maps ss))) in
           let its : List Fact = facts_at there.0 (finmap.entries c.index-columns-number.result.points) in
           subst (λ (fs : List Fact). OfEachRule (MakesCells fs) rs c.args.lows.now (cells_of c.args.rollups.now) (cells_of c.make_under_all.new.rollups))

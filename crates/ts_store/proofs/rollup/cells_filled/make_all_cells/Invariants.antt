@@ -10,7 +10,7 @@ use Rattle.ts_store.proofs.rollup.cells_filled.make_all_cells.Given as goal
 
 abbrev pub invariant-loop-number : goal.invariant-loop-number
 invariant-loop-number g l = record {
-  series_list : l.rollups ≡ with_all_grid_cells (cells_of l.rollups) l.fn.rollups;
+  kept : l.rollups ≡ with_all_grid_cells (cells_of l.rollups) l.fn.rollups;
   cells : (cs : List Column) → length l.columns ≡ length cs → AreRollups l.rules cs l.fn.rollups
       → OfEachRule (MakesCells (facts_of (take l.number (with_points cs (point_maps l.columns))))) l.rules l.lows (cells_of l.fn.rollups) (cells_of l.rollups);
 }

@@ -7,7 +7,7 @@ use Rattle.ts_store.proofs.rollup.cells_filled.make_cells.Given as goal
 
 abbrev pub invariant-loop-time : goal.invariant-loop-time
 invariant-loop-time g l = record {
-  series_list : l.rollup ≡ with_grid_cells l.rollup.grid.cells l.fn.rollup;
-  cells : (c : Column) → IsRollupSeriesOf l.rule c l.fn.rollup.grid.series_list (Some l.series) → IsMadeBut (facts_at c l.time-iterator) (facts_at c l.fn.points) l.rule l.low l.fn.rollup.grid.cells l.rollup.grid.cells;
-  last : (c : Column) → IsRollupSeriesOf l.rule c l.fn.rollup.grid.series_list (Some l.series) → IsLastThere l.rule c l.last l.rollup.grid.cells;
+  kept : l.rollup ≡ with_grid_cells l.rollup.grid.cells l.fn.rollup;
+  cells : (c : Column) → IsRollupSeriesOf l.rule c l.fn.rollup.grid.rollup_series (Some l.series) → IsMadeBut (facts_at c l.time-iterator) (facts_at c l.fn.points) l.rule l.low l.fn.rollup.grid.cells l.rollup.grid.cells;
+  last : (c : Column) → IsRollupSeriesOf l.rule c l.fn.rollup.grid.rollup_series (Some l.series) → IsLastThere l.rule c l.last l.rollup.grid.cells;
 }

@@ -4,27 +4,27 @@ use Rattle.ts_core.specs.settings.Settings.{Rule}
 use Rattle.ts_core.specs.store.StoreStates.{facts_of}
 use Rattle.ts_store.specs.store.ColumnStates.{with_points, point_maps}
 use Rattle.ts_store.specs.rollup.Rollups.{RollupState, cells_of}
-use Rattle.ts_store.proofs.write.PointsPut.{none_put, nowhere_put, all_put-more, series_list_more}
-use Rattle.ts_store.proofs.retain.RollupExpiry.{same_series_list}
+use Rattle.ts_store.proofs.write.PointsPut.{none_put, nowhere_put, all_put-more, grids_kept_more}
+use Rattle.ts_store.proofs.retain.RollupExpiry.{grids_kept}
 use Rattle.ts_store.proofs.write.committing.+update_cells.Goals as goal
 
-pub returns-in_default-clause-series_list : goal.returns-in_default-clause-series_list
-returns-in_default-clause-series_list g t c = same_series_list c.args.rollups.now
+pub returns-in_default-clause-kept : goal.returns-in_default-clause-kept
+returns-in_default-clause-kept g t c = grids_kept c.args.rollups.now
 
 pub returns-in_default-clause-cells : goal.returns-in_default-clause-cells
 returns-in_default-clause-cells g t c = λ cs before f time value each once a put live.
     none_put c.args.rules.now f (facts_of (with_points cs (point_maps c.args.columns.now))) (cells_of c.args.rollups.now) c.in_default.ensures.cases
 
-pub returns-in_default-split_first_mut-clause-series_list : goal.returns-in_default-split_first_mut-clause-series_list
-returns-in_default-split_first_mut-clause-series_list g t c = same_series_list c.args.rollups.now
+pub returns-in_default-split_first_mut-clause-kept : goal.returns-in_default-split_first_mut-clause-kept
+returns-in_default-split_first_mut-clause-kept g t c = grids_kept c.args.rollups.now
 
 pub returns-in_default-split_first_mut-clause-cells : goal.returns-in_default-split_first_mut-clause-cells
 returns-in_default-split_first_mut-clause-cells g t c = λ cs before f time value each once a put live.
     nowhere_put c.args.rules.now f (facts_of (with_points cs (point_maps c.args.columns.now))) c.args.rollups.now c.in_default-split_first_mut.ensures.cases
 
-pub returns-in-Some-split_first_mut-clause-series_list : goal.returns-in-Some-split_first_mut-clause-series_list
-returns-in-Some-split_first_mut-clause-series_list g t c =
-    series_list_more c.in-Some-split_first_mut.rollup.now c.update_cell.new.rollup c.in-Some-split_first_mut.rollups.now c.update_cells.new.rollups c.args.rollups.now c.in-Some-split_first_mut.ensures.cases.0 c.update_cell.ensures.series_list c.update_cells.ensures.series_list
+pub returns-in-Some-split_first_mut-clause-kept : goal.returns-in-Some-split_first_mut-clause-kept
+returns-in-Some-split_first_mut-clause-kept g t c =
+    grids_kept_more c.in-Some-split_first_mut.rollup.now c.update_cell.new.rollup c.in-Some-split_first_mut.rollups.now c.update_cells.new.rollups c.args.rollups.now c.in-Some-split_first_mut.ensures.cases.0 c.update_cell.ensures.kept c.update_cells.ensures.kept
 
 pub returns-in-Some-split_first_mut-clause-cells : goal.returns-in-Some-split_first_mut-clause-cells
 returns-in-Some-split_first_mut-clause-cells g t c = λ cs before f time value each once a put live.
@@ -39,5 +39,5 @@ pub update_cells-requires : goal.update_cells-requires
 update_cells-requires g t c κs within =
     let longer : length c.args.rules.now ≡ suc (length c.in-Some.rules.now) = ap length c.in-Some.ensures.cases.0 in
     let intervals = subst (AllByRecursion (λ (r : Rule). pos 1 ≤ℤ r.interval)) c.in-Some.ensures.cases.0 c.requires.intervals in
-    let each = subst (AllByRecursion (λ (s : RollupState). length s.series_list ≡ length c.args.columns.now)) c.in-Some-split_first_mut.ensures.cases.0 c.requires.each in
+    let each = subst (AllByRecursion (λ (s : RollupState). length s.series_of_column ≡ length c.args.columns.now)) c.in-Some-split_first_mut.ensures.cases.0 c.requires.each in
     (omega arith, (within, (intervals.1, (c.requires.column, (each.1, c.requires.few)))))

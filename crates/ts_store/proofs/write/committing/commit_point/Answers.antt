@@ -4,7 +4,7 @@ use Rattle.ts_core.specs.store.StoreStates.{facts_of}
 use Rattle.ts_store.specs.store.ColumnStates.{with_points, point_maps}
 use Rattle.ts_store.specs.rollup.Rollups.{RollupState, rollup_series_at}
 use Rattle.ts_store.proofs.write.PointsPut.{ready_staged, now_committed, unrolled_put, inside_each}
-use Rattle.ts_store.proofs.retain.RollupExpiry.{same_series_list}
+use Rattle.ts_store.proofs.retain.RollupExpiry.{grids_kept}
 use Rattle.ts_store.proofs.write.committing.commit_point.Goals as goal
 
 pub is_rolled-requires : goal.is_rolled-requires
@@ -17,8 +17,8 @@ pub returns-else-is_rolled-clause-columns : goal.returns-else-is_rolled-clause-c
 returns-else-is_rolled-clause-columns g c =
     now_committed c.args.columns.now.items c.args.column c.number-else-is_rolled.result c.index_mut.result.now c.requires.ready c.number-else-is_rolled.ensures c.index_mut.ensures.value c.commit.new.self c.commit.ensures.put c.commit.ensures.none_staged
 
-pub returns-else-is_rolled-clause-series_list : goal.returns-else-is_rolled-clause-series_list
-returns-else-is_rolled-clause-series_list g c = same_series_list c.args.rollups.now
+pub returns-else-is_rolled-clause-kept : goal.returns-else-is_rolled-clause-kept
+returns-else-is_rolled-clause-kept g c = grids_kept c.args.rollups.now
 
 pub returns-else-is_rolled-clause-cells : goal.returns-else-is_rolled-clause-cells
 returns-else-is_rolled-clause-cells g c = λ cs f time value each once a staged live.

@@ -6,8 +6,8 @@ use Rattle.ts_raw.specs.Columns.{ColumnState}
 use Rattle.ts_store.specs.store.ColumnStates.{with_points, point_maps, all_committed, AreReady}
 use Rattle.ts_store.specs.read.PointsRead.{number_of_points}
 use Rattle.ts_store.specs.rollup.Rollups.{RollupState, cells_of}
-use Rattle.ts_store.proofs.write.PointsPut.{PutsRest, next_ready, rest_put, rest_done, none_left, none_committed, series_list_then, wide_still}
-use Rattle.ts_store.proofs.retain.RollupExpiry.{same_series_list}
+use Rattle.ts_store.proofs.write.PointsPut.{PutsRest, next_ready, rest_put, rest_done, none_left, none_committed, grids_kept_then, wide_still}
+use Rattle.ts_store.proofs.retain.RollupExpiry.{grids_kept}
 use Rattle.ts_store.proofs.write.committing.commit_points.Goals as goal
 
 pub loop-number-init : goal.loop-number-init
@@ -23,7 +23,7 @@ loop-number-init g c =
       same = ap length values ∙ c.requires.fields ∙ ap length (sym ids);
       long = refl;
       columns = ap (all_committed ss) ids;
-      series_list = same_series_list us;
+      kept = grids_kept us;
       cells = λ cs after ends once rest.
           subst (λ (ms : List ℕ). PutsRest c.args.rules.now c.args.time ms c.args.fields.now cs ss us after ends) ids
           (subst (λ (xs : List (LinePart × ℤ)). PutsRest c.args.rules.now c.args.time ns xs cs ss us after ends) values rest);
@@ -36,8 +36,8 @@ commit_point-requires-clause-ready g c =
 
 pub commit_point-requires-clause-each : goal.commit_point-requires-clause-each
 commit_point-requires-clause-each g c =
-    wide_still (length c.loop-number.columns.items) c.args.rollups.now c.loop-number.rollups c.loop-number.invariant.series_list
-    (subst (λ n. AllByRecursion (λ (s : RollupState). length s.series_list ≡ n) c.args.rollups.now) (sym c.loop-number.invariant.long) c.requires.each)
+    wide_still (length c.loop-number.columns.items) c.args.rollups.now c.loop-number.rollups c.loop-number.invariant.kept
+    (subst (λ n. AllByRecursion (λ (s : RollupState). length s.series_of_column ≡ n) c.args.rollups.now) (sym c.loop-number.invariant.long) c.requires.each)
 
 pub commit_point-requires-clause-few : goal.commit_point-requires-clause-few
 commit_point-requires-clause-few g c =
@@ -70,9 +70,9 @@ loop-number-preserved g c =
       same = omega (arith, longer, wider, c.loop-number.invariant.same);
       long = next.1 ∙ c.loop-number.invariant.long;
       columns = ap (λ (zs : List ColumnState). all_committed zs ns) c.commit_point.ensures.columns ∙ sym (ap (all_committed ss) ids) ∙ c.loop-number.invariant.columns;
-      series_list = series_list_then c.args.rollups.now us us' c.loop-number.invariant.series_list c.commit_point.ensures.series_list;
+      kept = grids_kept_then c.args.rollups.now us us' c.loop-number.invariant.kept c.commit_point.ensures.kept;
       cells = λ cs after ends once others. c.loop-number.invariant.cells cs after ends once
-          (rest_put c.args.rules.now c.args.time cs ss ss' us us' n ns ns' x xs xs' (to_z w64 (of_z w64 c.value.result)) after ends ids values value c.commit_point.ensures.columns c.commit_point.ensures.series_list next.3 once
+          (rest_put c.args.rules.now c.args.time cs ss ss' us us' n ns ns' x xs xs' (to_z w64 (of_z w64 c.value.result)) after ends ids values value c.commit_point.ensures.columns c.commit_point.ensures.kept next.3 once
           (λ f at of each have first live. c.commit_point.ensures.cells cs f at of each once have first live) others);
     }
 

@@ -17,7 +17,7 @@ invariant-loop-number g l = record {
   same : length l.number-iterator.b.rest.now ≡ length l.number-iterator.a.rest.now;
   long : length l.columns.items ≡ length l.initial.columns.items;
   columns : all_committed l.columns.items l.number-iterator.a.rest.now ≡ all_committed l.initial.columns.items l.numbers;
-  series_list : l.rollups ≡ with_all_grid_cells (cells_of l.rollups) l.initial.rollups;
+  kept : l.rollups ≡ with_all_grid_cells (cells_of l.rollups) l.initial.rollups;
   cells : (cs : List Column) (after : List ColumnPoints) (ends : List CellMap) → AllDistinct cs
       → PutsRest l.rules l.time l.number-iterator.a.rest.now l.number-iterator.b.rest.now cs l.columns.items l.rollups after ends
       → PutsRest l.rules l.time l.numbers l.fields cs l.initial.columns.items l.initial.rollups after ends;

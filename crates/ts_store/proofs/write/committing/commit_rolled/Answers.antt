@@ -17,7 +17,7 @@ commit-requires g c = ready_staged c.args.columns.now.items c.args.column c.numb
 pub update_cells-requires-clause-each : goal.update_cells-requires-clause-each
 update_cells-requires-clause-each g c =
     let long : length c.as_slice.result.now ≡ length c.args.columns.now.items = ap length c.as_slice.ensures.value ∙ length-set c.args.columns.now.items c.number-2.result c.commit.new.self in
-    subst (λ n. AllByRecursion (λ (s : RollupState). length s.series_list ≡ n) c.args.rollups.now) (sym long) c.requires.each
+    subst (λ n. AllByRecursion (λ (s : RollupState). length s.series_of_column ≡ n) c.args.rollups.now) (sym long) c.requires.each
 
 pub update_cells-requires-clause-few : goal.update_cells-requires-clause-few
 update_cells-requires-clause-few g c =

@@ -10,5 +10,5 @@ loop-column-preserved g c =
     let ns : List ℕ = c.args.touched.now in
     let k : ℕ = c.loop-column.column-index in
     let n : c.column-item.result ≡ get_or ns k 0 = c.column-item.is ∙ get_or_default ns k c.column-item.result 0 c.loop-column-test.true in
-    let next = next_roomed c.args.rollup.now c.loop-column.rollup c.make_room.new.self (to_z w128 (of_z w128 c.index_of-index.result)) ns k c.column-item.result c.loop-column-test.true n c.in_ok-make_room.ensures.ok i.series_list i.made in
-    record { above = i.above; series_list = next.0; made = next.1 }
+    let next = next_roomed c.args.rollup.now c.loop-column.rollup c.make_room.new.self (to_z w128 (of_z w128 c.index_of-index.result)) ns k c.column-item.result c.loop-column-test.true n c.in_ok-make_room.ensures.ok i.kept i.made in
+    record { above = i.above; kept = next.0; made = next.1 }

@@ -6,6 +6,6 @@ use Rattle.ts_store.proofs.write.creating.create_cells_under.Given as goal
 abbrev pub invariant-loop-column : goal.invariant-loop-column
 invariant-loop-column g l = record {
   above : l.low ≤ℤ l.index;
-  series_list : l.rollup ≡ with_grid_cells l.rollup.grid.cells l.initial.rollup;
+  kept : l.rollup ≡ with_grid_cells l.rollup.grid.cells l.initial.rollup;
   made : l.rollup ≡ cells_created_for l.index (take l.column-index l.touched) l.initial.rollup;
 }

@@ -23,7 +23,7 @@ pub returns-clause-rollups : goal.returns-clause-rollups
 returns-clause-rollups g c = λ rules h.
     let us : List RollupState = c.self.inside.rollups.items in
     let shown : us ≡ c.args.self.now.rollups = ap (λ (h : StoreContent). h.rollups) c.self.view_is in
-    rollups-set rules (map column_of c.args.self.now.columns) us c.args.rule c.index_mut.result.now c.add_cell.new.self c.index_mut.ensures.value c.add_cell.ensures.made c.add_cell.ensures.series_list
+    rollups-set rules (map column_of c.args.self.now.columns) us c.args.rule c.index_mut.result.now c.add_cell.new.self c.index_mut.ensures.value c.add_cell.ensures.made c.add_cell.ensures.kept
     (subst (AreRollups rules (map column_of c.args.self.now.columns)) (sym shown) h)
 
 pub returns-clause-ok : goal.returns-clause-ok

@@ -27,13 +27,13 @@ returns-clause-none g c =
       subst (λ (ss : List RollupState). AreAbove c.args.lows.now (cells_of ss)) (rollups g c) h.1,
     )) c.expire_first.ensures.none
 
-pub returns-clause-series_list : goal.returns-clause-series_list
-returns-clause-series_list g c =
+pub returns-clause-kept : goal.returns-clause-kept
+returns-clause-kept g c =
     let before : List RollupState = c.self.inside.rollups.items in
     let after : List RollupState = (with_items c.self.inside.rollups c.expire_first.new.rollups).items in
     let is : after ≡ c.expire_first.new.rollups = written g c in
-    let series_list : after ≡ with_all_grid_cells (cells_of after) before = is ∙ c.expire_first.ensures.series_list ∙ ap₂ (λ us ss. with_all_grid_cells (cells_of us) ss) (sym is) c.as_mut_slice.ensures.value in
-    (λ i. record { series = c.self.inside.index.series; columns = columns_in c.self.inside.index c.self.inside.columns.items; rollups = series_list i }) ∙ ap (content_with_cells (cells_of after)) c.self.view_is
+    let kept : after ≡ with_all_grid_cells (cells_of after) before = is ∙ c.expire_first.ensures.kept ∙ ap₂ (λ us ss. with_all_grid_cells (cells_of us) ss) (sym is) c.as_mut_slice.ensures.value in
+    (λ i. record { series = c.self.inside.index.series; columns = columns_in c.self.inside.index c.self.inside.columns.items; rollups = kept i }) ∙ ap (content_with_cells (cells_of after)) c.self.view_is
 
 pub returns-clause-some : goal.returns-clause-some
 returns-clause-some g c =

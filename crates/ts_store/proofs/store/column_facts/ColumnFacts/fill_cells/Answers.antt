@@ -20,14 +20,14 @@ use Rattle.ts_store.proofs.store.column_facts.ColumnFacts.fill_cells.Goals as go
 
 -- each rollup has as many columns as there are
 wide : (rules : List Rule) (index : Indexed) (ss lent : List ColumnState) (us : List RollupState) (held : StoreContent) → IsSoundContent index ss → content_of index ss us ≡ held → lent ≡ ss → AreRollups rules (map column_of held.columns) held.rollups
-    → AllByRecursion (λ (s : RollupState). length s.series_list ≡ length lent) us
+    → AllByRecursion (λ (s : RollupState). length s.series_of_column ≡ length lent) us
 wide rules index ss lent us held kept is same rollups =
     let shown : AreRollups rules (map column_of (columns_in index ss)) us = subst (λ (h : StoreContent). AreRollups rules (map column_of h.columns) h.rollups) (sym is) rollups in
     wide_of rules index.columns (length lent) us (subst (λ (cs : List Column). AreRollups rules cs us) (names_held index ss kept.each) shown) (ap (λ (xs : List ColumnState). length xs) same ∙ kept.each)
 
 pub make_all_cells-requires-clause-each : goal.make_all_cells-requires-clause-each
 make_all_cells-requires-clause-each g c =
-    subst (AllByRecursion (λ (s : RollupState). length s.series_list ≡ length c.as_slice-columns.result.now)) (sym c.as_mut_slice.ensures.value)
+    subst (AllByRecursion (λ (s : RollupState). length s.series_of_column ≡ length c.as_slice-columns.result.now)) (sym c.as_mut_slice.ensures.value)
     (wide c.args.rules.now c.self.inside.index c.self.inside.columns.items c.as_slice-columns.result.now c.self.inside.rollups.items c.args.self.now c.self.invariant c.self.view_is c.as_slice-columns.ensures.value c.requires.rollups)
 
 pub add_all_points-requires-clause-each : goal.add_all_points-requires-clause-each
@@ -36,9 +36,9 @@ add_all_points-requires-clause-each g c =
     let vs : List RollupState = c.make_all_cells.new.rollups in
     let counted = c.self.inside.rollups.ok.0 in
     let long : length vs ≡ c.self.inside.rollups.len = cc (c.make_all_cells.auto.rollups, c.as_mut_slice.ensures.value, counted) in
-    let series_list : vs ≡ with_all_grid_cells (cells_of vs) us = subst (λ (xs : List RollupState). vs ≡ with_all_grid_cells (cells_of vs) xs) c.as_mut_slice.ensures.value c.make_all_cells.ensures.series_list in
-    subst (AllByRecursion (λ (s : RollupState). length s.series_list ≡ length c.as_slice-columns.result.now)) (sym (c.as_mut_slice-2.ensures.value ∙ with_items_is c.self.inside.rollups vs long))
-    (wide_still (length c.as_slice-columns.result.now) us vs series_list
+    let kept : vs ≡ with_all_grid_cells (cells_of vs) us = subst (λ (xs : List RollupState). vs ≡ with_all_grid_cells (cells_of vs) xs) c.as_mut_slice.ensures.value c.make_all_cells.ensures.kept in
+    subst (AllByRecursion (λ (s : RollupState). length s.series_of_column ≡ length c.as_slice-columns.result.now)) (sym (c.as_mut_slice-2.ensures.value ∙ with_items_is c.self.inside.rollups vs long))
+    (wide_still (length c.as_slice-columns.result.now) us vs kept
     (wide c.args.rules.now c.self.inside.index c.self.inside.columns.items c.as_slice-columns.result.now us c.args.self.now c.self.invariant c.self.view_is c.as_slice-columns.ensures.value c.requires.rollups))
 
 pub add_all_points-requires-clause-few : goal.add_all_points-requires-clause-few
@@ -63,8 +63,8 @@ returns g c =
     let between : c.as_mut_slice-2.result.now ≡ vs = c.as_mut_slice-2.ensures.value ∙ written in
     let longer : length ws ≡ c.self.inside.rollups.len = c.add_all_points.auto.rollups ∙ ap (λ (xs : List RollupState). length xs) between ∙ long in
     let lent : c.as_slice-columns.result.now ≡ ss = c.as_slice-columns.ensures.value in
-    let one : vs ≡ with_all_grid_cells (cells_of vs) us = subst (λ (xs : List RollupState). vs ≡ with_all_grid_cells (cells_of vs) xs) c.as_mut_slice.ensures.value c.make_all_cells.ensures.series_list in
-    let two : ws ≡ with_all_grid_cells (cells_of ws) vs = subst (λ (xs : List RollupState). ws ≡ with_all_grid_cells (cells_of ws) xs) between c.add_all_points.ensures.series_list in
+    let one : vs ≡ with_all_grid_cells (cells_of vs) us = subst (λ (xs : List RollupState). vs ≡ with_all_grid_cells (cells_of vs) xs) c.as_mut_slice.ensures.value c.make_all_cells.ensures.kept in
+    let two : ws ≡ with_all_grid_cells (cells_of ws) vs = subst (λ (xs : List RollupState). ws ≡ with_all_grid_cells (cells_of ws) xs) between c.add_all_points.ensures.kept in
     let make : Makes rs lows vs ss us = subst (λ (xs : List ColumnState). Makes rs lows vs xs us) lent (subst (Makes rs lows vs c.as_slice-columns.result.now) c.as_mut_slice.ensures.value c.in_ok-make_all_cells.ensures.cells) in
     let frozen : KeepFrozen (cells_of vs) (cells_of ws) = subst (λ (xs : List RollupState). KeepFrozen (cells_of xs) (cells_of ws)) between c.add_all_points.ensures.frozen in
     let add : Adds rs ws ss vs = subst (λ (xs : List ColumnState). Adds rs ws xs vs) lent (subst (Adds rs ws c.as_slice-columns.result.now) between c.add_all_points.ensures.live) in

@@ -90,8 +90,8 @@ commit_points-requires-clause-each g c =
     let lent : c.as_mut_slice-2.result.now ≡ us = c.as_mut_slice-2.ensures.value ∙ with_items_is c.self.inside.rollups us long in
     let still : length c.create_cells.new.rollups ≡ c.self.inside.rollups.len = omega (arith, c.create_cells.auto.rollups, ap length lent, long) in
     let lent' : c.as_mut_slice-3.result.now ≡ c.create_cells.new.rollups = c.as_mut_slice-3.ensures.value ∙ with_items_is (with_items c.self.inside.rollups us) c.create_cells.new.rollups still in
-    let have : AreRollups c.args.rules.now cs c.create_cells.new.rollups = rollups_stay c.args.rules.now cs us c.create_cells.new.rollups c.prepare_line.ensures.rollups (subst (λ (xs : List RollupState). KeepRollupSeries xs c.create_cells.new.rollups) lent c.create_cells.ensures.series_list) in
-    subst (AllByRecursion (λ (s : RollupState). length s.series_list ≡ length ss)) (sym lent') (wide_of c.args.rules.now cs (length ss) c.create_cells.new.rollups have c.prepare_line.ensures.line.held.each)
+    let have : AreRollups c.args.rules.now cs c.create_cells.new.rollups = rollups_stay c.args.rules.now cs us c.create_cells.new.rollups c.prepare_line.ensures.rollups (subst (λ (xs : List RollupState). KeepRollupSeries xs c.create_cells.new.rollups) lent c.create_cells.ensures.kept) in
+    subst (AllByRecursion (λ (s : RollupState). length s.series_of_column ≡ length ss)) (sym lent') (wide_of c.args.rules.now cs (length ss) c.create_cells.new.rollups have c.prepare_line.ensures.line.held.each)
 
 pub commit_points-requires-clause-few : goal.commit_points-requires-clause-few
 commit_points-requires-clause-few g c =
@@ -147,14 +147,14 @@ returns-clause-ok g c =
     let gains' : OfEachRule (GainsCells (line_facts p)) rs lows (cells_of c.args.self.now.rollups) (cells_of vs) = line_gains rs lows cs ss p c.time.result ns (cells_of c.args.self.now.rollups) us vs c.prepare_line.ensures.rollups staged c.time.ensures
     (c.prepare_line.ensures.cells ∙ ap cells_of (c.as_mut_slice.ensures.value ∙ ap (λ (h : StoreContent). h.rollups) c.self.view_is))
     (all_gained rs lows c.time.result ns us vs (c.in_ok-create_cells.ensures.ok ∙ (λ i. cells_created_under rs lows c.time.result (c.as_slice.ensures.value i) (lent i)))) in
-    let have : AreRollups rs cs vs = rollups_stay rs cs us vs c.prepare_line.ensures.rollups (subst (λ (xs : List RollupState). KeepRollupSeries xs vs) lent c.create_cells.ensures.series_list) in
+    let have : AreRollups rs cs vs = rollups_stay rs cs us vs c.prepare_line.ensures.rollups (subst (λ (xs : List RollupState). KeepRollupSeries xs vs) lent c.create_cells.ensures.kept) in
     let live : AreLive (with_points cs (point_maps ss)) rs (cells_of vs) =
     live_same old (with_points cs (point_maps ss)) (sym (ap facts_of made ∙ same_facts old (new_columns (map column_of old) (line_facts p)))) rs (cells_of vs) (c.requires.live (line_facts p) (cells_of vs) has_cells) in
     let fields : AreOfFields c.time-2.result c.fields-2.result.now (line_facts p) = subst (λ (xs : List (LinePart × ℤ)). AreOfFields c.time-2.result xs (line_facts p)) (sym c.fields-2.ensures.value) (of_fields p c.time-2.result (sym c.time-2.ensures) p.fields) in
     let puts : PutsFacts rs (with_points cs (point_maps ss)) (cells_of c.as_mut_slice-3.result.now) (with_points cs (point_maps c.commit_points.new.columns.items)) (cells_of ws) (line_facts p) =
     c.commit_points.ensures.cells cs (line_facts p) fields c.prepare_line.ensures.line.held.each c.prepare_line.ensures.line.held.sound.columns_once (subst (AreRollups rs cs) (sym lent') have)
     (subst (λ (ms : List ℕ). AreStaged cs ss ms (line_facts p)) (sym c.as_slice-2.ensures.value) staged) (subst (λ (xs : List RollupState). AreLive (with_points cs (point_maps ss)) rs (cells_of xs)) (sym lent') live) in
-    let series_list : ws ≡ with_all_grid_cells (cells_of ws) vs = c.commit_points.ensures.series_list ∙ ap (with_all_grid_cells (cells_of ws)) lent' in
+    let kept : ws ≡ with_all_grid_cells (cells_of ws) vs = c.commit_points.ensures.kept ∙ ap (with_all_grid_cells (cells_of ws)) lent' in
     let each : length c.commit_points.new.columns.items ≡ length cs = ap length c.commit_points.ensures.columns ∙ all_committed-length ss c.as_slice-2.result.now ∙ c.prepare_line.ensures.line.held.each in
     let facts : PutsFacts rs (with_columns old (new_columns (map column_of old) (line_facts p))) (cells_of vs) (with_points cs (point_maps c.commit_points.new.columns.items)) (cells_of (with_items (with_items (with_items c.self.inside.rollups us) vs) ws).items) (line_facts p) =
     subst (λ (xs : List RollupState). PutsFacts rs (with_columns old (new_columns (map column_of old) (line_facts p))) (cells_of vs) (with_points cs (point_maps c.commit_points.new.columns.items)) (cells_of xs) (line_facts p)) (sym written)
@@ -168,7 +168,7 @@ returns-clause-ok g c =
       taken = c.in_ok-prepare_line.ensures.line.taken;
       known = known_of c.prepare_line.new.index c.commit_points.new.columns.items _ (record { sound = c.prepare_line.ensures.line.held.sound; each = each });
       rollups = subst (λ (xs : List RollupState). AreRollups rs (map column_of (columns_in c.prepare_line.new.index c.commit_points.new.columns.items)) xs) (sym written)
-          (rollups_held rs c.prepare_line.new.index c.commit_points.new.columns.items ws each (subst (AreRollups rs cs) (sym series_list) (rollups_with rs cs (cells_of ws) vs have)));
+          (rollups_held rs c.prepare_line.new.index c.commit_points.new.columns.items ws each (subst (AreRollups rs cs) (sym kept) (rollups_with rs cs (cells_of ws) vs have)));
       has_cells = has_cells;
       cells = line_cells rs lows (line_facts p) (with_columns old (new_columns (map column_of old) (line_facts p))) (columns_in c.prepare_line.new.index c.commit_points.new.columns.items) (cells_of c.args.self.now.rollups) (cells_of vs)
           _ gains' has_cells facts;
@@ -183,8 +183,8 @@ create_cells-requires-clause-inside g c =
     let lent : c.as_mut_slice-2.result.now ≡ c.prepare_line.new.rollups = c.as_mut_slice-2.ensures.value ∙ written in
     let inside = numbers_inside c.args.rules.now cs c.prepare_line.new.rollups ns c.prepare_line.ensures.rollups
     (staged_inside cs c.prepare_line.new.columns.items ns (line_facts c.args.line.now) c.in_ok-prepare_line.ensures.line.staged) in
-    subst (λ (us : List RollupState). AllByRecursion (λ (s : RollupState). AllByRecursion (λ n. n < length s.series_list) c.as_slice.result.now) us) (sym lent)
-    (subst (λ (ks : List ℕ). AllByRecursion (λ (s : RollupState). AllByRecursion (λ n. n < length s.series_list) ks) c.prepare_line.new.rollups) (sym c.as_slice.ensures.value) inside)
+    subst (λ (us : List RollupState). AllByRecursion (λ (s : RollupState). AllByRecursion (λ n. n < length s.series_of_column) c.as_slice.result.now) us) (sym lent)
+    (subst (λ (ks : List ℕ). AllByRecursion (λ (s : RollupState). AllByRecursion (λ n. n < length s.series_of_column) ks) c.prepare_line.new.rollups) (sym c.as_slice.ensures.value) inside)
 
 pub prepare_line-requires-clause-rollups : goal.prepare_line-requires-clause-rollups
 prepare_line-requires-clause-rollups g c =
@@ -244,7 +244,7 @@ returns-in_err-create_cells-clause-err g c =
     (grown c.args.rules.now c.args.lows.now c.args.line.now c.args.key.now c.args.self.now c.self.inside.index c.register.new.self c.prepare_line.new.index c.self.inside.columns.items c.prepare_line.new.columns.items c.self.inside.rollups.items us
     (with_items (with_items c.self.inside.rollups c.prepare_line.new.rollups) us).items c.requires.key c.self.view_is (inr c.in-Ok.ensures.registered.gains) c.register.ensures.columns c.prepare_line.ensures.line.series c.prepare_line.ensures.line.made
     c.prepare_line.ensures.line.held (with_items_is (with_items c.self.inside.rollups c.prepare_line.new.rollups) us still)
-    (rollups_stay c.args.rules.now c.prepare_line.new.index.columns c.prepare_line.new.rollups us c.prepare_line.ensures.rollups (subst (λ (xs : List RollupState). KeepRollupSeries xs us) lent c.create_cells.ensures.series_list))
+    (rollups_stay c.args.rules.now c.prepare_line.new.index.columns c.prepare_line.new.rollups us c.prepare_line.ensures.rollups (subst (λ (xs : List RollupState). KeepRollupSeries xs us) lent c.create_cells.ensures.kept))
     (subst (λ (ms : List CellMap). GainEmptyCells c.args.rules.now c.args.lows.now [] ms (cells_of us)) before (part_rooms c.args.rules.now c.args.lows.now c.time.result ns c.prepare_line.new.rollups us part))
     (line_gains c.args.rules.now c.args.lows.now c.prepare_line.new.index.columns c.prepare_line.new.columns.items c.args.line.now c.time.result ns (cells_of c.self.inside.rollups.items) c.prepare_line.new.rollups us c.prepare_line.ensures.rollups
     c.in_ok-prepare_line.ensures.line.staged c.time.ensures before part) (inr c.in_ok-prepare_line.ensures.line.taken))

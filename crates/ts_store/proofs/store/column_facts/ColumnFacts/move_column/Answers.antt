@@ -33,7 +33,7 @@ move_all-requires-clause-each g c =
     let lent = ap length c.as_slice-columns.ensures.value in
     let same : c.args.self.now.rollups ≡ c.as_mut_slice.result.now = sym (c.as_mut_slice.ensures.value ∙ ap (λ (h : StoreContent). h.rollups) c.self.view_is) in
     let names : length (map column_of c.args.self.now.columns) ≡ length c.self.inside.index.columns = ap (λ (h : StoreContent). length (map column_of h.columns)) (sym c.self.view_is) ∙ ap length (names_held c.self.inside.index ss c.self.invariant.each) in
-    subst (AllByRecursion (λ (s : RollupState). length s.series_list ≡ length c.as_slice-columns.result.now)) same
+    subst (AllByRecursion (λ (s : RollupState). length s.series_of_column ≡ length c.as_slice-columns.result.now)) same
     (wide_of c.args.rules.now (map column_of c.args.self.now.columns) (length c.as_slice-columns.result.now) c.args.self.now.rollups c.requires.rollups (lent ∙ c.self.invariant.each ∙ sym names))
 
 pub move_all-requires-clause-few : goal.move_all-requires-clause-few

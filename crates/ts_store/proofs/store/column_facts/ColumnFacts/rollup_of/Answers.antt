@@ -47,9 +47,9 @@ add_all_points-requires-clause-each g c =
     let counted = c.in_ok-rollups.rollups.ok.0 in
     let long : length vs ≡ c.in_ok-rollups.rollups.len = cc (c.make_all_cells.auto.rollups, c.as_mut_slice.ensures.value, counted) in
     let lent : n ≡ length c.self.inside.columns.items = ap (λ (xs : List ColumnState). length xs) c.as_slice-columns.ensures.value in
-    let series_list : vs ≡ with_all_grid_cells (cells_of vs) us = subst (λ (xs : List RollupState). vs ≡ with_all_grid_cells (cells_of vs) xs) c.as_mut_slice.ensures.value c.make_all_cells.ensures.series_list in
-    subst (AllByRecursion (λ (u : RollupState). length u.series_list ≡ n)) (sym (c.as_mut_slice-2.ensures.value ∙ with_items_is c.in_ok-rollups.rollups vs long))
-    (wide_still n us vs series_list (alone_wide n s us c.in_ok-rollups.ensures (c.in_ok-rollup_over.ensures.many ∙ sym c.self.invariant.each ∙ sym lent)))
+    let kept : vs ≡ with_all_grid_cells (cells_of vs) us = subst (λ (xs : List RollupState). vs ≡ with_all_grid_cells (cells_of vs) xs) c.as_mut_slice.ensures.value c.make_all_cells.ensures.kept in
+    subst (AllByRecursion (λ (u : RollupState). length u.series_of_column ≡ n)) (sym (c.as_mut_slice-2.ensures.value ∙ with_items_is c.in_ok-rollups.rollups vs long))
+    (wide_still n us vs kept (alone_wide n s us c.in_ok-rollups.ensures (c.in_ok-rollup_over.ensures.many ∙ sym c.self.invariant.each ∙ sym lent)))
 
 pub add_all_points-requires-clause-few : goal.add_all_points-requires-clause-few
 add_all_points-requires-clause-few g c =
@@ -86,8 +86,8 @@ returns g c =
     let longer : length ws ≡ c.in_ok-rollups.rollups.len = c.add_all_points.auto.rollups ∙ ap (λ (xs : List RollupState). length xs) between ∙ long in
     let begins : c.as_mut_slice.result.now ≡ s ∷ [] = c.as_mut_slice.ensures.value ∙ single in
     let lent : c.as_slice-columns.result.now ≡ ss = c.as_slice-columns.ensures.value in
-    let one : vs ≡ with_all_grid_cells (cells_of vs) (s ∷ []) = subst (λ (xs : List RollupState). vs ≡ with_all_grid_cells (cells_of vs) xs) begins c.make_all_cells.ensures.series_list in
-    let two : ws ≡ with_all_grid_cells (cells_of ws) vs = subst (λ (xs : List RollupState). ws ≡ with_all_grid_cells (cells_of ws) xs) between c.add_all_points.ensures.series_list in
+    let one : vs ≡ with_all_grid_cells (cells_of vs) (s ∷ []) = subst (λ (xs : List RollupState). vs ≡ with_all_grid_cells (cells_of vs) xs) begins c.make_all_cells.ensures.kept in
+    let two : ws ≡ with_all_grid_cells (cells_of ws) vs = subst (λ (xs : List RollupState). ws ≡ with_all_grid_cells (cells_of ws) xs) between c.add_all_points.ensures.kept in
     let make : Makes (r ∷ []) (low ∷ []) vs ss (s ∷ []) =
     subst (λ (qs : List Rule). Makes qs (low ∷ []) vs ss (s ∷ [])) one_rule
     (subst (λ (ls : List ℤ). Makes c.as_slice.result.now ls vs ss (s ∷ [])) one_low
