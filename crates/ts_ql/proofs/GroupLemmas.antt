@@ -7,7 +7,7 @@ use Rattle.std.specs.Ordering.{match_ordering}
 use Rattle.std.specs.declared.cmp.Ordering.{Ordering}
 use Rattle.std.specs.declared.cmp.Ordering.TheVariants.{Less, Equal, Greater}
 use Rattle.ts_core.specs.facts.Facts.{Text, text_cmp}
-use Rattle.ts_ql.specs.Selects.{texts, insert_by, with_text}
+use Rattle.ts_ql.specs.Selects.{texts, insert_by, inserted_text}
 
 abbrev pub name_cmp : {A : Type 0} → String A → String A → Ordering
 name_cmp a b = text_cmp (string_bytes a) (string_bytes b)
@@ -18,10 +18,10 @@ placed_by Less name first rest inserted more e = refl
 placed_by Equal name first rest inserted more e = refl
 placed_by Greater name first rest inserted more e = ap (λ (l : List Text). string_bytes first ∷ l) e
 
-pub texts_insert : {A : Type 0} (names : List (String A)) (name : String A) → texts (insert_key name_cmp names name) ≡ with_text (string_bytes name) (texts names)
+pub texts_insert : {A : Type 0} (names : List (String A)) (name : String A) → texts (insert_key name_cmp names name) ≡ inserted_text (string_bytes name) (texts names)
 texts_insert [] name = refl
 texts_insert (first ∷ rest) name =
-    placed_by (name_cmp name first) name first rest (insert_key name_cmp rest name) (with_text (string_bytes name) (texts rest)) (texts_insert rest name)
+    placed_by (name_cmp name first) name first rest (insert_key name_cmp rest name) (inserted_text (string_bytes name) (texts rest)) (texts_insert rest name)
 
 names_after : {A : Type 0} (name : String A) (rest : List (String A)) → AllByRecursion (λ other. name_cmp name other ≡ Less) rest → AllByRecursion (λ (text : Text). text_cmp (string_bytes name) text ≡ Less) (texts rest)
 names_after name [] h = tt

@@ -15,7 +15,7 @@ use Rattle.ts_ql.specs.Laws.{Reach, ReadsTokens}
 use Rattle.ts_ql.specs.Literals.{is_word, literal, text_spelled}
 use Rattle.ts_ql.specs.Meanings.{buckets_of, offset_by, after_dimension}
 use Rattle.ts_ql.specs.Reading.{Progress, Advance, with_builder, in_groups}
-use Rattle.ts_ql.specs.Selects.{Select, of_interval, moved, with_text}
+use Rattle.ts_ql.specs.Selects.{Select, of_interval, moved, inserted_text}
 use Rattle.ts_ql.specs.Productions.{literal_fault, again_fault, interval_fault, interval_fault_of, spell_offset, spell_tag_type}
 use Rattle.ts_ql.specs.Tokens.{Lexeme}
 use Rattle.ts_ql.specs.Keywords.{is_time_column}
@@ -87,7 +87,7 @@ timed now s t is (Some b) v = inr refl
 -- the column of time, or a tag
 itemed : (now : ℤ) (s : Progress) (t : Lexeme) → is_name t.kind ≡ true → (b : Bool) → is_time_column t.kind t.text ≡ b
     → Answer now (at states.Item s) t (grouping s states.Item (if b then time_item t s.builder.groups s.builder.groups.buckets
-    else Ok (states.AfterTag, record s.builder.groups { tags = with_text (text_spelled t.text) s.builder.groups.tags })))
+    else Ok (states.AfterTag, record s.builder.groups { tags = inserted_text (text_spelled t.text) s.builder.groups.tags })))
 itemed now s t e true is = timed now s t is s.builder.groups.buckets refl
 itemed now s t e false is = (tt, λ r suits. ((ByTag t r.0, r.1), tt, (λ ts reach w. (refl, (e, is), w)), refl))
 
@@ -199,7 +199,7 @@ name_begins k t g is = absurd (cc)
 -- the step of the name that begins an item: the time column or a tag
 abbrev pub items : Progress → Lexeme → Bool → Advance
 items s t b = grouping s states.Item (if b then time_item t s.builder.groups s.builder.groups.buckets
-    else Ok (states.AfterTag, record s.builder.groups { tags = with_text (text_spelled t.text) s.builder.groups.tags }))
+    else Ok (states.AfterTag, record s.builder.groups { tags = inserted_text (text_spelled t.text) s.builder.groups.tags }))
 
 -- the first time(..) leads on, and another is at fault
 again_leads : (now : ℤ) (s : Progress) (time : Lexeme) (q : Lexeme × (Option Signed × DimensionTail)) (t : Lexeme) (ts : List Lexeme) (reach : Reach) → t ≡ time

@@ -21,7 +21,7 @@ use Rattle.ts_ql.specs.MomentSteps.{moment_at, moment_step, based, later_by, ear
 use Rattle.ts_ql.specs.declared.state.Clause.{Clause}
 use Rattle.ts_ql.specs.declared.state.Clause.TheVariants as clauses
 use Rattle.ts_ql.specs.Reading.{BuilderResult, finish_time_step, in_selection, in_filter, in_moment, in_groups, in_filling, clause_of, builder_at, builder_step, group_alone, fill_alone, clause_at, next_clause, is_end, may_end, Progress, Advance, begun_at, begun, after_end, ended_with, ended, with_builder, clause_or, continued, placed_at, after_finishing_time, step, is_done}
-use Rattle.ts_ql.specs.Selects.{Select, with_text, of_interval}
+use Rattle.ts_ql.specs.Selects.{Select, inserted_text, of_interval}
 use Rattle.ts_ql.specs.SelectSteps.{Selected, select_at, select_step, with_function, with_call_field, with_default}
 use Rattle.ts_ql.specs.Statements.{statement_query}
 use Rattle.ts_ql.specs.Tokenizing.{is_end_of_text}
@@ -132,7 +132,7 @@ time_item_moves k t g None other = sym other
 time_item_moves k t g (Some b) other = tt
 
 item_moves : (k : Kind) (t : Lexeme) (g : Grouped) → is_end_of_text k ≡ false → Moves k (item_at t g)
-item_moves k t g other = moves_if k (is_time_column t.kind t.text) (time_item t g g.buckets) (Ok (states.AfterTag, record g { tags = with_text (text_spelled t.text) g.tags })) (time_item_moves k t g g.buckets other) (sym other)
+item_moves k t g other = moves_if k (is_time_column t.kind t.text) (time_item t g g.buckets) (Ok (states.AfterTag, record g { tags = inserted_text (text_spelled t.text) g.tags })) (time_item_moves k t g g.buckets other) (sym other)
 
 interval_moves : (t : Lexeme) (g : Grouped) (o : Option ℤ) → Moves kinds.Duration (with_interval t g o)
 interval_moves t g None = tt

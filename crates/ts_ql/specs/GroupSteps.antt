@@ -5,7 +5,7 @@ use Rattle.ts_core.specs.facts.Facts.{Text}
 use Rattle.ts_core.specs.declared.queries.fill.Fill.{Fill}
 use Rattle.ts_core.specs.declared.queries.fill.Fill.TheVariants as fills
 use Rattle.ts_core.specs.declared.aggregates.bucket.Buckets.{Buckets}
-use Rattle.ts_ql.specs.Selects.{with_text, of_interval, moved}
+use Rattle.ts_ql.specs.Selects.{inserted_text, of_interval, moved}
 use Rattle.ts_ql.specs.declared.filling.FillClause.{FillClause}
 use Rattle.ts_ql.specs.declared.state.State.{State}
 use Rattle.ts_ql.specs.declared.state.State.TheVariants as states
@@ -40,7 +40,7 @@ time_item t g (Some buckets) = Err (unexpected t)
 abbrev pub item_at : Lexeme → Grouped → Grouping
 item_at t g =
     if is_time_column t.kind t.text then time_item t g g.buckets
-    else Ok (states.AfterTag, record g { tags = with_text (text_spelled t.text) g.tags })
+    else Ok (states.AfterTag, record g { tags = inserted_text (text_spelled t.text) g.tags })
 
 abbrev pub with_interval : Lexeme → Grouped → Option ℤ → Grouping
 with_interval t g None = Err (OutOfRange t.start)

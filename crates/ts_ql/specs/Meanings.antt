@@ -16,7 +16,7 @@ use Rattle.ts_ql.specs.QueryFaults.{Fault}
 use Rattle.ts_ql.specs.Grammar.{Call, FromClause, Measurement, Subquery, Base, Number, Negative, Quoted, Now, Change, Instant, Cond, Compare, Match, Group, And, Signed, Dimension, Every, ByTag, GroupBy, FillOption, NullOption, NoneOption, PreviousOption, NumberOption, Statement, Ending, Stop, RightParen, Next, Script}
 use Rattle.ts_ql.specs.Ranges.{bounded, unbounded}
 use Rattle.ts_ql.specs.Literals.{literal}
-use Rattle.ts_ql.specs.Selects.{Projection, Select, function_name, with_text, of_interval, moved}
+use Rattle.ts_ql.specs.Selects.{Projection, Select, function_name, inserted_text, of_interval, moved}
 use Rattle.ts_ql.specs.Statements.{Meaning, statement_query}
 use Rattle.ts_ql.specs.Tokens.{Lexeme}
 use Rattle.ts_ql.specs.Keywords.{function_called, named}
@@ -133,7 +133,7 @@ offset_by b (Some s) = moved (unwrap_or (signed_value s) (pos 0)) b
 -- tags are sorted in byte order, without duplicates
 abbrev pub after_dimension : Meaning → Dimension → Meaning
 after_dimension p (Every time interval offset) = record p { buckets = offset_by (buckets_of (literal false interval.text)) offset }
-after_dimension p (ByTag tag cast) = record p { tags = with_text (named tag) p.tags }
+after_dimension p (ByTag tag cast) = record p { tags = inserted_text (named tag) p.tags }
 
 abbrev pub after_dimensions : Meaning → List Dimension → Meaning
 after_dimensions p [] = p

@@ -48,6 +48,6 @@ insert_by orders.Less new text rest inserted = new ∷ text ∷ rest
 insert_by orders.Equal new text rest inserted = text ∷ rest
 insert_by orders.Greater new text rest inserted = text ∷ inserted
 
-abbrev pub with_text : Text → List Text → List Text
-with_text new [] = new ∷ []
-with_text new (text ∷ rest) = insert_by (text_cmp new text) new text rest (with_text new rest)
+abbrev pub inserted_text : Text → List Text → List Text
+inserted_text new [] = new ∷ []
+inserted_text new (text ∷ rest) = insert_by (text_cmp new text) new text rest (inserted_text new rest)

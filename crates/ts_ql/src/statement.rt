@@ -21,7 +21,7 @@ use crate::state::{Clause, State};
 use crate::token::{Kind, Token};
 use std::alloc::{AllocError, Allocator};
 use std::collections::BTreeSet;
-use ts_core::{Buckets, Time};
+use ts_core::{Buckets, LEAST_TIME, Time};
 
 /// Builder of a statement.
 #[derive(Drop)]
@@ -72,7 +72,7 @@ fn starts_early(span: &Span, buckets: Buckets) -> bool
     requires { pos 1 ≤ℤ buckets.interval }
     ensures { result ≡ int_lt (first_start span.now.from buckets) least_time }
 {
-    buckets.bucket(i128::from(span.from)).start < -9_223_372_036_854_775_806
+    buckets.bucket(i128::from(span.from)).start < i128::from(LEAST_TIME)
 }
 
 /// Returns true if a non-empty range has more than 10,000 buckets.
