@@ -5,15 +5,16 @@ use Rattle.ts_core.specs.io.Devices.{Input}
 use Rattle.ts_core.specs.io.ReadingAhead.{EndIsEnd}
 use Rattle.ts_image.specs.declared.field_fault.FieldFault.{FieldFault}
 use Rattle.ts_image.specs.declared.field_fault.FieldFault.TheVariants.{Misshapen, Device, TooManyReads, OutOfMemory}
-use Rattle.ts_image.specs.Formats.{Cursor, Read, ◌>>=◌, Format, read_along, along, times}
+use Rattle.ts_core.specs.text.Steps.{◌>>=◌}
+use Rattle.ts_image.specs.Formats.{Cursor, Read, Format, read_along, along, times}
 use Rattle.ts_image.specs.FieldReading.{FieldsRead, cursor_of, IsKnown, CallsSource, GivesReading, ReadsField}
 use Rattle.ts_image.proofs.Fields.{done}
 use Rattle.ts_image.proofs.Loops.{with_front, front_nil, regroup}
 use Rattle.ts_image.proofs.Reading.{fine, faulty, nothing_yet, calls_nothing, calls_more, calls_on, calls_ok, calls_unless}
 
 module _ {X Y : Type 0} (f : Format X) where
-  same_rest : (ys : List Y) (r : Read X) → ((p : Cursor) → read_along (λ (y : Y). f) ys p ≡ read_along (λ (i : ℕ). f) (replicate (length ys) 0) p) → (r >>= λ x. read_along (λ (y : Y). f) ys x.1 >>= λ xs. done (x.0 ∷ xs.0, xs.1)) ≡ (r >>= λ x. read_along (λ (i : ℕ). f) (replicate (length ys) 0) x.1 >>= λ xs. done (x.0 ∷ xs.0, xs.1))
-  same_rest ys (Ok x) h = ap (λ r. r >>= λ xs. done (x.0 ∷ xs.0, xs.1)) (h x.1)
+  same_rest : (ys : List Y) (r : Read X) → ((p : Cursor) → read_along (λ (y : Y). f) ys p ≡ read_along (λ (i : ℕ). f) (replicate (length ys) 0) p) → ◌>>=◌ {B = List X × Cursor} r (λ x. read_along (λ (y : Y). f) ys x.1 >>= λ xs. done (x.0 ∷ xs.0, xs.1)) ≡ ◌>>=◌ {B = List X × Cursor} r (λ x. read_along (λ (i : ℕ). f) (replicate (length ys) 0) x.1 >>= λ xs. done (x.0 ∷ xs.0, xs.1))
+  same_rest ys (Ok x) h = ap (λ (q : Read (List X)). ◌>>=◌ {B = List X × Cursor} q (λ xs. done (x.0 ∷ xs.0, xs.1))) (h x.1)
   same_rest ys (Err n) h = refl
 
   pub same_along : (ys : List Y) (p : Cursor) → read_along (λ (y : Y). f) ys p ≡ read_along (λ (i : ℕ). f) (replicate (length ys) 0) p

@@ -11,7 +11,8 @@ use Rattle.std.proofs.Math.Facts.{sfits_to_z, Fits-of_z, Fits-of_lt, Fits-lt-pow
 use Rattle.std.proofs.lemmas.Nat.{be_bytes_4, be_bytes_8, from_be_bytes-to_be_bytes_4, from_be_bytes-to_be_bytes_8}
 use Rattle.std.proofs.lemmas.Str.{IsUtf8-nil, IsUtf8-from_is_utf8, is_utf8-from_IsUtf8}
 use Rattle.ts_core.specs.facts.Facts.{Text}
-use Rattle.ts_image.specs.Formats.{Cursor, behind, concat, Read, ◌>>=◌, Format, spelling, read_number, number, signed_number, is_text, read_text, text, nothing}
+use Rattle.ts_core.specs.text.Steps.{◌>>=◌}
+use Rattle.ts_image.specs.Formats.{Cursor, behind, concat, Read, Format, spelling, read_number, number, signed_number, is_text, read_text, text, nothing}
 use Rattle.ts_image.specs.FormatLaws.{AreBytes, reach, IsFormat}
 
 pub AreBytes-drop : (n : ℕ) (bytes : List ℕ) → AreBytes bytes → AreBytes (drop n bytes)
@@ -197,11 +198,11 @@ signed_format w wide = field_format (signed_number w) (signed_word w) (record {
         subst (λ (m : ℕ). q.at ≡ p.at + length (to_be_bytes w m)) n-is (subst (λ (x : Cursor). x.at ≡ p.at + length (to_be_bytes w s.0.0)) q-is t.2),
       );
   again = λ p z rest h e.
-      ap (λ r. r >>= λ n. done (cast_signed w n.0, n.1)) (number_again w wide p (cast_unsigned w z) rest (Fits-lt-pow {w = w} (Fits-of_z {w = w} h)) e)
+      ap (λ (r : Read ℕ). ◌>>=◌ {A = ℕ × Cursor} r (λ n. done (cast_signed w n.0, n.1))) (number_again w wide p (cast_unsigned w z) rest (Fits-lt-pow {w = w} (Fits-of_z {w = w} h)) e)
       ∙ ap (λ y. done (y, record { at = p.at + length (signed_word w z); rest = rest })) (to_z-of_z w z h);
   fails = λ p n e.
       ⊎_elim {C = n ≡ p.at} (λ f. number_fails w p n f) (λ s. absurd (done_not_failed (cast_signed w s.0.0, s.0.1) n s.2)) (bind_err (read_number w p) (λ m. done (cast_signed w m.0, m.1)) n e);
-  onward = λ p. elim (ltb (length p.rest) (byte_len w)) as (λ b. p.at ≤ reach (cond b (failed p.at) (done (from_be_bytes w (take (byte_len w) p.rest), behind (byte_len w) p)) >>= λ n. done (cast_signed w n.0, n.1))) [ true ↦ omega arith | false ↦ omega arith ];
+  onward = λ p. elim (ltb (length p.rest) (byte_len w)) as (λ b. p.at ≤ reach (◌>>=◌ {A = ℕ × Cursor} (cond b (failed p.at) (done (from_be_bytes w (take (byte_len w) p.rest), behind (byte_len w) p))) (λ n. done (cast_signed w n.0, n.1)))) [ true ↦ omega arith | false ↦ omega arith ];
 })
 
 abbrev text_word : Text → List ℕ

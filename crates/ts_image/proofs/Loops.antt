@@ -5,7 +5,8 @@ use Rattle.ts_core.specs.io.Devices.{Input}
 use Rattle.ts_core.specs.io.ReadingAhead.{EndIsEnd}
 use Rattle.ts_image.specs.declared.field_fault.FieldFault.{FieldFault}
 use Rattle.ts_image.specs.declared.field_fault.FieldFault.TheVariants.{Misshapen, Device, TooManyReads, OutOfMemory}
-use Rattle.ts_image.specs.Formats.{Cursor, Read, ◌>>=◌, Format, read_along, times}
+use Rattle.ts_core.specs.text.Steps.{◌>>=◌}
+use Rattle.ts_image.specs.Formats.{Cursor, Read, Format, read_along, times}
 use Rattle.ts_image.specs.FieldReading.{FieldsRead, cursor_of, IsKnown, CallsSource, GivesReading, ReadsField}
 use Rattle.ts_image.proofs.Fields.{done}
 use Rattle.ts_image.proofs.Reading.{fine, faulty, nothing_yet, calls_nothing, calls_more, calls_on, calls_ok, calls_unless}

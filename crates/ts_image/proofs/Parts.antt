@@ -2,7 +2,8 @@
 use Rattle.std.proofs.Common.{◌≡◌, ℕ, zero, suc, ◌+◌, ◌≤◌, List, [], ◌∷◌, ◌++◌, length, replicate, Ok, Err, refl, sym, ap, ap₂, subst, ◌∙◌, append_assoc, arith, inl, inr, ◌⊎◌, ⊎_elim}
 use Rattle.std.specs.Int.{Width}
 use Rattle.std.proofs.lemmas.List.{length-append, length-replicate}
-use Rattle.ts_image.specs.Formats.{Cursor, concat, Read, ◌>>=◌, Format, spelling, number, nothing, and, iso, FitAlong, read_along, along, times, list_of}
+use Rattle.ts_core.specs.text.Steps.{◌>>=◌}
+use Rattle.ts_image.specs.Formats.{Cursor, concat, Read, Format, spelling, number, nothing, and, iso, FitAlong, read_along, along, times, list_of}
 use Rattle.ts_image.specs.FormatLaws.{AreBytes, reach, ReadsValue, Reaches, IsFormat}
 use Rattle.ts_image.proofs.Fields.{bind_ok, bind_err, done, ok_is, nothing_format, done_not_failed}
 
@@ -207,11 +208,11 @@ module _ {X Y : Type 0} (f : Y → Format X) (law : (y : Y) → IsFormat (f y)) 
   abbrev with_first : X × List X → List X
   with_first a = a.0 ∷ a.1
 
-  after_first : (x : X × Cursor) (r : Read (List X)) → (r >>= λ xs. done (x.0 ∷ xs.0, xs.1)) ≡ ((r >>= λ xs. done ((x.0, xs.0), xs.1)) >>= λ a. done (with_first a.0, a.1))
+  after_first : (x : X × Cursor) (r : Read (List X)) → ◌>>=◌ {B = List X × Cursor} r (λ xs. done (x.0 ∷ xs.0, xs.1)) ≡ ◌>>=◌ {A = (X × List X) × Cursor} (r >>= λ xs. done ((x.0, xs.0), xs.1)) (λ a. done (with_first a.0, a.1))
   after_first x (Ok xs) = refl
   after_first x (Err n) = refl
 
-  reassociated : (r : Read X) (k : X × Cursor → Read (List X)) → (r >>= λ x. k x >>= λ xs. done (x.0 ∷ xs.0, xs.1)) ≡ ((r >>= λ x. k x >>= λ xs. done ((x.0, xs.0), xs.1)) >>= λ a. done (with_first a.0, a.1))
+  reassociated : (r : Read X) (k : X × Cursor → Read (List X)) → ◌>>=◌ {B = List X × Cursor} r (λ x. k x >>= λ xs. done (x.0 ∷ xs.0, xs.1)) ≡ ◌>>=◌ {A = (X × List X) × Cursor} (r >>= λ x. k x >>= λ xs. done ((x.0, xs.0), xs.1)) (λ a. done (with_first a.0, a.1))
   reassociated (Ok x) k = after_first x (k x)
   reassociated (Err n) k = refl
 

@@ -13,7 +13,8 @@ use Rattle.ts_core.specs.io.ReadingAhead.{Ahead, EndIsEnd}
 use Rattle.ts_core.proofs.io.ReadCounts.{no_read_counts, reads_count_on}
 use Rattle.ts_image.specs.declared.field_fault.FieldFault.{FieldFault}
 use Rattle.ts_image.specs.declared.field_fault.FieldFault.TheVariants.{Misshapen, Device, TooManyReads, OutOfMemory}
-use Rattle.ts_image.specs.Formats.{Cursor, Read, ◌>>=◌, read_number, number, signed_number, read_text, text}
+use Rattle.ts_core.specs.text.Steps.{◌>>=◌}
+use Rattle.ts_image.specs.Formats.{Cursor, Read, read_number, number, signed_number, read_text, text}
 use Rattle.ts_image.specs.FieldReading.{FieldsRead, bytes_to_come, known_bytes, cursor_of, IsKnown, one_if_failed, CallsSource, UsesBytes, FindsEnd, FillsBuffer, IsShaped, GivesReading, ReadsField}
 use Rattle.ts_image.proofs.Fields.{done, failed}
 

@@ -3,7 +3,8 @@ use Rattle.std.proofs.Common.{◌≡◌, Err, ap, ◌∙◌}
 use Rattle.ts_core.specs.io.Devices.{Input}
 use Rattle.ts_image.specs.declared.field_fault.FieldFault.{FieldFault}
 use Rattle.ts_image.specs.declared.field_fault.FieldFault.TheVariants.{Misshapen, Device, TooManyReads, OutOfMemory}
-use Rattle.ts_image.specs.Formats.{Read, ◌>>=◌, Format, and, iso}
+use Rattle.ts_core.specs.text.Steps.{◌>>=◌}
+use Rattle.ts_image.specs.Formats.{Read, Format, and, iso}
 use Rattle.ts_image.specs.FieldReading.{FieldsRead, cursor_of, IsKnown, CallsSource, GivesReading, ReadsField}
 use Rattle.ts_image.proofs.Fields.{done}
 use Rattle.ts_image.proofs.Reading.{fine, faulty, calls_more, calls_on}

@@ -1,7 +1,8 @@
 -- Parts that are read one after another: they are read as the whole.
 use Rattle.std.proofs.Common.{◌≡◌, ap, ◌∙◌}
 use Rattle.ts_core.specs.io.Devices.{Input}
-use Rattle.ts_image.specs.Formats.{◌>>=◌, Format, and, also, iso}
+use Rattle.ts_core.specs.text.Steps.{◌>>=◌}
+use Rattle.ts_image.specs.Formats.{Format, and, also, iso}
 use Rattle.ts_image.specs.declared.field_fault.FieldFault.{FieldFault}
 use Rattle.ts_image.specs.declared.field_fault.FieldFault.TheVariants.{Misshapen, Device, TooManyReads, OutOfMemory}
 use Rattle.ts_image.specs.FieldReading.{FieldsRead, cursor_of, GivesReading, ReadsField}

@@ -5,6 +5,7 @@ use Rattle.std.specs.Int.{Width, w64, byte_len, cast_unsigned, cast_signed, to_b
 use mir.Val.{bits}
 use Rattle.std.specs.Str.{IsUtf8, is_utf8}
 use Rattle.ts_core.specs.facts.Facts.{Text}
+use Rattle.ts_core.specs.text.Steps.{◌>>=◌}
 
 -- a position in bytes: its offset, and the bytes from there on
 pub record Cursor : Type 0 where
@@ -23,11 +24,6 @@ concat (f ∷ fs) = f ++ concat fs
 -- a reading: a value and the position after it, or the offset of the first field that isn't whole
 abbrev pub Read : Type 0 → Type 0
 Read X = Result (X × Cursor) ℕ
-
-infixl 10 ◌>>=◌
-abbrev pub ◌>>=◌ : {A B : Type 0} → Read A → (A × Cursor → Read B) → Read B
-(Ok x) >>= f = f x
-(Err n) >>= f = Err n
 
 -- the values that have a spelling, their fields, and the reading at a position
 pub record Format (X : Type 0) : Type 1 where

@@ -16,6 +16,7 @@ use crate::rule_reading::RuleParts;
 use crate::series_reading::SeriesParts;
 use crate::version::Version;
 use std::alloc::Allocator;
+use ts_core::LEAST_TIME;
 
 /// Returns the greatest distance of a low index above the index of the raw mark.
 fn ahead_of_mark(version: Version) -> i128
@@ -60,7 +61,7 @@ fn is_low<A: Allocator>(version: Version, mark: &i64, rule: &RuleParts<A>, low: 
     requires { pos 1 ≤ℤ rule.now.interval }
     ensures { IsTrue result ↔ IsLow version mark.now (rule_from_parts rule.now) low.now }
 {
-    if !is_from(index_at(rule, &-9_223_372_036_854_775_806), low) {
+    if !is_from(index_at(rule, &LEAST_TIME), low) {
         return false;
     }
     is_up_to(most_low(version, mark, rule), low)

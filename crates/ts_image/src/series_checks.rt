@@ -14,6 +14,7 @@ ghost use Rattle.ts_image.specs.TestParts.{IsTag, key_of_tag, field_of, time_of_
 use crate::series_reading::{ColumnParts, KeyParts, SeriesParts};
 use std::alloc::Allocator;
 use std::cmp::Ordering;
+use ts_core::{GREATEST_TIME, LEAST_TIME};
 
 /// Returns true if a text may be the key of a tag or a field.
 pub(crate) fn is_name(text: &str) -> bool
@@ -69,7 +70,7 @@ fn is_key<A: Allocator>(key: &KeyParts<A>) -> bool
 pub(crate) fn is_time(nanos: &i64) -> bool
     ensures { IsTrue result ↔ IsTime nanos.now }
 {
-    *nanos >= -9_223_372_036_854_775_806 && *nanos <= 9_223_372_036_854_775_806
+    *nanos >= LEAST_TIME && *nanos <= GREATEST_TIME
 }
 
 fn is_point(mark: &i64, waits: u8, point: &(i64, i64)) -> bool
