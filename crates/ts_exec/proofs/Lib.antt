@@ -6,11 +6,13 @@ mod Shares
 mod Entries
 -- Executions, Selections: the values that a query selects
 mod PartsTaken
--- JoinedPieces: adjacent pieces of raw points as one
+-- JoinedPieces: adjacent pieces of one source as one
 mod Joining
 mod JoinedAnswers
 -- ReducedConditions: equal conditions once
 mod Reduced
+-- SeriesTests: a series is tested by its own tags
+mod Tested
 -- Executions, Shares: the number of points of a plan over a view
 mod PointCounts
 mod CountSteps

@@ -234,7 +234,7 @@ module _ (parts : AggregateParts) where
   pub pieces-rows : (seen : ViewState) (q : Query) (ps : List Piece) → AllByRecursion (HasRows (width q)) (with_pieces parts seen q ps [])
   pieces-rows seen q ps = all_kept (width q) _ (subst (AllByRecursion (HasRows (width q))) (same_pieces seen q ps [] [] refl) (kept_all (width q) _ (given-rows seen q ps)))
 
-  -- ---- rows that can count one more point
+  -- ---- rows that have room
 
   kept_count : (k : AggregateParts) (a : Aggregate) → (kept_part k a).count ≡ a.count
   kept_count CountAlone a = refl
@@ -244,13 +244,13 @@ module _ (parts : AggregateParts) where
 
   rows_room : (rows : List Aggregate) → list_all has_room (kept_rows rows) ≡ list_all has_room rows
   rows_room [] = refl
-  rows_room (a ∷ rows) = ap₂ (λ x y. x && y) (ap (λ n. nat_lt n (2 ^ 62)) (kept_count parts a)) (rows_room rows)
+  rows_room (a ∷ rows) = ap₂ (λ x y. x && y) (ap (λ n. nat_lt n (2 ^ 61)) (kept_count parts a)) (rows_room rows)
 
   table_room : (t : Table) → have_room (kept_table t) ≡ have_room t
   table_room [] = refl
   table_room (e ∷ t) = ap₂ (λ x y. x && y) (rows_room e.1) (table_room t)
 
-  -- the rows of the whole answer can, too
+  -- the rows of the whole answer have room, too
   pub whole-room : (seen : ViewState) (q : Query) (ps : List Piece) → have_room (with_pieces parts seen q ps []) ≡ true → have_room (with_pieces Whole seen q ps []) ≡ true
   whole-room seen q ps h =
       sym (table_room (with_pieces Whole seen q ps [])) ∙ ap (λ (t : Table). have_room t) (same_pieces seen q ps [] [] refl) ∙ table_room (with_pieces parts seen q ps []) ∙ h

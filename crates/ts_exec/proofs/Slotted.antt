@@ -22,9 +22,9 @@ Slot = List Text × Option (List Aggregate)
 
 -- ---- what a search finds
 
-pub found_row_index : (slots : Slots) → AreSlots slots → (g : List Text) (r : Result ℕ ℕ) → IsBinarySearchResult (λ (e : Slot). group_cmp e.0 g) slots r → IsSlotOfGroup g slots r
-found_row_index slots s g (Ok i) h = h
-found_row_index slots s g (Err i) h = h (rises groups_total slots s g)
+pub found_slot : (slots : Slots) → AreSlots slots → (g : List Text) (r : Result ℕ ℕ) → IsBinarySearchResult (λ (e : Slot). group_cmp e.0 g) slots r → IsSlotOfGroup g slots r
+found_slot slots s g (Ok i) h = h
+found_slot slots s g (Err i) h = h (rises groups_total slots s g)
 
 index_less : (o : Ordering) → ordering_index o ≤ 0 → o ≡ Less
 index_less Less h = refl

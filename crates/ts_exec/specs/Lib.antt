@@ -14,3 +14,4 @@ pub mod JoinedPieces
 pub mod ReducedConditions
 pub mod Searches
 pub mod FirstOf
+pub mod SeriesTests

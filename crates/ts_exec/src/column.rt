@@ -7,7 +7,7 @@ ghost use Rattle.ts_exec.specs.RowParts.{with_counted, with_point_parts};
 
 use crate::aggregate_parts::AggregateParts;
 use crate::bounded::Bounded;
-use crate::buckets::Buckets;
+use crate::buckets::BucketCursor;
 use crate::fold::{Counted, Fold, Summed};
 use crate::rows::{add_part, add_runs, can_add};
 use std::alloc::Allocator;
@@ -38,7 +38,7 @@ fn add_count(rows: &mut [Agg], row_index: usize, count: u64)
 /// bucket's row could exceed 2^62 points. Returns the end of those added.
 fn count_next<A: Allocator, V: View<A>>(
     rows: &mut [Agg],
-    buckets: &mut Buckets,
+    buckets: &mut BucketCursor,
     range: &ColumnRange<'_, V>,
     from: i64,
 ) -> i64
@@ -68,7 +68,7 @@ fn count_next<A: Allocator, V: View<A>>(
 /// Adds the points bucket by bucket, without visiting them.
 fn count<A: Allocator, V: View<A>>(
     rows: &mut [Agg],
-    buckets: &mut Buckets,
+    buckets: &mut BucketCursor,
     range: &ColumnRange<'_, V>,
 )
     requires { range.now.column < length (V.seen range.now.view.now).columns }
@@ -85,7 +85,7 @@ fn count<A: Allocator, V: View<A>>(
 pub(crate) fn add_points<A: Allocator, V: View<A>>(
     rows: &mut [Agg],
     parts: AggregateParts,
-    buckets: &mut Buckets,
+    buckets: &mut BucketCursor,
     range: &ColumnRange<'_, V>,
     points: Points<'_>,
 )

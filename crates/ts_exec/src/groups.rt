@@ -8,7 +8,7 @@ ghost use Rattle.ts_exec.specs.Slots.{AreSlots, made};
 ghost use Rattle.ts_exec.specs.GroupTables.{with_column_parts, with_cell_part};
 
 use crate::aggregate_parts::AggregateParts;
-use crate::buckets::Buckets;
+use crate::buckets::BucketCursor;
 use crate::column::ColumnRange;
 use crate::slot::Slot;
 use std::alloc::{AllocError, Allocator};
@@ -56,7 +56,7 @@ impl<'a, A: Allocator> GroupRows<'a, A> {
 fn find_slot<A: Allocator + Copy>(slots: &[Slot<'_, A>], values: &[&str]) -> Result<usize, usize>
     requires { AreSlots slots.now }
     ensures bound { IsSearchInRange result (length slots.now) }
-    ensures row_index { IsSlotOfGroup (borrowed values.now) slots.now result }
+    ensures slot { IsSlotOfGroup (borrowed values.now) slots.now result }
 {
     let Some(last) = slots.last() else {
         return Err(0);
@@ -86,10 +86,10 @@ fn insert_group<'a, A: Allocator + Copy>(
 ) -> Result<(), AllocError>
     requires slots { AreSlots slots.old.items }
     requires bound { at ≤ length slots.old.items }
-    requires row_index { IsSlotOfGroup (borrowed values.items) slots.old.items (Err at) }
+    requires slot { IsSlotOfGroup (borrowed values.items) slots.old.items (Err at) }
     ensures slots { AreSlots slots.new.items }
     ensures made { made slots.new.items ≡ made slots.old.items }
-    ensures row_index { OnOk result (HoldsGroup (borrowed values.entry.items) slots.new.items at) }
+    ensures slot { OnOk result (HoldsGroup (borrowed values.entry.items) slots.new.items at) }
 {
     let slot = Slot::new(values);
     slots.insert(at, slot)?;
@@ -104,7 +104,7 @@ fn slot_of<'a, A: Allocator + Copy>(
     requires { AreSlots slots.old.items }
     ensures slots { AreSlots slots.new.items }
     ensures made { made slots.new.items ≡ made slots.old.items }
-    ensures row_index { IfOk result (λ at. HoldsGroup (borrowed values.now) slots.new.items at) }
+    ensures slot { IfOk result (λ at. HoldsGroup (borrowed values.now) slots.new.items at) }
 {
     match find_slot(slots.as_slice(), values) {
         Ok(at) => Ok(at),
@@ -125,7 +125,7 @@ fn expect<'a, A: Allocator + Copy>(
     requires { AreSlots slots.old.items }
     ensures slots { AreSlots slots.new.items }
     ensures made { made slots.new.items ≡ made slots.old.items }
-    ensures row_index { IfOk result (λ at. HoldsGroup (borrowed values.now) slots.new.items at) }
+    ensures slot { IfOk result (λ at. HoldsGroup (borrowed values.now) slots.new.items at) }
 {
     if is_at(slots.as_slice(), guess, values) {
         return Ok(guess);
@@ -208,7 +208,7 @@ impl<'a, A: Allocator + Copy> Groups<'a, A> {
         parts: AggregateParts,
         width: usize,
         values: &[&'a str],
-        buckets: &mut Buckets,
+        buckets: &mut BucketCursor,
         range: &ColumnRange<'_, V>,
     ) -> Result<(), AllocError>
         requires { range.now.column < length (V.seen range.now.view.now).columns }

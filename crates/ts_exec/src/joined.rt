@@ -1,21 +1,30 @@
-//! Joins adjacent pieces of raw points, so that their columns are searched once.
+//! Joins adjacent pieces of raw points, or of one rule, so that their columns or cells are searched once.
 ghost use Rattle.std.specs.Prelude.{◌≡◌, ◌∷◌};
 ghost use Rattle.std.specs.Iterator.{YieldsFirst, item_count};
-ghost use Rattle.ts_exec.specs.JoinedPieces.{are_adjacent, joined_pieces, joined_onto};
+ghost use Rattle.ts_exec.specs.JoinedPieces.{is_same_source, are_adjacent, joined_pieces, joined_onto};
 
 use std::marker::Model;
 use ts_check::{Piece, PieceSource};
 
-/// Returns true if both pieces are of raw points, and the second starts where the first ends.
+/// Returns true if both pieces are of raw points, or of one rule.
+fn have_one_source(piece: &Piece, next: &Piece) -> bool
+    ensures { result ≡ is_same_source piece.now.source next.now.source }
+{
+    match (&piece.source, &next.source) {
+        (PieceSource::Raw, PieceSource::Raw) => true,
+        (PieceSource::Rollup(name), PieceSource::Rollup(other)) => name.as_str() == other.as_str(),
+        _ => false,
+    }
+}
+
+/// Returns true if both pieces have one source, and the second starts where the first ends.
 fn are_adjacent(piece: &Piece, next: &Piece) -> bool
     ensures { result ≡ are_adjacent piece.now next.now }
 {
-    match (&piece.source, &next.source) {
-        (PieceSource::Raw, PieceSource::Raw) => {
-            piece.to == next.from && piece.from <= piece.to && next.from <= next.to
-        }
-        _ => false,
-    }
+    have_one_source(piece, next)
+        && piece.to == next.from
+        && piece.from <= piece.to
+        && next.from <= next.to
 }
 
 /// Extends a piece by the adjacent ones at the start of `pieces`; returns the others.
@@ -33,7 +42,7 @@ fn extend<'p>(piece: &mut Piece, pieces: &'p [Piece]) -> &'p [Piece]
     left
 }
 
-/// Iterator over the pieces of a plan, of which adjacent ones of raw points are joined. Its model is the list of those
+/// Iterator over the pieces of a plan, of which adjacent ones of one source are joined. Its model is the list of those
 /// that remain.
 #[derive(Drop)]
 pub(crate) struct JoinedPieces<'p> {

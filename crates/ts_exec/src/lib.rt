@@ -41,6 +41,7 @@ mod rows;
 mod selection;
 mod slot;
 mod table;
+mod tag_tests;
 
 pub use counting::count_points;
 pub use executor::{execute, execute_selected};

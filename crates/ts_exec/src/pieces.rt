@@ -10,12 +10,12 @@ ghost use Rattle.ts_core.specs.facts.Tags.{tag_values, value_among};
 ghost use Rattle.ts_ql.specs.Selects.{texts};
 ghost use Rattle.ts_store.specs.read.ViewResults.{view_cells_at};
 ghost use Rattle.ts_exec.specs.FirstOf.{rule_from};
-ghost use Rattle.ts_exec.specs.JoinedPieces.{joined_pieces};
+ghost use Rattle.ts_exec.specs.JoinedPieces.{joined_pieces, is_small, has_small_parts, have_small_parts};
 ghost use Rattle.ts_exec.specs.Borrowed.{borrowed};
 ghost use Rattle.ts_exec.specs.GroupTables.{group_values, with_rule_cell, with_cell_parts, with_source, with_pieces, is_cell_taken};
 
 use crate::aggregate_parts::AggregateParts;
-use crate::buckets::{Buckets, width};
+use crate::buckets::{BucketCursor, width};
 use crate::column::ColumnRange;
 use crate::groups::Groups;
 use crate::joined::JoinedPieces;
@@ -23,7 +23,7 @@ use crate::selection::selected_columns;
 use std::alloc::{AllocError, Allocator};
 use std::marker::Model;
 use ts_check::{Piece, PieceSource};
-use ts_core::{Key, Partial, Rule, index_of};
+use ts_core::{Key, MAX_COUNT, Partial, Rule, index_of};
 use ts_ql::{Condition, Query};
 use ts_store::{View, ViewCell, ViewColumn};
 
@@ -33,7 +33,7 @@ use ts_store::{View, ViewCell, ViewColumn};
 pub(crate) struct Scan<'a, 'q, A: Allocator> {
     query: &'q Query<A>,
     width: usize,
-    buckets: Buckets,
+    buckets: BucketCursor,
     values: Vec<&'a str, A>,
 }
 
@@ -54,7 +54,7 @@ impl<'a, 'q, A: Allocator + Copy> Scan<'a, 'q, A> {
         ensures value { IfOk result (λ s. s ≡ query.now.query) }
         ensures query { IsQuery query.now.query }
     {
-        let buckets = Buckets::new(query.from(), query.interval(), query.offset());
+        let buckets = BucketCursor::new(query.from(), query.interval(), query.offset());
         Ok(Scan {
             query,
             width: width(query)?,
@@ -304,7 +304,15 @@ fn add_cell<'a, A: Allocator + Copy>(
     groups.add_part(scan.width, &scan.values, row_index, cell.total())
 }
 
-/// Adds the cells of a rule from `from`, inclusive, to `to`, exclusive, that the query matches.
+/// Returns true if a cell has fewer points than half of those that a row can count.
+fn is_small<A: Allocator>(cell: &ViewCell<'_, A>) -> bool
+    ensures { result ≡ is_small cell.now }
+{
+    cell.count() < MAX_COUNT / 2
+}
+
+/// Adds the cells of a rule from `from`, inclusive, to `to`, exclusive, that the query matches. Returns true if all
+/// cells there are small.
 fn add_cells<'a, A: Allocator + Copy + 'a, V: View<A> + 'a>(
     groups: &mut Groups<'a, A>,
     scan: &mut Scan<'a, '_, A>,
@@ -313,18 +321,21 @@ fn add_cells<'a, A: Allocator + Copy + 'a, V: View<A> + 'a>(
     number: usize,
     from: i64,
     to: i64,
-) -> Result<(), AllocError>
+) -> Result<bool, AllocError>
     requires number { number < length (V.seen view.now).rules }
     requires interval { pos 1 ≤ℤ rule.now.interval }
     ensures value { OnOk result (groups.new ≡ with_cell_parts scan.old rule.now from to (view_cells_at (V.seen view.now).rules number (index_of rule.now from) (index_of rule.now to)) groups.old) }
+    ensures small { IfOk result (λ b. b ≡ list_all is_small (view_cells_at (V.seen view.now).rules number (index_of rule.now from) (index_of rule.now to))) }
     ensures same { scan.new ≡ scan.old }
 {
     let first = index_of(rule, i128::from(from));
     let end = index_of(rule, i128::from(to));
+    let mut small = true;
     for cell in view.cell_walk(number, &first, &end) {
+        small = small && is_small(&cell);
         add_cell(groups, scan, rule, from, to, cell)?;
     }
-    Ok(())
+    Ok(small)
 }
 
 /// Returns the first rule of this name with its index, counting from `number`.
@@ -344,24 +355,28 @@ pub(crate) fn rule_from<'a, A: Allocator>(
     }
 }
 
-/// Adds the data of a piece. Keeps these parts of raw points.
+/// Adds the data of a piece. Keeps these parts of raw points. Returns true if all its cells are small.
 fn add_piece<'a, A: Allocator + Copy + 'a, V: View<A> + 'a>(
     groups: &mut Groups<'a, A>,
     scan: &mut Scan<'a, '_, A>,
     parts: AggregateParts,
     view: &'a V,
     piece: &Piece,
-) -> Result<(), AllocError>
+) -> Result<bool, AllocError>
     ensures value { OnOk result (groups.new ≡ with_source parts (V.seen view.now) scan.old piece.now.source piece.now.from piece.now.to groups.old) }
+    ensures small { IfOk result (λ b. b ≡ has_small_parts (V.seen view.now) piece.now.source piece.now.from piece.now.to) }
     ensures same { scan.new ≡ scan.old }
 {
     match &piece.source {
-        PieceSource::Raw => add_raw(groups, scan, parts, view, piece.from, piece.to),
+        PieceSource::Raw => {
+            add_raw(groups, scan, parts, view, piece.from, piece.to)?;
+            Ok(true)
+        }
         PieceSource::Rollup(name) => match rule_from(0, view.settings().rules(), name.as_str()) {
             Some((number, rule)) => add_cells(
                 groups, scan, view, rule, number, piece.from, piece.to,
             ),
-            None => Ok(()),
+            None => Ok(true),
         },
     }
 }
@@ -382,18 +397,22 @@ pub(crate) fn add_pieces<'a, A: Allocator + Copy + 'a, V: View<A> + 'a>(
     Ok(())
 }
 
-/// Adds the data of all pieces as `add_pieces` does, but joins adjacent pieces of raw points.
+/// Adds the data of all pieces as `add_pieces` does, but joins adjacent pieces of one source. Returns true if all their
+/// cells are small.
 pub(crate) fn add_joined_pieces<'a, A: Allocator + Copy + 'a, V: View<A> + 'a>(
     groups: &mut Groups<'a, A>,
     scan: &mut Scan<'a, '_, A>,
     parts: AggregateParts,
     view: &'a V,
     pieces: &[Piece],
-) -> Result<(), AllocError>
-    ensures { OnOk result (groups.new ≡ with_pieces parts (V.seen view.now) scan.old (joined_pieces pieces.now) groups.old) }
+) -> Result<bool, AllocError>
+    ensures value { OnOk result (groups.new ≡ with_pieces parts (V.seen view.now) scan.old (joined_pieces pieces.now) groups.old) }
+    ensures small { IfOk result (λ b. b ≡ have_small_parts (V.seen view.now) (joined_pieces pieces.now)) }
 {
+    let mut small = true;
     for piece in JoinedPieces::new(pieces) {
-        add_piece(groups, scan, parts, view, &piece)?;
+        let of_piece = add_piece(groups, scan, parts, view, &piece)?;
+        small = small && of_piece;
     }
-    Ok(())
+    Ok(small)
 }

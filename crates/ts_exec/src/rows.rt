@@ -3,7 +3,7 @@ ghost use Rattle.std.specs.Prelude.{◌≡◌, ◌+◌, ◌^◌, ◌≤◌, ◌<
 ghost use Rattle.ts_core.specs.aggregates.Aggregates.{empty_aggregate};
 ghost use Rattle.ts_exec.specs.RowParts.{AreMerged, IsRun, part_of_point, row_index_at, with_part, with_point_parts};
 
-use crate::buckets::{Buckets, Span};
+use crate::buckets::{BucketCursor, BucketSpan};
 use crate::fold::Fold;
 use ts_core::{Agg, MAX_COUNT, Partial, Time, merge_within};
 use ts_raw::Points;
@@ -28,9 +28,9 @@ pub(crate) fn can_add(rows: &[Agg], row_index: usize, others: u64) -> bool
     others < MAX_COUNT.saturating_sub(count)
 }
 
-/// Run of points in one bucket, and their fold.
+/// BucketRun of points in one bucket, and their fold.
 #[derive(Clone, Copy, Debug)]
-struct Run<F> {
+struct BucketRun<F> {
     // Times from `low`, inclusive, to `high`, exclusive, are in the bucket.
     low: i64,
     high: i64,
@@ -39,7 +39,7 @@ struct Run<F> {
 }
 
 /// Returns the end of a run: that of its bucket, or of no time if the row could exceed 2^62 points.
-fn end_of_run(span: &Span, can_grow: bool) -> i64
+fn end_of_run(span: &BucketSpan, can_grow: bool) -> i64
     ensures { result ≡ (if can_grow then span.now.high else span.now.low) }
 {
     if can_grow { span.high } else { span.low }
@@ -49,11 +49,11 @@ fn end_of_run(span: &Span, can_grow: bool) -> i64
 /// points, none of them belongs to the run.
 fn begin_run<F: Fold>(
     rows: &[Agg],
-    buckets: &mut Buckets,
+    buckets: &mut BucketCursor,
     time: Time,
     value: i64,
     others: u64,
-) -> Run<F>
+) -> BucketRun<F>
     ensures run { IsRun buckets.old rows.now others result.low result.high result.row_index (F.folded result.fold) }
     ensures row_index { result.row_index ≡ min (row_index_at buckets.old time) 18_446_744_073_709_551_615 }
     ensures fold { F.folded result.fold ≡ part_of_point F.parts time value }
@@ -61,7 +61,7 @@ fn begin_run<F: Fold>(
 {
     let span = buckets.span(time.nanos());
     let can_grow = can_add(rows, span.row_index, others);
-    Run {
+    BucketRun {
         low: span.low,
         high: end_of_run(&span, can_grow),
         row_index: span.row_index,
@@ -73,10 +73,10 @@ fn begin_run<F: Fold>(
 /// points.
 fn first_block<F: Fold>(
     rows: &[Agg],
-    buckets: &mut Buckets,
+    buckets: &mut BucketCursor,
     from: i64,
     points: &mut Points<'_>,
-) -> Option<Run<F>>
+) -> Option<BucketRun<F>>
     ensures run { IfSome result (λ run. IsRun buckets.old rows.now (length points.new) run.low run.high run.row_index (F.folded run.fold)) }
     ensures value { IfSome result (λ run. with_point_parts F.parts buckets.old points.new (with_part run.row_index (F.folded run.fold) rows.now) ≡ with_point_parts F.parts buckets.old points.old rows.now) }
     ensures none { IfNone result (points.new ≡ points.old) }
@@ -89,7 +89,7 @@ fn first_block<F: Fold>(
         return None;
     }
     let part = points.next_whole(span.low, span.high)?;
-    Some(Run {
+    Some(BucketRun {
         low: span.low,
         high: span.high,
         row_index: span.row_index,
@@ -101,10 +101,10 @@ fn first_block<F: Fold>(
 /// its bucket.
 fn first_run<F: Fold>(
     rows: &[Agg],
-    buckets: &mut Buckets,
+    buckets: &mut BucketCursor,
     from: i64,
     points: &mut Points<'_>,
-) -> Option<Run<F>>
+) -> Option<BucketRun<F>>
     ensures run { IfSome result (λ run. IsRun buckets.old rows.now (length points.new) run.low run.high run.row_index (F.folded run.fold)) }
     ensures value { IfSome result (λ run. with_point_parts F.parts buckets.old points.new (with_part run.row_index (F.folded run.fold) rows.now) ≡ with_point_parts F.parts buckets.old points.old rows.now) }
     ensures none { IfNone result (points.old ≡ []) }
@@ -137,12 +137,12 @@ fn with_blocks<F: Fold>(fold: F, low: i64, high: i64, points: &mut Points<'_>) -
 #[inline]
 fn add_point<F: Fold>(
     rows: &mut [Agg],
-    buckets: &mut Buckets,
-    run: Run<F>,
+    buckets: &mut BucketCursor,
+    run: BucketRun<F>,
     time: Time,
     value: i64,
     others: u64,
-) -> Run<F>
+) -> BucketRun<F>
     requires { IsRun buckets.old rows.old (others + 1) run.low run.high run.row_index (F.folded run.fold) }
     ensures value { with_part result.row_index (F.folded result.fold) rows.new ≡ with_part (row_index_at buckets.old time) (part_of_point F.parts time value) (with_part run.row_index (F.folded run.fold) rows.old) }
     ensures run { IsRun buckets.old rows.new others result.low result.high result.row_index (F.folded result.fold) }
@@ -152,7 +152,7 @@ fn add_point<F: Fold>(
     // For the proof: the number of rows fits a `usize`.
     let _width = rows.len();
     if run.low <= time.nanos() && time.nanos() < run.high {
-        Run {
+        BucketRun {
             fold: run.fold.with(time, value),
             ..run
         }
@@ -163,7 +163,12 @@ fn add_point<F: Fold>(
 }
 
 /// Adds points to a run and to the runs after it, and merges each run into its row.
-fn continue_run<F: Fold>(rows: &mut [Agg], buckets: &mut Buckets, run: Run<F>, points: Points<'_>)
+fn continue_run<F: Fold>(
+    rows: &mut [Agg],
+    buckets: &mut BucketCursor,
+    run: BucketRun<F>,
+    points: Points<'_>,
+)
     requires { IsRun buckets.old rows.old (length points) run.low run.high run.row_index (F.folded run.fold) }
     ensures value { rows.new ≡ with_point_parts F.parts buckets.old points.entry (with_part run.row_index (F.folded run.fold) rows.old) }
     ensures same { buckets.new ≡ buckets.old }
@@ -186,7 +191,7 @@ fn continue_run<F: Fold>(rows: &mut [Agg], buckets: &mut Buckets, run: Run<F>, p
 /// points should be at or after `from`.
 pub(crate) fn add_runs<F: Fold>(
     rows: &mut [Agg],
-    buckets: &mut Buckets,
+    buckets: &mut BucketCursor,
     from: i64,
     points: Points<'_>,
 )

@@ -7,6 +7,7 @@ ghost use Rattle.ts_store.specs.read.ViewResults.{column_refs_where};
 ghost use Rattle.ts_exec.specs.GroupTables.{selected_column_refs, IsNarrowing};
 
 use crate::conditions::reduced;
+use crate::tag_tests::TagTests;
 use std::alloc::{AllocError, Allocator};
 use ts_core::Key;
 use ts_ql::{Condition, Query};
@@ -66,14 +67,14 @@ fn candidates<'a, A: Allocator + Copy + 'a, V: View<A> + 'a>(
 }
 
 /// Returns true if a series meets all conditions of a list of references.
-fn meets_each<A: Allocator + Copy>(key: &Key<A>, conditions: &[&Condition<A>]) -> bool
+pub(crate) fn meets_each<A: Allocator + Copy>(key: &Key<A>, conditions: &[&Condition<A>]) -> bool
     ensures { result ≡ list_all (λ c. meets key.now c.now) conditions.now }
 {
     conditions.iter().all(|condition| is_met(key, condition))
 }
 
 /// Returns the columns of a query, in creation order: those of its measurement and field whose series meet its
-/// conditions. Tests equal conditions once. If the conditions want two values of one tag, looks at no series.
+/// conditions. Tests each by its own tags. If the conditions want two values of one tag, looks at no series.
 pub(crate) fn selected_columns<'a, A: Allocator + Copy + 'a, V: View<A> + 'a>(
     alloc: A,
     query: &Query<A>,
@@ -84,8 +85,8 @@ pub(crate) fn selected_columns<'a, A: Allocator + Copy + 'a, V: View<A> + 'a>(
     let Some(conditions) = reduced(alloc, query.conditions())? else {
         return Ok(Vec::new(alloc));
     };
+    let tests = TagTests::new(alloc, conditions.as_slice())?;
     let mut found = candidates(alloc, query, view)?;
-    let tests = conditions.as_slice();
-    found.retain(|column| meets_each(column.key, tests));
+    found.retain(|column| tests.are_met(column.key));
     Ok(found)
 }

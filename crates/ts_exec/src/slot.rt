@@ -7,7 +7,7 @@ ghost use Rattle.ts_exec.specs.RowParts.{with_part, with_point_parts};
 ghost use Rattle.ts_exec.specs.GroupTables.{rows_or};
 
 use crate::aggregate_parts::AggregateParts;
-use crate::buckets::Buckets;
+use crate::buckets::BucketCursor;
 use crate::column::{ColumnRange, add_points};
 use crate::rows::add_part;
 use std::alloc::{AllocError, Allocator};
@@ -90,7 +90,7 @@ impl<'a, A: Allocator + Copy> Slot<'a, A> {
         &mut self,
         parts: AggregateParts,
         width: usize,
-        buckets: &mut Buckets,
+        buckets: &mut BucketCursor,
         range: &ColumnRange<'_, V>,
         points: Points<'_>,
     ) -> Result<(), AllocError>

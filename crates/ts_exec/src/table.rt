@@ -1,7 +1,6 @@
 //! Answer to a query: groups with one row per bucket.
 ghost use Rattle.std.specs.Prelude.{◌≡◌, map};
 ghost use Rattle.std.specs.List.{AllByRecursion};
-ghost use Rattle.ts_core.specs.queries.Answers.{bucket_in};
 ghost use Rattle.ts_exec.specs.Answered.{HasRows};
 ghost use Rattle.ts_exec.specs.GroupTables.{group_with, width};
 
@@ -52,12 +51,5 @@ impl<'a, A: Allocator> Table<'a, A> {
         ensures rows { AllByRecursion (HasRows (width self.now.select.query)) result.now }
     {
         self.groups.as_slice()
-    }
-
-    /// Returns the index of the bucket of each group's first row: the bucket that contains the start of the range.
-    pub fn first_bucket(&self) -> i128
-        ensures { result ≡ bucket_in self.now.select.query self.now.select.query.from }
-    {
-        self.query.buckets().index(i128::from(self.query.from()))
     }
 }

@@ -9,6 +9,14 @@ use Rattle.ts_exec.proofs.Given.{given-answer}
 use Rattle.ts_exec.proofs.Fresh.{fresh-valid}
 use Rattle.ts_exec.proofs.executor.execute.Goals as goal
 
+pub groups_whole-requires : goal.groups_whole-requires
+groups_whole-requires g c =
+    let seen : ViewState = g.V.View.seen c.args.view.now in
+    let p : Plan = c.args.checked.now in
+    let fresh : IsCurrent seen p = search rules in
+    let valid : IsValid seen.settings seen.marks p.select.query p.pieces = fresh-valid seen p fresh c.pieces.ensures.valid in
+    search rules
+
 pub returns : goal.returns
 returns g c =
     let seen : ViewState = g.V.View.seen c.args.view.now in

@@ -13,6 +13,14 @@ use Rattle.ts_exec.proofs.Given.{given-answer}
 use Rattle.ts_exec.proofs.Fresh.{fresh-valid}
 use Rattle.ts_exec.proofs.executor.execute_selected.Goals as goal
 
+pub groups_selected-requires : goal.groups_selected-requires
+groups_selected-requires g c =
+    let seen : ViewState = g.V.View.seen c.args.view.now in
+    let p : Plan = c.args.checked.now in
+    let fresh : IsCurrent seen p = search rules in
+    let valid : IsValid seen.settings seen.marks p.select.query p.pieces = fresh-valid seen p fresh c.pieces.ensures.valid in
+    search rules
+
 pub returns : goal.returns
 returns g c =
     let seen : ViewState = g.V.View.seen c.args.view.now in

@@ -1,6 +1,5 @@
 use Rattle.std.proofs.Common.{rules, ◌≡◌, [], ◌∙◌, subst, sym}
 use Rattle.std.specs.List.{AllByRecursion}
-use Rattle.std.proofs.lemmas.Result.{IfOk-weaker}
 use Rattle.ts_core.specs.store.Views.{ViewState}
 use Rattle.ts_core.specs.queries.Queries.{Query}
 use Rattle.ts_exec.specs.Answered.{HasRows}
@@ -14,4 +13,4 @@ returns-clause-rows g c =
     let q : Query = c.args.query.now.query in
     let seen : ViewState = g.V.View.seen c.args.view.now in
     let put : c.add_joined_pieces.new.groups ≡ with_pieces c.args.parts seen q (joined_pieces c.args.pieces.now) [] = search rules in
-    IfOk-weaker c.into_groups.result _ _ (λ v e. subst (AllByRecursion (HasRows (width q))) (sym (e ∙ put)) (pieces-rows c.args.parts seen q (joined_pieces c.args.pieces.now))) c.into_groups.ensures
+    subst (AllByRecursion (HasRows (width q))) (sym (c.in_ok-groups.ensures ∙ put)) (pieces-rows c.args.parts seen q (joined_pieces c.args.pieces.now))

@@ -10,16 +10,16 @@ pub returns-clause-slots : goal.returns-clause-slots
 returns-clause-slots g c =
     let t : Slots = c.args.slots.now.items in
     let k : List Text = borrowed c.args.values.items in
-    subst AreSlots (sym (c.in_ok-insert.ensures.items ∙ ap (insert t c.args.at) c.new-slot.ensures)) (expected-slots t c.requires.slots k c.args.at c.requires.bound c.requires.row_index)
+    subst AreSlots (sym (c.in_ok-insert.ensures.items ∙ ap (insert t c.args.at) c.new-slot.ensures)) (expected-slots t c.requires.slots k c.args.at c.requires.bound c.requires.slot)
 
 pub returns-clause-made : goal.returns-clause-made
 returns-clause-made g c =
     let t : Slots = c.args.slots.now.items in
     let k : List Text = borrowed c.args.values.items in
-    ap made (c.in_ok-insert.ensures.items ∙ ap (insert t c.args.at) c.new-slot.ensures) ∙ expected-made t c.requires.slots k c.args.at c.requires.bound c.requires.row_index
+    ap made (c.in_ok-insert.ensures.items ∙ ap (insert t c.args.at) c.new-slot.ensures) ∙ expected-made t c.requires.slots k c.args.at c.requires.bound c.requires.slot
 
-pub returns-clause-row_index : goal.returns-clause-row_index
-returns-clause-row_index g c =
+pub returns-clause-slot : goal.returns-clause-slot
+returns-clause-slot g c =
     let t : Slots = c.args.slots.now.items in
     let k : List Text = borrowed c.args.values.items in
-    subst (λ (x : Slots). HoldsGroup k x c.args.at) (sym (c.in_ok-insert.ensures.items ∙ ap (insert t c.args.at) c.new-slot.ensures)) (expected-holds t c.requires.slots k c.args.at c.requires.bound c.requires.row_index)
+    subst (λ (x : Slots). HoldsGroup k x c.args.at) (sym (c.in_ok-insert.ensures.items ∙ ap (insert t c.args.at) c.new-slot.ensures)) (expected-holds t c.requires.slots k c.args.at c.requires.bound c.requires.slot)

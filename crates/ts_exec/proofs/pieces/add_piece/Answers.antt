@@ -1,11 +1,15 @@
-use Rattle.std.proofs.Common.{rules, ◌≡◌, pos, ◌≤ℤ◌, ◌∙◌, ap, subst, sym, map, Some, None, List, OnOk}
+use Rattle.std.specs.List.{list_all}
+use Rattle.std.proofs.Common.{rules, ◌≡◌, pos, ◌≤ℤ◌, ◌∙◌, ap, subst, sym, map, Some, None, List, Bool, OnOk, IfOk, get_or, ap₂, ℤ, to_z, of_z, w64}
 use Rattle.ts_core.specs.settings.Settings.{Rule}
 use Rattle.ts_core.specs.queries.Queries.{Query}
 use Rattle.ts_core.specs.store.Views.{ViewState}
 use Rattle.ts_core.specs.plans.Pieces.{Source, Rollup}
 use Rattle.ts_core.specs.store.StoreStates.{RuleCells, rule_of}
+use Rattle.ts_core.specs.store.Marks.{index_of}
+use Rattle.ts_store.specs.read.ViewResults.{no_rule, cells_within, view_cells_at}
 use Rattle.ts_exec.specs.FirstOf.{rule_from}
 use Rattle.ts_exec.specs.GroupTables.{Table, with_rule_cells, with_source}
+use Rattle.ts_exec.specs.JoinedPieces.{is_small, are_small, has_small_parts}
 use Rattle.ts_exec.proofs.NamedRules.{found-shown, none-shown, found-holds, found-put}
 use Rattle.ts_exec.proofs.pieces.add_piece.Goals as goal
 
@@ -41,3 +45,30 @@ returns-in-None-clause-value g c =
     let source = own_name ∙ ap Rollup (sym c.as_str.ensures.value) in
     sym (ap (λ (z : Source). with_source c.args.parts seen q z c.args.piece.now.from c.args.piece.now.to c.args.groups.now) source
     ∙ ap (λ o. with_rule_cells q c.args.piece.now.from c.args.piece.now.to o c.args.groups.now) (none-shown c.as_str.result.now seen.rules 0 e))
+
+pub returns-in-Some-clause-small : goal.returns-in-Some-clause-small
+returns-in-Some-clause-small g c =
+    let seen : ViewState = g.V.View.seen c.args.view.now in
+    let a = c.args.piece.now.from in
+    let b = c.args.piece.now.to in
+    let e : rule_from c.as_str.result.now 0 (map rule_of seen.rules) ≡ Some (c.in-Some.number, c.in-Some.rule.now) = search rules in
+    let own_name : c.args.piece.now.source ≡ Rollup c.in-Rollup.name = search rules in
+    let source = own_name ∙ ap Rollup (sym c.as_str.ensures.value) in
+    let s = found-shown c.as_str.result.now seen.rules c.in-Some.number c.in-Some.rule.now e in
+    let all =
+    sym (ap (λ (z : Source). has_small_parts seen z a b) source
+    ∙ ap (are_small a b) s.found
+    ∙ ap (λ (r : Rule). list_all is_small (cells_within (get_or seen.rules c.in-Some.number no_rule) (index_of r a) (index_of r b))) s.is) in
+    let from : to_z w64 (of_z w64 c.piece.inside.from) ≡ a = search rules in
+    let to : to_z w64 (of_z w64 c.piece.inside.to) ≡ b = search rules in
+    let here = ap₂ (λ (x y : ℤ). list_all is_small (view_cells_at seen.rules c.in-Some.number (index_of c.in-Some.rule.now x) (index_of c.in-Some.rule.now y))) from to in
+    subst (λ (x : Bool). IfOk c.add_cells.result (λ y. y ≡ x)) (here ∙ all) c.add_cells.ensures.small
+
+pub returns-in-None-clause-small : goal.returns-in-None-clause-small
+returns-in-None-clause-small g c =
+    let seen : ViewState = g.V.View.seen c.args.view.now in
+    let e : rule_from c.as_str.result.now 0 (map rule_of seen.rules) ≡ None = search rules in
+    let own_name : c.args.piece.now.source ≡ Rollup c.in-Rollup.name = search rules in
+    let source = own_name ∙ ap Rollup (sym c.as_str.ensures.value) in
+    sym (ap (λ (z : Source). has_small_parts seen z c.args.piece.now.from c.args.piece.now.to) source
+    ∙ ap (are_small c.args.piece.now.from c.args.piece.now.to) (none-shown c.as_str.result.now seen.rules 0 e))

@@ -1,13 +1,13 @@
-use Rattle.std.proofs.Common.{rules, ◌∙◌, ap, sym, subst, List, Bor}
+use Rattle.std.proofs.Common.{rules, ◌≡◌, ◌∙◌, ap, subst, List, Bor}
 use Rattle.std.specs.List.{list_all}
 use Rattle.std.proofs.lemmas.Fn.{filter_same}
-use Rattle.std.proofs.lemmas.List.Folds.{list_all-map}
-use Rattle.ts_core.proofs.queries.AnswersLaws.{filter_same as same_filter}
-use Rattle.ts_core.specs.facts.Facts.{is_of}
+use Rattle.ts_core.specs.facts.Facts.{Series, is_of}
+use Rattle.ts_core.specs.text.Texts.{IsTagSet}
 use Rattle.ts_core.specs.queries.Queries.{Query, Condition, meets}
 use Rattle.ts_store.specs.read.ViewResults.{ColumnRef, column_refs_where}
 use Rattle.ts_exec.specs.Borrowed.{borrowed}
 use Rattle.ts_exec.specs.ReducedConditions.{meets_all, AreMetAlike, IsMetByNone}
+use Rattle.ts_exec.specs.SeriesTests.{SeriesTests, meets_tests}
 use Rattle.ts_exec.proofs.Reduced.{none-selected}
 use Rattle.ts_exec.proofs.selection.selected_columns.Goals as goal
 
@@ -21,10 +21,16 @@ returns-in_default g c =
 pub returns : goal.returns
 returns g c =
     let q : Query = c.args.query.now.query in
-    let tests : List (Bor Condition) = c.as_slice-tests.result.now in
+    let t : SeriesTests = c.in_ok-tests.tests in
     let kept : AreMetAlike (borrowed c.in-Some.conditions.items) c.conditions.result.now = search rules in
-    let alike : AreMetAlike (borrowed tests) c.conditions.result.now = subst (λ (ds : List (Bor Condition)). AreMetAlike (borrowed ds) c.conditions.result.now) (sym c.as_slice-tests.ensures.value) kept in
-    filter_same _ (λ (s : ColumnRef). list_all (λ (d : Bor Condition). meets s.series d.now) c.as_slice-tests.result.now) _ (λ x b f' k. search rules) _ _ c.retain.ensures.filtered
-    ∙ same_filter (λ (s : ColumnRef). list_all (λ (d : Bor Condition). meets s.series d.now) tests) (λ (s : ColumnRef). list_all (meets s.series) q.conditions)
-    (λ s. sym (list_all-map (meets s.series) (λ (d : Bor Condition). d.now) tests) ∙ alike s.series ∙ ap (λ cs. meets_all cs s.series) c.conditions.ensures) c.in_ok-found.found.items
+    let tested : (s : Series) → IsTagSet s.tags → meets_tests t.needed t.refused s ≡ meets_all (borrowed c.in-Some.conditions.items) s =
+    λ s set. c.in_ok-tests.ensures s set ∙ ap (λ (ds : List (Bor Condition)). meets_all (borrowed ds) s) c.as_slice.ensures.value in
+    let selected : (s : Series) → IsTagSet s.tags → meets_tests t.needed t.refused s ≡ list_all (meets s) q.conditions =
+    λ s set. tested s set ∙ kept s ∙ ap (λ cs. meets_all cs s) c.conditions.ensures in
+    filter_same _ (λ (s : ColumnRef). list_all (meets s.series) q.conditions) _
+    (λ x b f' k.
+    let value : b ≡ meets_tests t.needed t.refused x.series = search rules in
+    let set : IsTagSet x.series.tags = search rules in
+    (value ∙ selected x.series set, search rules))
+    _ _ c.retain.ensures.filtered
     ∙ c.in_ok-found.ensures

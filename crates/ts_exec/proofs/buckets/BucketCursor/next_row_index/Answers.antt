@@ -2,7 +2,7 @@ use Rattle.std.proofs.Common.{rules, arith, ◌≡◌, ℤ, pos, ◌+ℤ◌, ◌
 use Rattle.std.proofs.lemmas.Int.{ints}
 use Rattle.ts_exec.specs.RowParts.{BucketGrid, IsEnd, row_index_at}
 use Rattle.ts_exec.proofs.NextBuckets.{next-guessed, next-end}
-use Rattle.ts_exec.proofs.buckets.Buckets.next_row_index.Goals as goal
+use Rattle.ts_exec.proofs.buckets.BucketCursor.next_row_index.Goals as goal
 
 pub invariant_of-self : goal.invariant_of-self
 invariant_of-self c =

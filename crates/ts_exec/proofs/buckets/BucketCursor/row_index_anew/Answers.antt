@@ -4,7 +4,7 @@ use Rattle.ts_core.specs.aggregates.Buckets.{bucket_of}
 use Rattle.ts_core.specs.queries.Answers.{at_least_none}
 use Rattle.ts_exec.specs.RowParts.{BucketGrid, IsEnd}
 use Rattle.ts_exec.proofs.NextBuckets.{span-end}
-use Rattle.ts_exec.proofs.buckets.Buckets.row_index_anew.Goals as goal
+use Rattle.ts_exec.proofs.buckets.BucketCursor.row_index_anew.Goals as goal
 
 pub invariant_of-self : goal.invariant_of-self
 invariant_of-self c =
