@@ -30,4 +30,5 @@ mod run_fault;
 
 pub use command::Command;
 pub use engine::{run, run_within};
+pub use opening::store_with;
 pub use run_fault::RunFault;

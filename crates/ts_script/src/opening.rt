@@ -1,7 +1,7 @@
-//! The command `settings`: creates the store of a script.
+//! Creates the first store of a script or of a service.
 ghost use Rattle.std.specs.Prelude.{◌≡◌, ◌⊎◌, IfOk, string_bytes};
 ghost use Rattle.ts_core.specs.settings.SettingsFaults.{settings_fault_text};
-ghost use Rattle.ts_script.specs.Opening.{IsOpening};
+ghost use Rattle.ts_script.specs.Opening.{IsNew, IsOpening};
 ghost use Rattle.ts_script.specs.ScriptReplies.{line, text_of};
 
 use crate::reply::Reply;
@@ -12,12 +12,13 @@ use ts_store::Store;
 
 /// Creates an empty store with the settings of a text and a seed of the hashes of names, or returns the first error of
 /// the settings.
-pub(crate) fn store_with(
+pub fn store_with(
     alloc: Global,
     seed: RandomState,
     text: &str,
 ) -> Result<Store<Global>, SettingsError>
-    ensures { IsOpening text.now result }
+    ensures opening { IsOpening text.now result }
+    ensures new { IfOk result (IsNew text.now) }
 {
     let settings = Settings::read(alloc, alloc, text)?;
     match Store::new(alloc, settings, seed) {

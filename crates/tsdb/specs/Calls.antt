@@ -15,20 +15,20 @@ use Rattle.tsdb.specs.declared.call.Answer.TheVariants as answer
 use Rattle.tsdb.specs.declared.command_line.Action.{Action}
 use Rattle.tsdb.specs.declared.command_line.Action.TheVariants.{Replay, Faults, Inspect, Serve}
 use Rattle.tsdb.specs.declared.command_line.CliOutcome.TheVariants as cli_outcome
-use Rattle.tsdb.specs.declared.outcome.Outcome.{Outcome}
-use Rattle.tsdb.specs.declared.outcome.Outcome.TheVariants.{Answered, Stopped, NoScript, NoFault}
+use Rattle.tsdb.specs.declared.outcome.CallOutcome.{CallOutcome}
+use Rattle.tsdb.specs.declared.outcome.CallOutcome.TheVariants.{Answered, Stopped, NoScript, NoFault}
 use Rattle.ts_script.specs.declared.run_fault.RunFault.{RunFault}
 
 -- the outcome of a run of a script
-abbrev pub outcome_of : {T : Type 0} → Result T RunFault → Outcome
+abbrev pub outcome_of : {T : Type 0} → Result T RunFault → CallOutcome
 outcome_of (Ok x) = Answered
 outcome_of (Err fault) = Stopped fault
 
-abbrev pub IsReplayed : Input → Output → Outcome → Input → Output → Type 0
+abbrev pub IsReplayed : Input → Output → CallOutcome → Input → Output → Type 0
 IsReplayed source sink outcome source' sink' = (result : Result ⊤ RunFault) × (outcome ≡ outcome_of result) × IsReplay read_limit source sink result source' sink'
 
 -- The rows are printed, or a prefix of them if the device fails. There may be none, or the call runs out of memory.
-abbrev pub PrintsFaults : Text → Output → Outcome → Output → Type 0
+abbrev pub PrintsFaults : Text → Output → CallOutcome → Output → Type 0
 PrintsFaults table old (NoScript cli_outcome.Done) new = (table ≢ []) × Appends old.contents new.contents table × (new.failures ≡ old.failures)
 PrintsFaults table old (NoScript cli_outcome.Device) new = (table ≢ []) × AppendsFront old.contents new.contents table × (new.failures ≡ old.failures + 1)
 PrintsFaults table old (NoScript cli_outcome.OutOfMemory) new = new ≡ old

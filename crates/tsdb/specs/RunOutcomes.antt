@@ -5,11 +5,11 @@ use Rattle.ts_script.specs.RunFaults.{run_fault_text}
 use Rattle.tsdb.specs.declared.command_line.CliOutcome.TheVariants as cli_outcome
 use Rattle.ts_script.specs.declared.run_fault.RunFault.{RunFault}
 use Rattle.ts_script.specs.declared.run_fault.RunFault.TheVariants.{OutOfMemory, Reader, Writer, TooManyReads}
-use Rattle.tsdb.specs.declared.outcome.Outcome.{Outcome}
-use Rattle.tsdb.specs.declared.outcome.Outcome.TheVariants.{Answered, Stopped, NoScript, NoFault, NoText, NoSeed}
+use Rattle.tsdb.specs.declared.outcome.CallOutcome.{CallOutcome}
+use Rattle.tsdb.specs.declared.outcome.CallOutcome.TheVariants.{Answered, Stopped, NoScript, NoFault, NoText, NoSeed}
 
 -- 0 for success, 1 for a device error, endless input or no random bytes, 2 for a wrong command line, 3 when out of memory
-abbrev pub status_of : Outcome → ℕ
+abbrev pub status_of : CallOutcome → ℕ
 status_of Answered = 0
 status_of (NoScript cli_outcome.Done) = 0
 status_of (NoScript cli_outcome.Device) = 1
@@ -35,7 +35,7 @@ abbrev pub stopped_line : RunFault → Text
 stopped_line fault = run_fault_text fault ++ codes ": " ++ meaning_of fault
 
 -- the line for standard error, if there is one; for a wrong command line, clap has already printed the error
-abbrev pub error_line : Outcome → Option Text
+abbrev pub error_line : CallOutcome → Option Text
 error_line Answered = None
 error_line (Stopped fault) = Some (stopped_line fault)
 error_line (NoScript cli_outcome.Done) = None

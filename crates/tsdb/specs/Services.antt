@@ -3,10 +3,8 @@ use Rattle.std.specs.Prelude.{◌≡◌, ◌⊎◌, ◌^◌, ◌++◌, ℕ, code
 use Rattle.std.specs.Fmt.{decimal}
 use Rattle.ts_core.specs.facts.Facts.{Text}
 use Rattle.ts_core.specs.io.Devices.{Input}
-use Rattle.ts_core.specs.settings.Settings.{Settings}
 use Rattle.ts_core.specs.settings.SettingsFaults.{rule_fault_code, settings_fault_text}
-use Rattle.ts_core.specs.settings.SettingsTexts.{settings_read}
-use Rattle.ts_core.specs.store.StoreData.{StoreData, new_data}
+use Rattle.ts_core.specs.store.StoreData.{StoreData}
 use Rattle.ts_core.specs.text.FaultCodes.{code_message}
 use Rattle.ts_core.specs.declared.settings.settings_fault.SettingsFault.{SettingsFault}
 use Rattle.ts_core.specs.declared.settings.settings_fault.SettingsFault.TheVariants as faults
@@ -24,10 +22,6 @@ use Rattle.tsdb.specs.declared.service_fault.ServiceFault.TheVariants.{NoSetting
 -- a store that is loaded from the bytes of some file
 abbrev pub IsFromImage : StoreData → Type 0
 IsFromImage store = (source source' : Input) × LoadsStore source (2 ^ 32) (Ok store) source'
-
--- an empty store with the settings of a text
-abbrev pub IsNew : Text → StoreData → Type 0
-IsNew text store = (settings : Settings) × (settings_read text ≡ Ok settings) × (store ≡ new_data settings)
 
 -- 3 when out of memory, otherwise 1
 abbrev pub service_status : ServiceFault → ℕ

@@ -6,12 +6,12 @@ ghost use Rattle.tsdb.specs.CommandLines.{IsPrintedAs, outcome_of_kind};
 ghost use Rattle.tsdb.specs.FaultTables.{fault_table};
 ghost use Rattle.tsdb.specs.Calls.{IsReplayed, PrintsFaults, IsCall};
 ghost use Rattle.tsdb.specs.declared.command_line.CliOutcome.TheVariants.{OutOfMemory};
-ghost use Rattle.tsdb.specs.declared.outcome.Outcome.TheVariants.{NoScript, NoText};
+ghost use Rattle.tsdb.specs.declared.outcome.CallOutcome.TheVariants.{NoScript, NoText};
 
 use crate::command_line::{Action, CliOutcome, Inspection, Service, cli_outcome_of, parse};
 use crate::fault_table::fault_table;
 use crate::hints::hint_of;
-use crate::outcome::Outcome;
+use crate::outcome::CallOutcome;
 use clap::Error;
 use std::alloc::Global;
 use std::convert::AsStr;
@@ -23,19 +23,19 @@ use ts_core::{Sink, Source};
 use ts_script::run;
 
 /// Returns the words of the command line; the first is the program's name.
-pub fn read_arguments(rt: &(impl Env + AllocGlobal)) -> Result<Vec<String>, Outcome>
+pub fn read_arguments(rt: &(impl Env + AllocGlobal)) -> Result<Vec<String>, CallOutcome>
     ensures { IfErr result (λ outcome. (outcome ≡ NoText) ⊎ (outcome ≡ NoScript OutOfMemory)) }
 {
     let args = match env::args(rt) {
         Ok(args) => args,
         Err(error) if error.kind() == io::ErrorKind::OutOfMemory => {
-            return Err(Outcome::NoScript(CliOutcome::OutOfMemory));
+            return Err(CallOutcome::NoScript(CliOutcome::OutOfMemory));
         }
-        Err(_) => return Err(Outcome::NoText),
+        Err(_) => return Err(CallOutcome::NoText),
     };
     match args.collect(rt.alloc()) {
         Ok(words) => Ok(words),
-        Err(_) => Err(Outcome::NoScript(CliOutcome::OutOfMemory)),
+        Err(_) => Err(CallOutcome::NoScript(CliOutcome::OutOfMemory)),
     }
 }
 
@@ -43,7 +43,7 @@ pub fn read_arguments(rt: &(impl Env + AllocGlobal)) -> Result<Vec<String>, Outc
 #[derive(Clone, Copy, Drop)]
 pub enum Answer<'a> {
     /// Its action was carried out, or there was none.
-    Outcome(Outcome),
+    Outcome(CallOutcome),
     /// It requests `inspect`, which is left to the caller.
     Inspection(Inspection<'a>),
     /// It requests `serve`, which is left to the caller.
@@ -67,24 +67,24 @@ pub fn answer_arguments<'a, S: AsStr, R: Read, W: Write>(
         Ok(Action::Faults(number)) => Answer::Outcome(print_faults(rt.alloc(), number, sink)),
         Ok(Action::Inspect(inspection)) => Answer::Inspection(inspection),
         Ok(Action::Serve(service)) => Answer::Service(service),
-        Err(error) => Answer::Outcome(Outcome::NoScript(print_error(rt, words, &error))),
+        Err(error) => Answer::Outcome(CallOutcome::NoScript(print_error(rt, words, &error))),
     }
 }
 
 /// Prints the table of faults, or the row of one number.
-fn print_faults<W: Write>(alloc: Global, number: Option<&str>, sink: &mut Sink<W>) -> Outcome
+fn print_faults<W: Write>(alloc: Global, number: Option<&str>, sink: &mut Sink<W>) -> CallOutcome
     ensures { PrintsFaults (fault_table (given_text number.entry)) sink.old result sink.new }
 {
     let table = match fault_table(alloc, number) {
         Ok(table) => table,
-        Err(_) => return Outcome::NoScript(CliOutcome::OutOfMemory),
+        Err(_) => return CallOutcome::NoScript(CliOutcome::OutOfMemory),
     };
     if table.is_empty() {
-        return Outcome::NoFault;
+        return CallOutcome::NoFault;
     }
     match sink.write_all(table.as_bytes()) {
-        Ok(()) => Outcome::NoScript(CliOutcome::Done),
-        Err(_) => Outcome::NoScript(CliOutcome::Device),
+        Ok(()) => CallOutcome::NoScript(CliOutcome::Done),
+        Err(_) => CallOutcome::NoScript(CliOutcome::Device),
     }
 }
 
@@ -94,12 +94,12 @@ fn replay<R: Read, W: Write>(
     seed: RandomState,
     source: &mut Source<R>,
     sink: &mut Sink<W>,
-) -> Outcome
+) -> CallOutcome
     ensures { IsReplayed source.old sink.old result source.new sink.new }
 {
     match run(alloc, seed, source, sink) {
-        Ok(()) => Outcome::Answered,
-        Err(fault) => Outcome::Stopped(fault),
+        Ok(()) => CallOutcome::Answered,
+        Err(fault) => CallOutcome::Stopped(fault),
     }
 }
 

@@ -38,7 +38,7 @@ mod unread;
 
 use call::{Answer, answer_arguments, read_arguments};
 use inspect::inspect;
-use outcome::{Outcome, end};
+use outcome::{CallOutcome, end};
 use service::serve;
 use std::hash::RandomState;
 use std::io;
@@ -51,7 +51,7 @@ fn main(rt: HostRuntime) -> ExitCode {
         Err(outcome) => return end(&rt, outcome),
     };
     let Ok(seed) = RandomState::new(&rt) else {
-        return end(&rt, Outcome::NoSeed);
+        return end(&rt, CallOutcome::NoSeed);
     };
     let mut source = Source::new(rt.reader());
     let mut sink = Sink::new(io::writer(&rt));

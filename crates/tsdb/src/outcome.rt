@@ -9,7 +9,7 @@ use ts_script::RunFault;
 
 /// Outcome of a call of the program.
 #[derive(Clone, Copy, Drop)]
-pub enum Outcome {
+pub enum CallOutcome {
     /// A script was answered to its end.
     Answered,
     /// A script wasn't answered to its end.
@@ -24,7 +24,7 @@ pub enum Outcome {
     NoSeed,
 }
 
-impl Outcome {
+impl CallOutcome {
     /// Returns the exit status: 0 for success, 1 for a device error, endless input or no random bytes, 2 for a wrong
     /// command line, 3 when out of memory.
     pub fn exit_code(self) -> ExitCode
@@ -37,13 +37,14 @@ impl Outcome {
         ensures { result ≡ status_of self }
     {
         match self {
-            Outcome::Answered | Outcome::NoScript(CliOutcome::Done) => 0,
-            Outcome::Stopped(RunFault::Reader | RunFault::Writer | RunFault::TooManyReads)
-            | Outcome::NoScript(CliOutcome::Device)
-            | Outcome::NoSeed => 1,
-            Outcome::NoScript(CliOutcome::Wrong) | Outcome::NoFault | Outcome::NoText => 2,
-            Outcome::Stopped(RunFault::OutOfMemory) | Outcome::NoScript(CliOutcome::OutOfMemory) =>
-                3,
+            CallOutcome::Answered | CallOutcome::NoScript(CliOutcome::Done) => 0,
+            CallOutcome::Stopped(RunFault::Reader | RunFault::Writer | RunFault::TooManyReads)
+            | CallOutcome::NoScript(CliOutcome::Device)
+            | CallOutcome::NoSeed => 1,
+            CallOutcome::NoScript(CliOutcome::Wrong) | CallOutcome::NoFault | CallOutcome::NoText =>
+                2,
+            CallOutcome::Stopped(RunFault::OutOfMemory)
+            | CallOutcome::NoScript(CliOutcome::OutOfMemory) => 3,
         }
     }
 
@@ -53,25 +54,26 @@ impl Outcome {
         ensures { MatchOption result (error_line self ≡ None) (λ line. error_line self ≡ Some line.now) }
     {
         match self {
-            Outcome::Answered | Outcome::NoScript(CliOutcome::Done | CliOutcome::Wrong) => None,
-            Outcome::NoScript(CliOutcome::Device) => {
+            CallOutcome::Answered | CallOutcome::NoScript(CliOutcome::Done | CliOutcome::Wrong) =>
+                None,
+            CallOutcome::NoScript(CliOutcome::Device) => {
                 Some("tsdb: standard output or standard error could not be written")
             }
-            Outcome::NoScript(CliOutcome::OutOfMemory) => {
+            CallOutcome::NoScript(CliOutcome::OutOfMemory) => {
                 Some("tsdb: there is no memory to answer the command line")
             }
-            Outcome::NoFault => {
+            CallOutcome::NoFault => {
                 Some("tsdb: no fault has this number; `tsdb faults` prints them all")
             }
-            Outcome::NoText => Some("tsdb: the command line can't be read as text"),
-            Outcome::NoSeed => Some("tsdb: the system gave no random bytes"),
-            Outcome::Stopped(fault) => Some(stopped_line(fault)),
+            CallOutcome::NoText => Some("tsdb: the command line can't be read as text"),
+            CallOutcome::NoSeed => Some("tsdb: the system gave no random bytes"),
+            CallOutcome::Stopped(fault) => Some(stopped_line(fault)),
         }
     }
 }
 
 /// Prints the line for standard error, if there is one, and returns the exit status.
-pub fn end(rt: &impl Eprint, outcome: Outcome) -> ExitCode
+pub fn end(rt: &impl Eprint, outcome: CallOutcome) -> ExitCode
     ensures { exit_status result ≡ status_of outcome }
 {
     if let Some(line) = outcome.error_line() {

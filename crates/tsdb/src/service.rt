@@ -1,11 +1,9 @@
 //! `tsdb serve`: a store that is loaded from its image or has the settings of a file, and the requests of a port.
-ghost use Rattle.std.specs.Prelude.{◌≡◌, ◌⊎◌, IfOk, IfErr, IfSome, Err};
+ghost use Rattle.std.specs.Prelude.{◌≡◌, ◌⊎◌, IfOk, IfSome};
 ghost use Rattle.std.specs.Process.{exit_status};
 ghost use Rattle.ts_core.specs.facts.Facts.{Text};
-ghost use Rattle.ts_core.specs.settings.SettingsTexts.{settings_read};
-ghost use Rattle.ts_core.specs.declared.settings.settings_fault.SettingsError.TheVariants as errors;
-ghost use Rattle.ts_core.specs.declared.settings.settings_fault.SettingsFault.{SettingsFault};
-ghost use Rattle.tsdb.specs.Services.{IsFromImage, IsNew, IsServiceStatus};
+ghost use Rattle.ts_script.specs.Opening.{IsNew};
+ghost use Rattle.tsdb.specs.Services.{IsFromImage, IsServiceStatus};
 
 use crate::command_line::Service;
 use crate::image_file::ImageFile;
@@ -21,7 +19,8 @@ use std::net::{Net, TcpListener, TcpStream};
 use std::process::ExitCode;
 use std::rt::{Clock, Files};
 use std::{fs, io};
-use ts_core::{Settings, SettingsError, SettingsFault, push_all};
+use ts_core::{SettingsError, SettingsFault, push_all};
+use ts_script::store_with;
 use ts_store::Store;
 
 /// Error of a service with its cause, which is empty if none is known.
@@ -63,18 +62,6 @@ impl Failure {
             failure.cause = cause_of(alloc, text).unwrap_or(String::new(alloc));
         }
         failure
-    }
-}
-
-/// Creates an empty store with the settings of a text, or returns their first error.
-fn store_with(alloc: Global, seed: RandomState, text: &str) -> Result<Store<Global>, SettingsError>
-    ensures ok { IfOk result (IsNew text.now) }
-    ensures fault { IfErr result (λ e. (f : SettingsFault) → e ≡ errors.Fault f → settings_read text.now ≡ Err f) }
-{
-    let settings = Settings::read(alloc, alloc, text)?;
-    match Store::new(alloc, settings, seed) {
-        Ok(store) => Ok(store),
-        Err(_) => Err(SettingsError::OutOfMemory),
     }
 }
 

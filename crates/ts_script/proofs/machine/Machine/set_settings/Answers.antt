@@ -16,7 +16,7 @@ pub returns-in-Ok : goal.returns-in-Ok
 returns-in-Ok c = λ s i.
     let m : MachineState = serving c.self.inside.moment c.self.inside.precision c.self.inside.epoch c.self.inside.fresh (option_map string_bytes c.self.inside.certificate) c.self.inside.store in
     let before = subst (λ (k : MachineState). IsMachineIn s k) (sym c.self.view_is) i in
-    let e = c.in-Ok.ensures in
+    let e = c.in-Ok.ensures.opening in
     was_opened c.args.text.now e.0 s m c.in-Ok.store before c.if-not-self.false e.1 e.2 e.3
 
 pub returns-in-Err-Fault : goal.returns-in-Err-Fault
@@ -24,7 +24,7 @@ returns-in-Err-Fault c = λ s i.
     let m : MachineState = serving c.self.inside.moment c.self.inside.precision c.self.inside.epoch c.self.inside.fresh (option_map string_bytes c.self.inside.certificate) c.self.inside.store in
     let before = subst (λ (k : MachineState). IsMachineIn s k) (sym c.self.view_is) i in
     subst (λ (k : MachineState). TransitionTo (SetSettings c.args.text.now) s (text_of c.bad_settings.result) k) c.self.view_is
-    (settings_refused c.args.text.now c.bad_settings.result c.in-Err-Fault.fault s m before c.if-not-self.false (rw c.in-Err-Fault.field-0-is at c.in-Err-Fault.ensures) c.bad_settings.ensures)
+    (settings_refused c.args.text.now c.bad_settings.result c.in-Err-Fault.fault s m before c.if-not-self.false (rw c.in-Err-Fault.field-0-is at c.in-Err-Fault.ensures.opening) c.bad_settings.ensures)
 
 pub returns-in-Err-OutOfMemory : goal.returns-in-Err-OutOfMemory
 returns-in-Err-OutOfMemory c = λ s i.
