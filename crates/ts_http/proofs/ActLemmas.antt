@@ -10,7 +10,7 @@ use Rattle.ts_core.specs.io.Devices.{Output, IsPut, AppendsFront}
 use Rattle.ts_core.specs.declared.facts.time_unit.TimeUnit.{TimeUnit}
 use Rattle.ts_reply.specs.Answering.{IsReply}
 use Rattle.ts_reply.specs.Explaining.{IsExplanation}
-use Rattle.ts_reply.specs.declared.answering.Reply.{Reply}
+use Rattle.ts_reply.specs.declared.answering.QueryReply.{QueryReply}
 use Rattle.ts_reply.specs.declared.epoch.Epoch.{Epoch}
 use Rattle.ts_http.specs.Acts.{Replied, refusing, batch_reply, precision_in, epoch_parameter, explain_parameter, value_in, Writes, Queries}
 use Rattle.ts_store.specs.write.LineTexts.{refusal_text}
@@ -20,9 +20,9 @@ use Rattle.ts_http.specs.Batches.{refusals_of}
 use Rattle.ts_http.specs.OutcomeReplies.{reply_of, WritesAs, QueriesAs, answered_reply}
 use Rattle.ts_http.specs.Parameters.{Parameters, first_named}
 use Rattle.ts_http.specs.Tallies.{TallyIs, WritesLines}
-use Rattle.ts_http.specs.declared.batch.Tally.{Tally}
-use Rattle.ts_http.specs.declared.outcome.Outcome.{Outcome}
-use Rattle.ts_http.specs.declared.outcome.Outcome.TheVariants as outcomes
+use Rattle.ts_http.specs.declared.batch.BatchTally.{BatchTally}
+use Rattle.ts_http.specs.declared.outcome.RequestOutcome.{RequestOutcome}
+use Rattle.ts_http.specs.declared.outcome.RequestOutcome.TheVariants as outcomes
 use Rattle.ts_http.specs.declared.refusal.Refusal.{Refusal}
 use Rattle.ts_http.specs.declared.refusal.Refusal.TheVariants as refusals
 
@@ -76,7 +76,7 @@ module _ (now : ℤ) (query body : Text) (k : StoreData) where
   was_read : (precision : TimeUnit) (P : Type 0) → IsUtf8 body → precision_in query ≡ Some precision → (IsUtf8 body → ⊥) ⊎ (precision_in query ≡ None) → P
   was_read precision P utf8 p why = ⊎_elim {C = P} (λ no. absurd (no utf8)) (λ none. absurd (none-some precision (sym none ∙ p))) why
 
-  pub lines_written : (E : Type 0) (precision : TimeUnit) (new : StoreData) (tally : Tally) (o : Outcome) → IsUtf8 body → precision_in query ≡ Some precision → ((s : WholeState) → IsWholeStateOf s k → WritesLines precision now s body {E = E} (Ok tally) new)
+  pub lines_written : (E : Type 0) (precision : TimeUnit) (new : StoreData) (tally : BatchTally) (o : RequestOutcome) → IsUtf8 body → precision_in query ≡ Some precision → ((s : WholeState) → IsWholeStateOf s k → WritesLines precision now s body {E = E} (Ok tally) new)
       → ((os : List LineOutcome) → TallyIs (map refusal_text os) tally → reply_of false o ≡ batch_reply (refusals_of os)) → WritesAs now query body k o new
   lines_written E precision new tally o utf8 p did told = (
     λ s i.
@@ -111,12 +111,12 @@ module _ (now : ℤ) (query body : Text) (k : StoreData) (utf8 : IsUtf8 body) wh
     pub query_missing : (explain : Bool) → explain_parameter (value_in (codes "explain") query body) ≡ Some explain → value_in (codes "q") query body ≡ None → QueriesAs now query body k (outcomes.Refused refusals.MissingQuery)
     query_missing explain x none = λ s i. Queries.missing epoch explain utf8 e x none
 
-    pub answered_so : {E : Type 0} (text : Text) (r : Result Reply E) (o : Outcome) → explain_parameter (value_in (codes "explain") query body) ≡ Some false → value_in (codes "q") query body ≡ Some text
+    pub answered_so : {E : Type 0} (text : Text) (r : Result QueryReply E) (o : RequestOutcome) → explain_parameter (value_in (codes "explain") query body) ≡ Some false → value_in (codes "q") query body ≡ Some text
         → IfOk r (λ reply. OfEachHistory k (λ opening h. IsReply opening h now text (value_in (codes "cert") query body) epoch reply.good (string_bytes reply.body))) → reply_of false o ≡ answered_reply r → QueriesAs now query body k o
     answered_so text (Ok reply) o x q is told = λ s i. subst (Queries now s query body) (sym told) (Queries.answers epoch text reply.good (string_bytes reply.body) utf8 e x q (is s.store.opening s.store.history i.store.stands))
     answered_so text (Err f) o x q is told = λ s i. subst (Queries now s query body) (sym told) (Queries.wants_memory utf8)
 
-    pub explained_so : {E : Type 0} (text : Text) (r : Result Reply E) (o : Outcome) → explain_parameter (value_in (codes "explain") query body) ≡ Some true → value_in (codes "q") query body ≡ Some text
+    pub explained_so : {E : Type 0} (text : Text) (r : Result QueryReply E) (o : RequestOutcome) → explain_parameter (value_in (codes "explain") query body) ≡ Some true → value_in (codes "q") query body ≡ Some text
         → IfOk r (λ reply. OfEachHistory k (λ opening h. IsExplanation opening h now text reply.good (string_bytes reply.body))) → reply_of false o ≡ answered_reply r → QueriesAs now query body k o
     explained_so text (Ok reply) o x q is told = λ s i. subst (Queries now s query body) (sym told) (Queries.explains epoch text reply.good (string_bytes reply.body) utf8 e x q (is s.store.opening s.store.history i.store.stands))
     explained_so text (Err f) o x q is told = λ s i. subst (Queries now s query body) (sym told) (Queries.wants_memory utf8)

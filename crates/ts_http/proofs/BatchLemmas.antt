@@ -11,7 +11,7 @@ use Rattle.ts_store.specs.declared.write.write_text.LineOutcome.{LineOutcome}
 use Rattle.ts_store.specs.declared.write.write_text.LineRefusal.{LineRefusal}
 use Rattle.ts_http.specs.Batches.{TakesLines, body_lines, onto_first_reply, refusals_from}
 use Rattle.ts_http.specs.Tallies.{TallyIs, WritesLines, numbered_refusal, first_of}
-use Rattle.ts_http.specs.declared.batch.Tally.{Tally}
+use Rattle.ts_http.specs.declared.batch.BatchTally.{BatchTally}
 
 -- ---- tallies
 
@@ -25,7 +25,7 @@ more_some n m t [] e = ap (λ (k : ℕ). (k, t) ∷ []) (omega (arith, e))
 more_some n m t (None ∷ os) e = more_some (n + 1) m t os (omega (arith, e))
 more_some n m t (Some u ∷ os) e = ap (λ (l : List (ℕ × Text)). (n, u) ∷ l) (more_some (n + 1) m t os (omega (arith, e)))
 
-pub counted_none : (os : List (Option Text)) (t : Tally) → TallyIs os t → TallyIs (os ++ None ∷ []) (record { lines = t.lines + 1; dropped = t.dropped; first = t.first })
+pub counted_none : (os : List (Option Text)) (t : BatchTally) → TallyIs os t → TallyIs (os ++ None ∷ []) (record { lines = t.lines + 1; dropped = t.dropped; first = t.first })
 counted_none os t is = record {
   lines = omega (arith, is.lines, length-append os (None ∷ []));
   dropped = is.dropped ∙ sym (ap length (more_none 1 os));
@@ -55,14 +55,14 @@ one_dropped : (os : List (Option Text)) (text : Text) (dropped lines : ℕ) → 
 one_dropped os text dropped lines l d =
     omega (arith, d, ap length (more_some 1 (lines + 1) text os (omega (arith, l))), length-append (refusals_from 1 os) ((lines + 1, text) ∷ []))
 
-pub counted_some_first : (os : List (Option Text)) (t : Tally) (r : LineRefusal) → t.first ≡ None → TallyIs os t → TallyIs (os ++ Some (line_refusal_text r) ∷ []) (record { lines = t.lines + 1; dropped = t.dropped + 1; first = Some (t.lines + 1, r) })
+pub counted_some_first : (os : List (Option Text)) (t : BatchTally) (r : LineRefusal) → t.first ≡ None → TallyIs os t → TallyIs (os ++ Some (line_refusal_text r) ∷ []) (record { lines = t.lines + 1; dropped = t.dropped + 1; first = Some (t.lines + 1, r) })
 counted_some_first os t r none is = record {
   lines = omega (arith, is.lines, length-append os (Some (line_refusal_text r) ∷ []));
   dropped = one_dropped os (line_refusal_text r) t.dropped t.lines is.lines is.dropped;
   first = counted_first os t.lines r t.first none is.lines is.first;
 }
 
-pub counted_some_more : (os : List (Option Text)) (t : Tally) (text : Text) → t.first ≢ None → TallyIs os t → TallyIs (os ++ Some text ∷ []) (record { lines = t.lines + 1; dropped = t.dropped + 1; first = t.first })
+pub counted_some_more : (os : List (Option Text)) (t : BatchTally) (text : Text) → t.first ≢ None → TallyIs os t → TallyIs (os ++ Some text ∷ []) (record { lines = t.lines + 1; dropped = t.dropped + 1; first = t.first })
 counted_some_more os t text some is = record {
   lines = omega (arith, is.lines, length-append os (Some text ∷ []));
   dropped = one_dropped os text t.dropped t.lines is.lines is.dropped;
@@ -79,7 +79,7 @@ took_more precision now old mid new [] (p ∷ ps) text o t l = absurd t
 took_more precision now old mid new (u ∷ us) [] text o t l = absurd t
 
 -- one more outcome, as the tally sees it
-tallied : (os : List LineOutcome) (o : LineOutcome) (refusal : Option LineRefusal) (t : Tally) → refusal ≡ refusal_of o → TallyIs (map refusal_text os ++ option_map line_refusal_text refusal ∷ []) t → TallyIs (map refusal_text (os ++ o ∷ [])) t
+tallied : (os : List LineOutcome) (o : LineOutcome) (refusal : Option LineRefusal) (t : BatchTally) → refusal ≡ refusal_of o → TallyIs (map refusal_text os ++ option_map line_refusal_text refusal ∷ []) t → TallyIs (map refusal_text (os ++ o ∷ [])) t
 tallied os o refusal t is tally = subst (λ (l : List (Option Text)). TallyIs l t) (ap (λ (r : Option LineRefusal). map refusal_text os ++ option_map line_refusal_text r ∷ []) is ∙ sym (map-append refusal_text os (o ∷ []))) tally
 
 -- ---- lines of a body
@@ -104,7 +104,7 @@ next_line text first others e none = ap body_lines e ∙ first_line first others
 -- ---- the loop
 
 -- the progress of a batch: these lines of a body were written, and these come before the rest of it
-pub record SoFar (precision : TimeUnit) (now : ℤ) (s : WholeState) (lines : List Text) (t : Tally) (left : List Text) (new : StoreData) : Type 0 where
+pub record SoFar (precision : TimeUnit) (now : ℤ) (s : WholeState) (lines : List Text) (t : BatchTally) (left : List Text) (new : StoreData) : Type 0 where
   pub done : List Text
   pub outcomes : List LineOutcome
   pub mid : WholeState
@@ -113,10 +113,10 @@ pub record SoFar (precision : TimeUnit) (now : ℤ) (s : WholeState) (lines : Li
   pub tally : TallyIs (map refusal_text outcomes) t
   pub here : IsWholeStateOf mid new
 
-pub begins : (precision : TimeUnit) (now : ℤ) (s : WholeState) (lines : List Text) (t : Tally) (k : StoreData) → TallyIs [] t → IsWholeStateOf s k → SoFar precision now s lines t lines k
+pub begins : (precision : TimeUnit) (now : ℤ) (s : WholeState) (lines : List Text) (t : BatchTally) (k : StoreData) → TallyIs [] t → IsWholeStateOf s k → SoFar precision now s lines t lines k
 begins precision now s lines t k tally i = record { done = []; outcomes = []; mid = s; lines_are = refl; took = refl; tally = tally; here = i }
 
-module _ (E : Type 0) (precision : TimeUnit) (now : ℤ) (s : WholeState) (lines : List Text) (t t' : Tally) (text : Text) (left rest : List Text) (k k' : StoreData) (o : LineOutcome) (refusal : Option LineRefusal)
+module _ (E : Type 0) (precision : TimeUnit) (now : ℤ) (s : WholeState) (lines : List Text) (t t' : BatchTally) (text : Text) (left rest : List Text) (k k' : StoreData) (o : LineOutcome) (refusal : Option LineRefusal)
     (so : SoFar precision now s lines t left k) (is : left ≡ text ∷ rest) (did : (m : WholeState) → IsWholeStateOf m k → LineWrites precision now m text {E = E} (Ok o) k') (of : refusal ≡ refusal_of o)
     (counts : (os : List (Option Text)) → TallyIs os t → TallyIs (os ++ option_map line_refusal_text refusal ∷ []) t') where
   pub goes_on : SoFar precision now s lines t' rest k'
@@ -132,11 +132,11 @@ module _ (E : Type 0) (precision : TimeUnit) (now : ℤ) (s : WholeState) (lines
         here = d.2;
       }
 
-pub all_done : (E : Type 0) (precision : TimeUnit) (now : ℤ) (s : WholeState) (body : Text) (t : Tally) (k : StoreData) → SoFar precision now s (body_lines body) t [] k → WritesLines precision now s body {E = E} (Ok t) k
+pub all_done : (E : Type 0) (precision : TimeUnit) (now : ℤ) (s : WholeState) (body : Text) (t : BatchTally) (k : StoreData) → SoFar precision now s (body_lines body) t [] k → WritesLines precision now s body {E = E} (Ok t) k
 all_done E precision now s body t k so =
     (so.outcomes, so.mid, subst (λ (l : List Text). TakesLines precision now s l so.outcomes so.mid) (sym (so.lines_are ∙ append-nil so.done)) so.took, so.tally, so.here)
 
-pub stopped : (E : Type 0) (precision : TimeUnit) (now : ℤ) (s : WholeState) (body : Text) (t : Tally) (text : Text) (left rest : List Text) (k k' : StoreData) (e : E) → SoFar precision now s (body_lines body) t left k → left ≡ text ∷ rest
+pub stopped : (E : Type 0) (precision : TimeUnit) (now : ℤ) (s : WholeState) (body : Text) (t : BatchTally) (text : Text) (left rest : List Text) (k k' : StoreData) (e : E) → SoFar precision now s (body_lines body) t left k → left ≡ text ∷ rest
     → ((m : WholeState) → IsWholeStateOf m k → LineWrites precision now m text {E = E} (Err e) k') → WritesLines precision now s body {E = E} (Err e) k'
 stopped E precision now s body t text left rest k k' e so is did =
     let d = did so.mid so.here in

@@ -15,8 +15,8 @@ use Rattle.ts_http.specs.Acts.{Replied, refusing, answer_reply, Maintains}
 use Rattle.ts_http.specs.Maintaining.{steps_of_parameter, OpensRun, RunsSteps, progress_text, run_text}
 use Rattle.ts_http.specs.MaintainSteps.{run_opened, HasRun, HasStepped}
 use Rattle.ts_http.specs.OutcomeReplies.{reply_of, MaintainsAs}
-use Rattle.ts_http.specs.declared.outcome.Outcome.{Outcome}
-use Rattle.ts_http.specs.declared.outcome.Outcome.TheVariants as outcomes
+use Rattle.ts_http.specs.declared.outcome.RequestOutcome.{RequestOutcome}
+use Rattle.ts_http.specs.declared.outcome.RequestOutcome.TheVariants as outcomes
 use Rattle.ts_http.specs.declared.refusal.Refusal.{Refusal}
 use Rattle.ts_http.specs.declared.refusal.Refusal.TheVariants as refusals
 use Rattle.ts_store.proofs.store.WholeStatesKept.{Steps, last_step}
@@ -69,7 +69,7 @@ module _ (now : ℤ) (query : Text) (old : StoreData) where
     inr refl,
   )
 
-  pub maintained : (n : ℕ) (new : StoreData) (taken : ℕ) (done : Bool) (o : Outcome) → steps_of_parameter query ≡ Some n → (old.running ≡ false → GoesOn old (Begin now) (run_begun now old)) → HasStepped n (run_opened now old) new taken done
+  pub maintained : (n : ℕ) (new : StoreData) (taken : ℕ) (done : Bool) (o : RequestOutcome) → steps_of_parameter query ≡ Some n → (old.running ≡ false → GoesOn old (Begin now) (run_begun now old)) → HasStepped n (run_opened now old) new taken done
       → reply_of false o ≡ answer_reply true (progress_text done new.marks.raw taken) → MaintainsAs now query old o new
   maintained n new taken done o asked begins did reply = (
     λ s i.

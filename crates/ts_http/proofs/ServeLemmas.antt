@@ -31,8 +31,8 @@ use Rattle.ts_http.specs.declared.serve.Served.{Served}
 use Rattle.ts_http.specs.declared.serve.Served.TheVariants as served
 use Rattle.ts_store.specs.store.WholeStates.{WholeState, IsWholeStateOf}
 use Rattle.ts_http.specs.OutcomeReplies.{WritesAs, QueriesAs, MaintainsAs, AddsAs, DropsAs, ActsAs, reply_of}
-use Rattle.ts_http.specs.declared.outcome.Outcome.{Outcome}
-use Rattle.ts_http.specs.declared.outcome.Outcome.TheVariants as outcomes
+use Rattle.ts_http.specs.declared.outcome.RequestOutcome.{RequestOutcome}
+use Rattle.ts_http.specs.declared.outcome.RequestOutcome.TheVariants as outcomes
 use Rattle.ts_http.specs.declared.route.Route.{Route}
 use Rattle.ts_http.specs.declared.route.Route.TheVariants as to
 use Rattle.ts_http.specs.declared.status.Status.{Status}
@@ -44,7 +44,7 @@ use Rattle.ts_http.specs.declared.status.Status.TheVariants as status
 not_done : (s : Status) (old new : StoreData) → (s ≡ status.Success) ⊎ (new ≡ old) → s ≢ status.Success → new ≡ old
 not_done s old new why other = ⊎_elim {C = new ≡ old} (λ is. absurd (other is)) (λ same. same) why
 
-module _ (now : ℤ) (method : Method) (query body : Text) (old new : StoreData) (o : Outcome) where
+module _ (now : ℤ) (method : Method) (query body : Text) (old new : StoreData) (o : RequestOutcome) where
   pub acted_write : WritesAs now query body old o new → ActsAs now to.Write method query body old o new
   acted_write w = (λ s i. let d = w.0 s i in (d.0, Acts.writes method (reply_of false o) d.0 d.1, d.2), w.1)
 
@@ -67,7 +67,7 @@ module _ (now : ℤ) (method : Method) (query body : Text) (old new : StoreData)
     not_done (reply_of false o).0 old new a.1,
   )
 
-pub acted_query : (now : ℤ) (method : Method) (query body : Text) (k : StoreData) (o : Outcome) → QueriesAs now query body k o → ActsAs now to.Query method query body k o k
+pub acted_query : (now : ℤ) (method : Method) (query body : Text) (k : StoreData) (o : RequestOutcome) → QueriesAs now query body k o → ActsAs now to.Query method query body k o k
 acted_query now method query body k o q = (λ s i. (s, Acts.queries method (reply_of false o) (q s i), i), λ e. refl)
 
 pub acted_ping : (now : ℤ) (method : Method) (query body : Text) (k : StoreData) → ActsAs now to.Ping method query body k outcomes.Done k
@@ -88,24 +88,24 @@ spans_within came spans found w = spans_by_parts found.len (length came) (take f
 -- ---- the parts of a head
 
 -- the reply of an outcome, and the effect on the store
-pub record Told (now : ℤ) (bytes : Text) (Quiet : Type 0) (to_head : Bool) (route : Route) (old new : StoreData) (o : Outcome) : Type 0 where
+pub record Told (now : ℤ) (bytes : Text) (Quiet : Type 0) (to_head : Bool) (route : Route) (old new : StoreData) (o : RequestOutcome) : Type 0 where
   pub answers : Answers bytes Quiet old new (served.Reply (reply_of to_head o).0 route) (reply_of to_head o).1
   pub states : (s : WholeState) → IsWholeStateOf s old → (s' : WholeState) × Serves now s bytes (served.Reply (reply_of to_head o).0 route) (reply_of to_head o).1 s' × IsWholeStateOf s' new
 
 pub refusal_told : (now : ℤ) (bytes : Text) (Quiet : Type 0) (to_head : Bool) (route : Route) (k : StoreData) (r : Refusal) → Asks bytes (Refuses r route to_head) → Told now bytes Quiet to_head route k k (outcomes.Refused r)
 refusal_told now bytes Quiet to_head route k r asks = record { answers = Answers.refuses r route to_head asks refl; states = λ s i. (s, Serves.refuses r route to_head asks, i) }
 
-refused_then : (now : ℤ) (bytes : Text) (Quiet : Type 0) (route : Route) (old new : StoreData) (o : Outcome) (r : Refusal) → o ≡ outcomes.Refused r → new ≡ old → Asks bytes (Refuses r route false) → Told now bytes Quiet false route old new o
+refused_then : (now : ℤ) (bytes : Text) (Quiet : Type 0) (route : Route) (old new : StoreData) (o : RequestOutcome) (r : Refusal) → o ≡ outcomes.Refused r → new ≡ old → Asks bytes (Refuses r route false) → Told now bytes Quiet false route old new o
 refused_then now bytes Quiet route old new o r oe ne asks =
-    subst (λ (p : Outcome). Told now bytes Quiet false route old new p) (sym oe) (subst (λ (k : StoreData). Told now bytes Quiet false route old k (outcomes.Refused r)) (sym ne) (refusal_told now bytes Quiet false route old r asks))
+    subst (λ (p : RequestOutcome). Told now bytes Quiet false route old new p) (sym oe) (subst (λ (k : StoreData). Told now bytes Quiet false route old k (outcomes.Refused r)) (sym ne) (refusal_told now bytes Quiet false route old r asks))
 
-some_reply : (to_head : Bool) (o : Outcome) → (allow : Text) × (content : Option Text) × ((reply_of to_head o).1 ≡ reply_text (reply_of to_head o).0 allow content)
+some_reply : (to_head : Bool) (o : RequestOutcome) → (allow : Text) × (content : Option Text) × ((reply_of to_head o).1 ≡ reply_text (reply_of to_head o).0 allow content)
 some_reply to_head (outcomes.Refused r) = (refusal_allow r, unless_head to_head (error_json (refusal_message r)), refl)
 some_reply to_head outcomes.Done = ([], None, refl)
 some_reply to_head (outcomes.Brief s note) = ([], Some note.bytes, refl)
 some_reply to_head (outcomes.Answered s body) = ([], Some (string_bytes body), refl)
 
-acted_then : (now : ℤ) (bytes : Text) (Quiet : Type 0) (route : Route) (method : Method) (query body : Text) (old new : StoreData) (o : Outcome) → Asks bytes (Wants route method query body) → Quiet → ActsAs now route method query body old o new → Told now bytes Quiet false route old new o
+acted_then : (now : ℤ) (bytes : Text) (Quiet : Type 0) (route : Route) (method : Method) (query body : Text) (old new : StoreData) (o : RequestOutcome) → Asks bytes (Wants route method query body) → Quiet → ActsAs now route method query body old o new → Told now bytes Quiet false route old new o
 acted_then now bytes Quiet route method query body old new o asks quiet did =
     let r = some_reply false o in
     record {
@@ -125,7 +125,7 @@ module _ (came : Text) (spans : List HeaderSpan) (found : RequestSpans) (head : 
       subst (λ q. Asks bytes (Refuses r q (is_head method))) (sym route_is) (subst (λ m. Asks bytes (Refuses r (route_in head) (is_head m))) (sym method_is) (Asks.refuses head rest r whole why))
 
   -- a head that is accepted, and the outcome of the bytes after it
-  pub asks_taken : (bytes rest : Text) (now : ℤ) (route : Route) (method : Method) (query : Text) (len : ℕ) (BodyQuiet Quiet : Type 0) (old new : StoreData) (o : Outcome) → IsWholeHead bytes head rest
+  pub asks_taken : (bytes rest : Text) (now : ℤ) (route : Route) (method : Method) (query : Text) (len : ℕ) (BodyQuiet Quiet : Type 0) (old new : StoreData) (o : RequestOutcome) → IsWholeHead bytes head rest
       → route ≡ route_of (path_of (span_bytes came found.path)) → method ≡ method_of (span_bytes came found.method) → query ≡ target_query (span_bytes came found.path)
       → refused route method (map (header_bytes came) (take found.headers spans)) ≡ None → len ≡ body_length method (map (header_bytes came) (take found.headers spans))
       → (BodyQuiet → Quiet) → ActedOn now route method query rest len BodyQuiet old o new → Told now bytes Quiet false route old new o
@@ -188,7 +188,7 @@ nothing_served now old source source' sink came c h f t = record {
   reads = t;
 }
 
-pub sent_told : (now : ℤ) (old new : StoreData) (source source' : Input) (sink sink' : Output) (o : Outcome) (route : Route) (to_head : Bool) (came : Text) (result : Result Served IoFault) → IsSent o route to_head sink result sink' → Consumes source.remaining source'.remaining came
+pub sent_told : (now : ℤ) (old new : StoreData) (source source' : Input) (sink sink' : Output) (o : RequestOutcome) (route : Route) (to_head : Bool) (came : Text) (result : Result Served IoFault) → IsSent o route to_head sink result sink' → Consumes source.remaining source'.remaining came
     → Told now (request_of came source') (source'.ends ≡ source.ends) to_head route old new o → source'.failures ≡ source.failures → source'.reads ≤ source.reads + request_reads → IsServed now old source sink result new source' sink'
 sent_told now old new source source' sink sink' o route to_head came (Ok x) sent c told f t =
     let bytes : Text = request_of came source' in

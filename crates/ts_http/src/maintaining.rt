@@ -9,7 +9,7 @@ ghost use Rattle.ts_http.specs.OutcomeReplies.{IsValueOr, MaintainsAs};
 ghost use Rattle.ts_reply.specs.OutcomeViews.{given_text};
 
 use crate::fields::{is_short_number, number_of};
-use crate::outcome::Outcome;
+use crate::outcome::RequestOutcome;
 use crate::parameters::first_named;
 use crate::refusal::Refusal;
 use crate::reply::Note;
@@ -105,16 +105,16 @@ pub(crate) fn maintain<A: Allocator + Copy>(
     store: &mut Store<A>,
     now: Time,
     query: &[u8],
-) -> Outcome
+) -> RequestOutcome
     ensures { MaintainsAs now query.now store.old result store.new }
 {
     let limit = match steps(alloc, query) {
         Ok(limit) => limit,
-        Err(refusal) => return Outcome::Refused(refusal),
+        Err(refusal) => return RequestOutcome::Refused(refusal),
     };
     open_run(store, now);
     let progress = run_steps(store, limit);
-    Outcome::Brief(
+    RequestOutcome::Brief(
         Status::Success,
         progress_note(progress, store.marks().raw()),
     )

@@ -5,7 +5,7 @@ ghost use Rattle.ts_http.specs.Acts.{bad_reply, added_text, dropped_body};
 ghost use Rattle.ts_http.specs.HttpReplies.{error_json};
 ghost use Rattle.ts_http.specs.OutcomeReplies.{AddsAs, DropsAs, DropsNamed, reply_of};
 
-use crate::outcome::Outcome;
+use crate::outcome::RequestOutcome;
 use crate::parameters::first_named;
 use crate::refusal::Refusal;
 use crate::reply::{Note, fault_note};
@@ -53,12 +53,12 @@ fn fault_body(json: Global, fault: SettingsFault) -> Result<String, AllocError>
 }
 
 /// Returns the outcome for a rule with a fault, or out of memory.
-fn refused(json: Global, fault: SettingsFault) -> Outcome
-    ensures { (reply_of false result ≡ bad_reply (error_json (settings_fault_text fault))) ⊎ (result ≡ Outcome.Refused Refusal.OutOfMemory) }
+fn refused(json: Global, fault: SettingsFault) -> RequestOutcome
+    ensures { (reply_of false result ≡ bad_reply (error_json (settings_fault_text fault))) ⊎ (result ≡ RequestOutcome.Refused Refusal.OutOfMemory) }
 {
     match fault_body(json, fault) {
-        Ok(body) => Outcome::Answered(Status::BadRequest, body),
-        Err(_) => Outcome::Refused(Refusal::OutOfMemory),
+        Ok(body) => RequestOutcome::Answered(Status::BadRequest, body),
+        Err(_) => RequestOutcome::Refused(Refusal::OutOfMemory),
     }
 }
 
@@ -68,13 +68,13 @@ fn add_text<A: Allocator + Copy>(
     json: Global,
     store: &mut Store<A>,
     text: &str,
-) -> Outcome
+) -> RequestOutcome
     ensures { AddsAs text.now store.old result store.new }
 {
     match store.add_rule_text(alloc, json, text) {
-        Ok(added) => Outcome::Brief(Status::Success, added_note(&added)),
+        Ok(added) => RequestOutcome::Brief(Status::Success, added_note(&added)),
         Err(SettingsError::Fault(fault)) => refused(json, fault),
-        Err(SettingsError::OutOfMemory) => Outcome::Refused(Refusal::OutOfMemory),
+        Err(SettingsError::OutOfMemory) => RequestOutcome::Refused(Refusal::OutOfMemory),
     }
 }
 
@@ -84,24 +84,24 @@ pub(crate) fn add_rule<A: Allocator + Copy>(
     json: Global,
     store: &mut Store<A>,
     body: &[u8],
-) -> Outcome
+) -> RequestOutcome
     ensures { AddsAs body.now store.old result store.new }
 {
     match str::from_utf8(body) {
         Ok(text) => add_text(alloc, json, store, text),
-        Err(_) => Outcome::Refused(Refusal::BodyNotText),
+        Err(_) => RequestOutcome::Refused(Refusal::BodyNotText),
     }
 }
 
 /// Drops the rule with a name.
-fn drop_named<A: Allocator + Copy>(store: &mut Store<A>, name: &str) -> Outcome
+fn drop_named<A: Allocator + Copy>(store: &mut Store<A>, name: &str) -> RequestOutcome
     ensures { DropsNamed name.now store.old result store.new }
 {
     // for the proof: settings have no fault, so their names have at most 32 bytes
     let _ = store.settings().rules();
     match store.drop_rule(name) {
-        Ok(()) => Outcome::Brief(Status::Success, dropped_note(name)),
-        Err(_) => Outcome::Brief(Status::BadRequest, fault_note(FaultCode::UnknownRule)),
+        Ok(()) => RequestOutcome::Brief(Status::Success, dropped_note(name)),
+        Err(_) => RequestOutcome::Brief(Status::BadRequest, fault_note(FaultCode::UnknownRule)),
     }
 }
 
@@ -110,12 +110,12 @@ pub(crate) fn drop_rule<A: Allocator + Copy>(
     alloc: A,
     store: &mut Store<A>,
     query: &[u8],
-) -> Outcome
+) -> RequestOutcome
     ensures { DropsAs query.now store.old result store.new }
 {
     match first_named(alloc, query, "name") {
         Ok(Some(name)) => drop_named(store, name.as_str()),
-        Ok(None) => Outcome::Refused(Refusal::MissingName),
-        Err(_) => Outcome::Refused(Refusal::OutOfMemory),
+        Ok(None) => RequestOutcome::Refused(Refusal::MissingName),
+        Err(_) => RequestOutcome::Refused(Refusal::OutOfMemory),
     }
 }

@@ -14,7 +14,7 @@ use crate::body::{Body, receive_body};
 use crate::fields::body_of;
 use crate::head::{FIELD_LIMIT, HEAD_LIMIT, HeadRead, read_head};
 use crate::maintaining::maintain;
-use crate::outcome::Outcome;
+use crate::outcome::RequestOutcome;
 use crate::querying::{Form, query};
 use crate::reading::ReadFailed;
 use crate::refusal::Refusal;
@@ -159,7 +159,7 @@ fn act<A: Allocator + Copy>(
     now: Time,
     head: &HeadParts<'_>,
     body: &[u8],
-) -> Outcome
+) -> RequestOutcome
     requires allowed { is_allowed head.now.route head.now.method ≡ true }
     requires body { length body.now ≤ body_limit }
     ensures { ActsAs now head.now.route head.now.method head.now.query.now body.now store.old result store.new }
@@ -182,7 +182,7 @@ fn act<A: Allocator + Copy>(
             Method::Delete => drop_rule(alloc, store, head.query),
             _ => unreachable!(),
         },
-        Route::Ping => Outcome::Done,
+        Route::Ping => RequestOutcome::Done,
         Route::Other => unreachable!(),
     }
 }
@@ -196,7 +196,7 @@ fn act_on_body<R: Read, A: Allocator + Copy>(
     head: &HeadParts<'_>,
     len: usize,
     source: &mut Source<R>,
-) -> Result<Outcome, ReadFailed>
+) -> Result<RequestOutcome, ReadFailed>
     requires allowed { is_allowed head.now.route head.now.method ≡ true }
     requires len { len ≤ body_limit }
     ensures acted { IsActedOn now head.now.route head.now.method head.now.query.now head.now.behind.now len store.old source.old result store.new source.new }
@@ -207,14 +207,14 @@ fn act_on_body<R: Read, A: Allocator + Copy>(
     }
     match receive_body(alloc, head.behind, len, source)? {
         Body::Whole(body) => Ok(act(alloc, json, store, now, head, &body)),
-        Body::Cut => Ok(Outcome::Refused(Refusal::BodyEndsEarly)),
-        Body::NoMemory => Ok(Outcome::Refused(Refusal::OutOfMemory)),
+        Body::Cut => Ok(RequestOutcome::Refused(Refusal::BodyEndsEarly)),
+        Body::NoMemory => Ok(RequestOutcome::Refused(Refusal::OutOfMemory)),
     }
 }
 
 /// Sends a reply, without a body if it is to HEAD.
 fn reply<W: Write>(
-    outcome: &Outcome,
+    outcome: &RequestOutcome,
     route: Route,
     to_head: bool,
     sink: &mut Sink<W>,
@@ -250,7 +250,7 @@ pub fn serve_one<R: Read, W: Write, A: Allocator + Copy>(
     match head {
         HeadRead::Nothing => Ok(Served::Nothing),
         HeadRead::Fault(fault) => {
-            let refused = Outcome::Refused(Refusal::Head(fault));
+            let refused = RequestOutcome::Refused(Refusal::Head(fault));
             reply(&refused, Route::Other, false, sink)
         }
         HeadRead::Whole(found) => {
@@ -262,7 +262,7 @@ pub fn serve_one<R: Read, W: Write, A: Allocator + Copy>(
                     reply(&outcome, head.route, false, sink)
                 }
                 Err(refusal) => {
-                    let refused = Outcome::Refused(refusal);
+                    let refused = RequestOutcome::Refused(refusal);
                     reply(&refused, head.route, head.method.is_head(), sink)
                 }
             }

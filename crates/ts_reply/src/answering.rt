@@ -22,7 +22,7 @@ use ts_store::{Store, View};
 
 /// Reply to an InfluxQL text.
 #[derive(Drop)]
-pub struct Reply {
+pub struct QueryReply {
     /// True if the request is well formed: a valid text, and a certificate only with a single query. Queries may still
     /// have errors of their own, such as `NoPlan`.
     pub good: bool,
@@ -168,16 +168,16 @@ fn reply_to<A: Allocator + Copy>(
     queries: &[Query<A>],
     certificate: Option<&str>,
     epoch: Epoch,
-) -> Result<Reply, AllocError>
+) -> Result<QueryReply, AllocError>
     ensures { IfOk result (λ r. OfEachHistory store.now (λ opening h. IsReplyTo opening h queries.now (given_text certificate.entry) epoch r.good (string_bytes r.body))) }
 {
     if is_of_several(certificate, queries) {
         let body = refusal_of_several(json)?;
-        return Ok(Reply { good: false, body });
+        return Ok(QueryReply { good: false, body });
     }
     let outcomes = outcomes_of(alloc, json, store, queries, certificate)?;
     let body = reply_json(json, outcomes.as_slice(), epoch)?;
-    Ok(Reply { good: true, body })
+    Ok(QueryReply { good: true, body })
 }
 
 /// Answers an InfluxQL text at time `now`, over all facts that the store ever accepted. Queries are executed by their
@@ -191,14 +191,14 @@ pub fn answer<A: Allocator + Copy>(
     text: &str,
     certificate: Option<&str>,
     epoch: Epoch,
-) -> Result<Reply, AllocError>
+) -> Result<QueryReply, AllocError>
     ensures { IfOk result (λ r. OfEachHistory store.now (λ opening h. IsReply opening h now text.now (given_text certificate.entry) epoch r.good (string_bytes r.body))) }
 {
     match parse(alloc, text, now) {
         Ok(queries) => reply_to(alloc, json, store, queries.as_slice(), certificate, epoch),
         Err(ParseError::Fault(fault)) => {
             let body = refusal_of(json, &fault)?;
-            Ok(Reply { good: false, body })
+            Ok(QueryReply { good: false, body })
         }
         Err(ParseError::OutOfMemory) => Err(AllocError),
     }

@@ -5,7 +5,7 @@ ghost use Rattle.ts_reply.specs.Answering.{AreOutcomes};
 ghost use Rattle.ts_reply.specs.Explaining.{IsExplained, IsExplanation};
 ghost use Rattle.ts_reply.specs.OutcomeViews.{outcome_view};
 
-use crate::answering::Reply;
+use crate::answering::QueryReply;
 use crate::epoch::Epoch;
 use crate::faults::{plan_fault_text, refusal_of};
 use crate::reply::{Outcome, reply_json};
@@ -56,18 +56,18 @@ pub fn explain<A: Allocator + Copy>(
     store: &Store<A>,
     now: Time,
     text: &str,
-) -> Result<Reply, AllocError>
+) -> Result<QueryReply, AllocError>
     ensures { IfOk result (λ r. OfEachHistory store.now (λ opening h. IsExplanation opening h now text.now r.good (string_bytes r.body))) }
 {
     match parse(alloc, text, now) {
         Ok(queries) => {
             let outcomes = each_explained(alloc, json, store, queries.as_slice())?;
             let body = reply_json(json, outcomes.as_slice(), Epoch::Text)?;
-            Ok(Reply { good: true, body })
+            Ok(QueryReply { good: true, body })
         }
         Err(ParseError::Fault(fault)) => {
             let body = refusal_of(json, &fault)?;
-            Ok(Reply { good: false, body })
+            Ok(QueryReply { good: false, body })
         }
         Err(ParseError::OutOfMemory) => Err(AllocError),
     }

@@ -31,7 +31,7 @@ mod series;
 mod text;
 mod value;
 
-pub use answering::{Reply, answer};
+pub use answering::{QueryReply, answer};
 pub use clock::time_text;
 pub use epoch::Epoch;
 pub use explaining::explain;

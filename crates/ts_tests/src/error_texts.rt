@@ -6,7 +6,7 @@ use std::alloc::{AllocError, Global};
 use std::error::Error;
 use ts_block::BlockFault;
 use ts_check::{CertificateFault, CheckError, CheckFault, ReadCertificateError};
-use ts_core::{Fault, FaultCode, RuleFault, SettingsError, SettingsFault, Time, UnknownRule};
+use ts_core::{FaultCode, PieceFault, RuleFault, SettingsError, SettingsFault, Time, UnknownRule};
 use ts_exec::ExecFault;
 use ts_http::IoFault;
 use ts_image::{LoadFault, SaveFault};
@@ -248,14 +248,14 @@ const QUERY_ERRORS: [Row<ParseError<'static>>; 2] = [
 ];
 
 /// Two faults of a list of pieces.
-const PIECES: [Row<Fault>; 2] = [
+const PIECES: [Row<PieceFault>; 2] = [
     (
-        Fault::Gap,
+        PieceFault::Gap,
         "the pieces don't follow one another from the start of the range to its end",
         "Gap",
     ),
     (
-        Fault::TagNotKept,
+        PieceFault::TagNotKept,
         "the rule doesn't keep a tag that the query names",
         "TagNotKept",
     ),
@@ -265,7 +265,7 @@ const PIECES: [Row<Fault>; 2] = [
 const CHECKS: [Row<CheckFault>; 2] = [
     (
         CheckFault {
-            kind: Fault::BelowLow,
+            kind: PieceFault::BelowLow,
             piece: 0,
         },
         "the piece starts below the rule's low index, at piece 0",
@@ -273,7 +273,7 @@ const CHECKS: [Row<CheckFault>; 2] = [
     ),
     (
         CheckFault {
-            kind: Fault::NoSuchRule,
+            kind: PieceFault::NoSuchRule,
             piece: usize::MAX,
         },
         "no rule has this name, at piece 18446744073709551615",
@@ -285,7 +285,7 @@ const CHECKS: [Row<CheckFault>; 2] = [
 const CHECK_ERRORS: [Row<CheckError>; 2] = [
     (
         CheckError::Fault(CheckFault {
-            kind: Fault::Straddles,
+            kind: PieceFault::Straddles,
             piece: 2,
         }),
         "the rule's buckets don't fit the query's, at piece 2",

@@ -4,7 +4,7 @@ use Rattle.ts_core.specs.store.StoreData.{StoreData}
 use Rattle.ts_http.specs.Acts.{answer_reply}
 use Rattle.ts_http.specs.Maintaining.{progress_text}
 use Rattle.ts_http.specs.MaintainSteps.{HasStepped}
-use Rattle.ts_http.specs.declared.outcome.Outcome.TheVariants.{Brief}
+use Rattle.ts_http.specs.declared.outcome.RequestOutcome.TheVariants.{Brief}
 use Rattle.ts_http.specs.declared.status.Status.TheVariants.{Success}
 use Rattle.ts_http.proofs.MaintainLemmas.{steps_refused, maintained}
 use Rattle.ts_http.proofs.maintaining.maintain.Goals as goal

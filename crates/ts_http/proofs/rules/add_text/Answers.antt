@@ -2,7 +2,7 @@ use Rattle.std.proofs.Common.{true, ap, subst, sym}
 use Rattle.ts_core.specs.facts.Facts.{Text}
 use Rattle.ts_http.specs.Acts.{answer_reply}
 use Rattle.ts_http.specs.OutcomeReplies.{AddsAs}
-use Rattle.ts_http.specs.declared.outcome.Outcome.TheVariants.{Brief, Refused}
+use Rattle.ts_http.specs.declared.outcome.RequestOutcome.TheVariants.{Brief, Refused}
 use Rattle.ts_http.specs.declared.refusal.Refusal.TheVariants as refusals
 use Rattle.ts_http.specs.declared.status.Status.TheVariants.{Success}
 use Rattle.ts_http.proofs.RuleLemmas.{add_no_memory, add_refused, was_added}

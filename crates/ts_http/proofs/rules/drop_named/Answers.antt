@@ -4,7 +4,7 @@ use Rattle.ts_core.specs.settings.Settings.{Settings}
 use Rattle.ts_core.specs.settings.SettingsFaults.{is_named, settings_fault}
 use Rattle.ts_store.proofs.rules.ShortNames.{named_short}
 use Rattle.ts_http.specs.Acts.{answer_reply, bad_reply}
-use Rattle.ts_http.specs.declared.outcome.Outcome.TheVariants.{Brief}
+use Rattle.ts_http.specs.declared.outcome.RequestOutcome.TheVariants.{Brief}
 use Rattle.ts_http.specs.declared.status.Status.TheVariants.{Success, BadRequest}
 use Rattle.ts_store.proofs.rules.RuleStates.{was_named}
 use Rattle.ts_http.proofs.RuleLemmas.{drop_refused, was_dropped}

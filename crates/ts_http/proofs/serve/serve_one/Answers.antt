@@ -5,7 +5,7 @@ use Rattle.ts_core.specs.facts.Facts.{Text}
 use Rattle.ts_http.specs.Heads.{IsWholeHead}
 use Rattle.ts_http.specs.HeadsRead.{request_of, TellsHead}
 use Rattle.ts_http.specs.Requested.{Refuses, Asks}
-use Rattle.ts_http.specs.declared.outcome.Outcome.TheVariants as outcomes
+use Rattle.ts_http.specs.declared.outcome.RequestOutcome.TheVariants as outcomes
 use Rattle.ts_http.specs.declared.refusal.Refusal.TheVariants as refusals
 use Rattle.ts_http.specs.declared.route.Route.TheVariants as to
 use Rattle.ts_http.proofs.ServeLemmas.{spans_within, asks_refused, asks_taken, whole_more, read_failed, nothing_served, refusal_told, sent_told}
