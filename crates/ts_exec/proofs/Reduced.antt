@@ -28,7 +28,7 @@ met-permuted xs ys h s =
 
 -- ---- the conditions that are kept
 
-and_assoc : (x y z : Bool) → ((x && y) && z) ≡ (x && (y && z))
+pub and_assoc : (x y z : Bool) → ((x && y) && z) ≡ (x && (y && z))
 and_assoc true y z = refl
 and_assoc false y z = refl
 

@@ -17,9 +17,11 @@ use Rattle.ts_core.specs.text.Texts.{borrowed_pairs, IsTagSet}
 use Rattle.ts_core.specs.queries.Queries.{Condition, meets}
 use Rattle.ts_core.proofs.facts.Ids.{tags_total}
 use Rattle.ts_core.proofs.lists.Places.{both_of, less_of}
+use Rattle.ts_core.proofs.plans.PiecesTogether.{last_first}
 use Rattle.ts_exec.specs.Borrowed.{borrowed}
 use Rattle.ts_exec.specs.ReducedConditions.{meets_all}
-use Rattle.ts_exec.specs.SeriesTests.{ArePairsSorted, is_empty, holds_empty, has_pair, is_refused, meets_tests}
+use Rattle.ts_exec.specs.SeriesTests.{ArePairsSorted, is_empty_text, holds_empty, has_pair, is_refused, meets_tests}
+use Rattle.ts_exec.proofs.Reduced.{and_assoc}
 
 -- ---- texts
 
@@ -86,22 +88,22 @@ pub tests_permuted : (needed : List Condition) (xs ys : Pairs) → IsPermutation
 tests_permuted needed xs ys h s =
     ap (λ b. b && list_all (meets s) needed)
     (all_alike (λ t. not (is_refused (borrowed_pairs ys) t)) (λ t. not (is_refused (borrowed_pairs xs) t))
-    (λ t. ap (λ b. not (not (is_empty t.1) && (b || has_pair (borrowed_pairs ys) (t.0, [])))) (has_permuted xs ys h t)
-    ∙ ap (λ b. not (not (is_empty t.1) && (has_pair (borrowed_pairs xs) t || b))) (has_permuted xs ys h (t.0, []))) s.tags)
+    (λ t. ap (λ b. not (not (is_empty_text t.1) && (b || has_pair (borrowed_pairs ys) (t.0, [])))) (has_permuted xs ys h t)
+    ∙ ap (λ b. not (not (is_empty_text t.1) && (has_pair (borrowed_pairs xs) t || b))) (has_permuted xs ys h (t.0, []))) s.tags)
 
 -- ---- a condition that a series without the tag meets
 
 -- the tag must not have this value
 abbrev refuses : Text × Text → Text × Text → Bool
-refuses p t = not (is_empty t.1) && (is_pair t p || is_pair (t.0, []) p)
+refuses p t = not (is_empty_text t.1) && (is_pair t p || is_pair (t.0, []) p)
 
 -- what a condition says of a value
 abbrev fits : Condition → Text → Bool
 fits c value = cond c.negated (not (same_text value c.value)) (same_text value c.value)
 
-is_empty-same : (w : Text) → is_empty w ≡ same_text [] w
-is_empty-same [] = refl
-is_empty-same (y ∷ w) = ne_eqb (length (y ∷ w)) 0 (λ e. absurd (omega (arith, e)))
+empty_text-same : (w : Text) → is_empty_text w ≡ same_text [] w
+empty_text-same [] = refl
+empty_text-same (y ∷ w) = ne_eqb (length (y ∷ w)) 0 (λ e. absurd (omega (arith, e)))
 
 fits_here : (v w : Text) (n : Bool) → cond n (not (same_text [] w)) (same_text [] w) ≡ true → not (not (same_text [] v) && (same_text v w || same_text [] w)) ≡ cond n (not (same_text v w)) (same_text v w)
 fits_here [] [] true h = absurd (subst (λ b. T (not b)) h tt)
@@ -115,10 +117,10 @@ fits_here (x ∷ v) (y ∷ w) false h = absurd (subst (λ b. T (not b)) h tt)
 
 -- another tag is not refused
 other_kept : (p t : Text × Text) → same_text t.0 p.0 ≡ false → not (refuses p t) ≡ true
-other_kept p t e = rw e (elim (is_empty t.1) as (λ b. not (not b && false) ≡ true) [ true ↦ refl | false ↦ refl ])
+other_kept p t e = rw e (elim (is_empty_text t.1) as (λ b. not (not b && false) ≡ true) [ true ↦ refl | false ↦ refl ])
 
 own_kept : (p t : Text × Text) → same_text t.0 p.0 ≡ true → not (refuses p t) ≡ not (not (same_text [] t.1) && (same_text t.1 p.1 || same_text [] p.1))
-own_kept p t e = rw (e, is_empty-same t.1) refl
+own_kept p t e = rw (e, empty_text-same t.1) refl
 
 -- tags above one that a condition is on
 above_kept : (p : Text × Text) (x : Text) (ts : List (Text × Text)) → T (below_all text_cmp x ts) → same_text x p.0 ≡ true → list_all (λ t. not (refuses p t)) ts ≡ true
@@ -136,7 +138,7 @@ above_kept p x (t ∷ ts) h e =
     equal_of Greater h = absurd (subst (λ b. T (not b)) h tt)
 
 holds_same : (c : Condition) → holds_empty c ≡ true → fits c [] ≡ true
-holds_same c h = subst (λ b. cond c.negated (not b) b ≡ true) (is_empty-same c.value) h
+holds_same c h = subst (λ b. cond c.negated (not b) b ≡ true) (empty_text-same c.value) h
 
 kept_tags : (c : Condition) → holds_empty c ≡ true → (ts : List (Text × Text)) → IsTagSet ts → list_all (λ t. not (refuses (c.tag, c.value) t)) ts ≡ fits c (value_among ts c.tag)
 kept_tags c h [] s = sym (holds_same c h)
@@ -184,25 +186,14 @@ allowed_more : (xs : Pairs) (x : Bor Text × Bor Text) (ts : List (Text × Text)
     ≡ (list_all (λ t. not (is_refused (borrowed_pairs xs) t)) ts && list_all (λ t. not (refuses (plain x) t)) ts)
 allowed_more xs x ts =
     all_alike _ (λ t. not (is_refused (borrowed_pairs xs) t) && not (refuses (plain x) t))
-    (λ t. rw (has_more xs x t, has_more xs x (t.0, [])) (apart_more (is_empty t.1) (has_pair (borrowed_pairs xs) t) (has_pair (borrowed_pairs xs) (t.0, [])) (is_pair t (plain x)) (is_pair (t.0, []) (plain x)))) ts
+    (λ t. rw (has_more xs x t, has_more xs x (t.0, [])) (apart_more (is_empty_text t.1) (has_pair (borrowed_pairs xs) t) (has_pair (borrowed_pairs xs) (t.0, [])) (is_pair t (plain x)) (is_pair (t.0, []) (plain x)))) ts
     ∙ all_both (λ t. not (is_refused (borrowed_pairs xs) t)) (λ t. not (refuses (plain x) t)) ts
-
-and_swap : (a n m : Bool) → ((a && n) && m) ≡ ((a && m) && n)
-and_swap false n m = refl
-and_swap true false false = refl
-and_swap true false true = refl
-and_swap true true false = refl
-and_swap true true true = refl
-
-and_assoc : (x y z : Bool) → ((x && y) && z) ≡ (x && (y && z))
-and_assoc true y z = refl
-and_assoc false y z = refl
 
 pub refused_more : (needed : List Condition) (xs : Pairs) (x : Bor Text × Bor Text) (c : Condition) → plain x ≡ (c.tag, c.value) → holds_empty c ≡ true → (s : Series) → IsTagSet s.tags
     → (meets_tests needed (borrowed_pairs xs) s && meets s c) ≡ meets_tests needed (borrowed_pairs (xs ++ x ∷ [])) s
 refused_more needed xs x c is h s set =
     let kept : Bool = list_all (λ t. not (is_refused (borrowed_pairs xs) t)) s.tags in
-    and_swap kept (list_all (meets s) needed) (meets s c)
+    last_first kept (list_all (meets s) needed) (meets s c)
     ∙ ap (λ b. (kept && b) && list_all (meets s) needed)
     (sym (kept_tags c h s.tags set) ∙ ap (λ p. list_all (λ t. not (refuses p t)) s.tags) (sym is))
     ∙ ap (λ b. b && list_all (meets s) needed) (sym (allowed_more xs x s.tags))
@@ -228,7 +219,7 @@ tests-none s b = ap (λ k. (k && true) && b) (none_refused s.tags)
   where
     none_refused : (ts : List (Text × Text)) → list_all (λ t. not (is_refused [] t)) ts ≡ true
     none_refused [] = refl
-    none_refused (t ∷ ts) = elim (is_empty t.1) as (λ b. (not (not b && false) && list_all (λ u. not (is_refused [] u)) ts) ≡ true) [ true ↦ none_refused ts | false ↦ none_refused ts ]
+    none_refused (t ∷ ts) = elim (is_empty_text t.1) as (λ b. (not (not b && false) && list_all (λ u. not (is_refused [] u)) ts) ≡ true) [ true ↦ none_refused ts | false ↦ none_refused ts ]
 
 pub tests-next : (old new : Bool) (items : List (Bor Condition)) (i : ℕ) (c : Bor Condition) (s : Series) → i < length items → c ≡ get_or items i c → (old && meets s c.now) ≡ new
     → (old && meets_all (borrowed (drop i items)) s) ≡ meets_all (borrowed items) s → (new && meets_all (borrowed (drop (i + 1) items)) s) ≡ meets_all (borrowed items) s

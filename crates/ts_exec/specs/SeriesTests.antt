@@ -14,19 +14,19 @@ pub record SeriesTests : Type 0 where
 abbrev pub ArePairsSorted : List (Bor Text × Bor Text) → Type 0
 ArePairsSorted pairs = IsSorted (λ (a b : Bor Text × Bor Text). tag_cmp (a.0.now, a.1.now) (b.0.now, b.1.now)) pairs
 
-abbrev pub is_empty : Text → Bool
-is_empty text = length text == 0
+abbrev pub is_empty_text : Text → Bool
+is_empty_text text = length text == 0
 
 -- a series without the tag meets the condition
 abbrev pub holds_empty : Condition → Bool
-holds_empty c = if c.negated then not (is_empty c.value) else is_empty c.value
+holds_empty c = if c.negated then not (is_empty_text c.value) else is_empty_text c.value
 
 abbrev pub has_pair : List (Text × Text) → Text × Text → Bool
 has_pair pairs t = list_any (λ (p : Text × Text). same_text t.0 p.0 && same_text t.1 p.1) pairs
 
 -- the tag must not have this value
 abbrev pub is_refused : List (Text × Text) → Text × Text → Bool
-is_refused pairs t = not (is_empty t.1) && (has_pair pairs t || has_pair pairs (t.0, []))
+is_refused pairs t = not (is_empty_text t.1) && (has_pair pairs t || has_pair pairs (t.0, []))
 
 abbrev pub meets_tests : List Condition → List (Text × Text) → Series → Bool
 meets_tests needed refused s = list_all (λ (t : Text × Text). not (is_refused refused t)) s.tags && list_all (meets s) needed

@@ -157,11 +157,11 @@ impl<A: Allocator + Copy> Call<A> for Execute<A> {
 
 /// Answers the queries of each trial.
 #[derive(Clone, Copy)]
-struct Reply {
+struct AnsweredQueries {
     json: Global,
 }
 
-impl<A: Allocator + Copy> Call<A> for Reply {
+impl<A: Allocator + Copy> Call<A> for AnsweredQueries {
     fn make(&self, alloc: A, store: &mut Store<A>) -> Answer {
         match replies(alloc, self.json, store, QUERIES, REPLY) {
             Ok(is_right) => Answer::new(is_right),
@@ -265,6 +265,9 @@ fn answers_need_their_memory(rt: HostRuntime) {
             is_open,
         };
         // the first allocation for the group tags of a query
-        assert_eq!(rt; trial.flaw_of(&Reply { json }, &UNCHANGED, 1), None);
+        assert_eq!(rt;
+            trial.flaw_of(&AnsweredQueries { json }, &UNCHANGED, 1),
+            None
+        );
     }
 }

@@ -8,13 +8,10 @@ use Rattle.ts_core.specs.store.StoreStates.{RuleCells}
 use Rattle.ts_store.specs.read.ViewResults.{SeenCell, no_rule, view_cells_at}
 use Rattle.ts_exec.specs.GroupTables.{with_cell_parts}
 use Rattle.ts_exec.specs.JoinedPieces.{is_small}
+use Rattle.ts_exec.proofs.Reduced.{and_assoc}
 use Rattle.ts_exec.proofs.Walked.{cells-within}
 use Rattle.ts_exec.proofs.pieces.add_cells.Goals as goal
 use Rattle.ts_exec.proofs.pieces.add_cells.Goals.{then-small, else-small}
-
-and_assoc : (x y z : Bool) → ((x && y) && z) ≡ (x && (y && z))
-and_assoc true y z = refl
-and_assoc false y z = refl
 
 pub loop-cell-init : goal.loop-cell-init
 loop-cell-init g c =
