@@ -106,7 +106,7 @@ within-part a c b t l m =
     let n : is_within a b t ≡ int_lt t b = grind (arith, ints) in
     part_at (is_within a c t) (is_within c b t) (is_within a b t) false (int_lt t b) (int_lt t b) p o n (part_right (int_lt t b)))
 
-part_under : (y x z w : Bool) → Part x z w → Part (y && x) (y && z) (y && w)
+pub part_under : (y x z w : Bool) → Part x z w → Part (y && x) (y && z) (y && w)
 part_under true x z w p = p
 part_under false x z w p = tt
 

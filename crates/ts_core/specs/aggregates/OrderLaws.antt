@@ -1,6 +1,7 @@
 -- The lesser of two is one of them, isn't after either, and doesn't depend on the order of the arguments. (Own rules.)
-use Rattle.std.proofs.Common.{◌≡◌, ◌⊎◌, ℤ, ◌≤ℤ◌, ◌<ℤ◌, true, false, cond, refl, sym, ◌∙◌, ap, inl, inr, Ordering, Less, Equal, Greater, is_gt, true≢false, int_cmp, arith}
+use Rattle.std.proofs.Common.{int_lt, ◌≡◌, ◌⊎◌, ℤ, ◌≤ℤ◌, ◌<ℤ◌, true, false, cond, refl, sym, ◌∙◌, ap, inl, inr, Ordering, Less, Equal, Greater, is_gt, true≢false, int_cmp, arith}
 use Rattle.std.specs.Ordering.{ordering_reverse, ordering_then, MatchOrdering}
+use Rattle.std.specs.Int.{int_min, int_max}
 use Rattle.std.specs.Cmp.{IsTotalOrder, int_cmp_total, int_ranks}
 use Rattle.std.proofs.lemmas.Cmp.{upto, tied_itself, on_total, then_total, back_total}
 use Rattle.std.proofs.lemmas.Int.{ints}
@@ -124,3 +125,21 @@ late_ranked s t v w (inr e) = inr (sym e.0, e.1)
 
 pub words_from_late : (p q : ℤ × ℤ) → IsUpto late_cmp p q → (q.0 <ℤ p.0) ⊎ ((p.0 ≡ q.0) × (q.1 ≤ℤ p.1))
 words_from_late p q h = late_ranked p.0 q.0 q.1 p.1 (then_ranked q.0 p.0 q.1 p.1 (int_cmp q.0 p.0) (int_ranks q.0 p.0) h)
+
+-- ---- `min` and `max` of values
+
+min_ranked : (a b : ℤ) (r : Ordering) → MatchOrdering r (a <ℤ b) (a ≡ b) (b <ℤ a) → int_min a b ≡ cond (is_gt r) b a
+min_ranked a b Less m = let e : int_lt b a ≡ false = grind (arith, ints) in ap (λ t. cond t b a) e
+min_ranked a b Equal m = let e : int_lt b a ≡ false = grind (arith, ints) in ap (λ t. cond t b a) e
+min_ranked a b Greater m = let e : int_lt b a ≡ true = grind (arith, ints) in ap (λ t. cond t b a) e
+
+pub min-lesser : (a b : ℤ) → int_min a b ≡ lesser int_cmp a b
+min-lesser a b = min_ranked a b (int_cmp a b) (int_ranks a b)
+
+max_ranked : (a b : ℤ) (r : Ordering) → MatchOrdering r (b <ℤ a) (b ≡ a) (a <ℤ b) → int_max a b ≡ cond (is_gt r) b a
+max_ranked a b Less m = let e : int_lt b a ≡ true = grind (arith, ints) in ap (λ t. cond t a b) e
+max_ranked a b Equal m = let e : int_lt b a ≡ false = grind (arith, ints) in ap (λ t. cond t a b) e ∙ m
+max_ranked a b Greater m = let e : int_lt b a ≡ false = grind (arith, ints) in ap (λ t. cond t a b) e
+
+pub max-lesser : (a b : ℤ) → int_max a b ≡ lesser down_cmp a b
+max-lesser a b = max_ranked a b (int_cmp b a) (int_ranks b a)

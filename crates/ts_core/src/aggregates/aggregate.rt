@@ -1,8 +1,7 @@
 //! Aggregates of points: count, sum and extremes.
 ghost use Rattle.std.specs.Prelude.{◌≡◌, ◌↔◌, ◌+◌, ◌*◌, ◌^◌, ◌≤◌, ℤ, pos, ◌*ℤ◌, unsigned_abs, IsTrue, IsNone, IsSome, IfSome, option_map};
 ghost use Rattle.std.specs.declared.cmp.Ordering.{Ordering};
-ghost use Rattle.std.specs.Ordering.{int_cmp};
-ghost use Rattle.ts_core.specs.aggregates.Orders.{lesser, down_cmp, early_cmp, late_cmp};
+ghost use Rattle.ts_core.specs.aggregates.Orders.{lesser, early_cmp, late_cmp};
 ghost use Rattle.ts_core.specs.aggregates.Aggregates.{Aggregate, empty_aggregate, aggregate_of_one, merged, merged_extremes, extremes_of_both, IsSpread, IsSound, IsCountable};
 ghost use Rattle.ts_core.specs.aggregates.MergeLaws.{aggregate_laws};
 ghost use Rattle.ts_core.specs.aggregates.SoundLaws.{sound_laws};
@@ -49,18 +48,6 @@ impl Model for Agg {
     ghost inverse = { λ v. record { count = v.count; sum = v.sum; extremes = v.extremes } };
 }
 
-fn lower(a: i64, b: i64) -> i64
-    ensures { result ≡ lesser int_cmp a b }
-{
-    if a > b { b } else { a }
-}
-
-fn higher(a: i64, b: i64) -> i64
-    ensures { result ≡ lesser down_cmp a b }
-{
-    if b > a { b } else { a }
-}
-
 fn earlier(a: (Time, i64), b: (Time, i64)) -> (Time, i64)
     ensures { result ≡ lesser early_cmp a b }
 {
@@ -98,8 +85,8 @@ impl Extremes {
         ensures { result ≡ extremes_of_both self other }
     {
         Extremes {
-            min: lower(self.min, other.min),
-            max: higher(self.max, other.max),
+            min: self.min.min(other.min),
+            max: self.max.max(other.max),
             first: earlier(self.first, other.first),
             last: later(self.last, other.last),
         }
