@@ -172,6 +172,8 @@ pub(crate) struct Span {
 
 impl<A: Allocator> Query<A> {
     ghost use Rattle.std.specs.Prelude.{◌≡◌, ◌≤ℤ◌, pos};
+    ghost use Rattle.std.specs.List.Sorted.{IsStrictlySortedBy};
+    ghost use Rattle.ts_core.specs.facts.Facts.{text_cmp};
     ghost use Rattle.ts_ql.specs.BucketLimits.{IsLimited};
     ghost use Rattle.ts_ql.specs.QueryRules.{IsSelect};
     ghost use Rattle.ts_ql.specs.Selects.{texts};
@@ -267,7 +269,8 @@ impl<A: Allocator> Query<A> {
 
     /// Returns the tags to group by, in byte order and without duplicates.
     pub fn group_tags(&self) -> &[String<A>]
-        ensures { texts result.now ≡ self.now.query.group_tags }
+        ensures value { texts result.now ≡ self.now.query.group_tags }
+        ensures order { IsStrictlySortedBy text_cmp (texts result.now) }
     {
         self.parts.group_tags.as_slice()
     }

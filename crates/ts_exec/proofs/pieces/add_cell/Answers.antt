@@ -54,7 +54,7 @@ returns-clause-value g c =
     let p : c.row_index-row_index.result ≡ row_index_at (bucket_grid q) t = omega arith in
     let kept : map string_bytes c.kept_tags.result.now ≡ r.kept_tags = c.kept_tags.ensures in
     let group : map string_bytes c.cell.inside.group.now ≡ k.cell.group = search rules in
-    let tags : texts c.group_tags.result.now ≡ q.group_tags = c.group_tags.ensures ∙ ap (λ (x : Query). x.group_tags) at in
+    let tags : texts c.group_tags.result.now ≡ q.group_tags = c.group_tags.ensures.value ∙ ap (λ (x : Query). x.group_tags) at in
     let read : borrowed c.read_kept_values.new.values.items ≡ map (value_among (zip (map string_bytes c.kept_tags.result.now) (map string_bytes c.cell.inside.group.now))) (texts c.group_tags.result.now) = search rules in
     let v : borrowed c.deref.result.now ≡ group_of q (representative r k.cell) =
     ap borrowed c.deref.ensures.value ∙ read ∙ ap₂ (λ (ts : List (Text × Text)) (ks : List Text). map (value_among ts) ks) (ap₂ (λ (xs ys : List Text). zip xs ys) kept group) tags in

@@ -26,7 +26,7 @@ loop-column-init g c =
     let chosen : c.deref-column-items.result.now ≡ selected_column_refs q.conditions all =
     c.deref-column-items.ensures.value
     ∙ subst (λ (x : Query). c.in_ok-columns.columns.items ≡ selected_column_refs x.conditions (column_refs_where (is_of x.measurement x.field) cs)) c.scan.view_is c.in_ok-columns.ensures in
-    let tags : texts c.group_tags-tags.result.now ≡ q.group_tags = c.group_tags-tags.ensures ∙ ap (λ (x : Query). x.group_tags) c.scan.view_is in
+    let tags : texts c.group_tags-tags.result.now ≡ q.group_tags = c.group_tags-tags.ensures.value ∙ ap (λ (x : Query). x.group_tags) c.scan.view_is in
     let values : borrowed (chunks_exact_rest c.chunks_exact-chunks.result) ≡ group_values (texts c.group_tags-tags.result.now) c.deref-column-items.result.now = search rules in
     let size : chunks_exact_size c.chunks_exact-chunks.result ≡ max (length c.group_tags-tags.result.now) 1 = search rules in
     let long : length (texts c.group_tags-tags.result.now) ≡ length c.group_tags-tags.result.now = length-map c.group_tags-tags.result.now _ in
