@@ -1,6 +1,6 @@
 //! A query together with the settings and marks it is planned under.
-ghost use Rattle.std.specs.Prelude.{◌≡◌, ◌≤◌, length, slice_get};
-ghost use Rattle.ts_core.specs.plans.Pieces.{marked_rules, rule_named, query_context};
+ghost use Rattle.std.specs.Prelude.{◌≡◌, ◌≤◌, ◌≤ℤ◌, length, slice_get};
+ghost use Rattle.ts_core.specs.plans.Pieces.{rule_named, query_context};
 ghost use Rattle.ts_check.specs.Checks.{HasPositiveIntervals};
 
 use std::alloc::Allocator;
@@ -41,46 +41,6 @@ impl<'a, A: Allocator> Model for QueryContext<'a, A> {
     ghost view = { λ t. query_context t.settings.now t.marks.now t.query.now.query };
 }
 
-/// Returns the first rule of this name.
-fn rule_named<'a, A: Allocator>(
-    name: &str,
-    rules: &'a [Rule<A>],
-    lows: &[i128],
-) -> Option<MarkedRule<'a, A>>
-    ensures { result ≡ rule_named name.now (marked_rules rules.now lows.now) }
-{
-    match (rules.split_first(), lows.split_first()) {
-        (Some((rule, rules)), Some((low, lows))) => {
-            if rule.name() == name {
-                Some(MarkedRule { rule, low: *low })
-            } else {
-                rule_named(name, rules, lows)
-            }
-        }
-        _ => None,
-    }
-}
-
-/// Returns the rule with this index.
-fn rule_at<'a, A: Allocator>(
-    number: usize,
-    rules: &'a [Rule<A>],
-    lows: &[i128],
-) -> Option<MarkedRule<'a, A>>
-    ensures { result ≡ slice_get (marked_rules rules.now lows.now) number }
-{
-    match (rules.split_first(), lows.split_first()) {
-        (Some((rule, rules)), Some((low, lows))) => {
-            if number == 0 {
-                Some(MarkedRule { rule, low: *low })
-            } else {
-                rule_at(number - 1, rules, lows)
-            }
-        }
-        _ => None,
-    }
-}
-
 impl<'a, A: Allocator> QueryContext<'a, A> {
     /// Combines a query with the settings and marks of a store.
     pub fn new(
@@ -102,10 +62,18 @@ impl<'a, A: Allocator> QueryContext<'a, A> {
     }
 
     /// Returns the query.
-    pub(crate) fn query(&self) -> &'a Query<A>
+    pub fn query(&self) -> &'a Query<A>
         ensures { result.now.query ≡ self.now.query }
     {
         self.query
+    }
+
+    /// Returns the start of the query's range, inclusive, in nanoseconds of the Unix epoch.
+    pub fn start(&self) -> i64
+        ensures value { result ≡ self.now.query.from }
+        ensures range { self.now.query.from ≤ℤ self.now.query.to }
+    {
+        self.query.from()
     }
 
     /// Returns the end of the query's range, exclusive, in nanoseconds of the Unix epoch.
@@ -133,13 +101,15 @@ impl<'a, A: Allocator> QueryContext<'a, A> {
     pub fn rule_at(&self, number: usize) -> Option<MarkedRule<'a, A>>
         ensures { result ≡ slice_get self.now.rules number }
     {
-        rule_at(number, self.settings.rules(), self.marks.lows())
+        let rule = self.settings.rules().get(number)?;
+        let low = *self.marks.lows().get(number)?;
+        Some(MarkedRule { rule, low })
     }
 
     /// Returns the first rule of this name.
     pub(crate) fn rule_named(&self, name: &str) -> Option<MarkedRule<'a, A>>
         ensures { result ≡ rule_named name.now self.now.rules }
     {
-        rule_named(name, self.settings.rules(), self.marks.lows())
+        self.rule_at(self.settings.rule_named(name)?)
     }
 }

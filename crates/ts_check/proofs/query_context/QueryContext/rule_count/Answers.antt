@@ -7,4 +7,4 @@ pub returns : goal.returns
 returns g c =
     let i = c.self.inside in
     subst (λ n. n ≤ length c.rules.result.now) (ap (λ (t : QueryContext). length t.rules) c.self.view_is)
-    (rw c.rules.ensures.value (marked_rules-short i.settings.now.rules i.marks.now.lows))
+    (rw c.rules.ensures.value (marked_rules-short i.settings.now.rules i.marks.now.lows).0)
