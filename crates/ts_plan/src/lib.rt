@@ -17,7 +17,6 @@
 //! and merges neighbours.
 #![tactic(auto)]
 
-mod context;
 mod fault;
 mod instant;
 mod matching;

@@ -2,10 +2,10 @@
 ghost use Rattle.std.specs.Prelude.{◌≡◌, ◌≤◌, length, drop};
 ghost use Rattle.ts_plan.specs.Steps.{Ascends, starts_first, starts_at, reaches_end, pruned_steps};
 
-use crate::context::PlanContext;
 use crate::instant::Instant;
 use crate::steps::Step;
 use std::alloc::Allocator;
+use ts_check::QueryContext;
 
 /// Returns true if the first step starts at `instant`.
 fn starts_first(steps: &[Step], instant: Instant) -> bool
@@ -41,14 +41,16 @@ fn starts_at(steps: &[Step], instant: Instant) -> bool
 /// Returns true if the end can be reached from `instant`. It can from the end itself, from times at or above the raw
 /// mark, and from the start of a step.
 pub(crate) fn reaches_end<A: Allocator>(
-    context: &PlanContext<'_, A>,
+    context: &QueryContext<'_, A>,
     steps: &[Step],
     instant: Instant,
 ) -> bool
     requires { Ascends steps.now }
     ensures { result ≡ reaches_end context.now steps.now instant }
 {
-    instant == context.end() || instant >= context.mark() || starts_at(steps, instant)
+    instant == Instant::new(context.end())
+        || instant >= Instant::new(context.mark())
+        || starts_at(steps, instant)
 }
 
 /// Returns the steps from index `begin` on.
@@ -60,7 +62,7 @@ pub(crate) fn steps_from(steps: &[Step], begin: usize) -> &[Step]
 }
 
 /// Compacts the steps from which the end is reachable at the back of the slice; returns the index of the first.
-pub(crate) fn prune_steps<A: Allocator>(context: &PlanContext<'_, A>, steps: &mut [Step]) -> usize
+pub(crate) fn prune_steps<A: Allocator>(context: &QueryContext<'_, A>, steps: &mut [Step]) -> usize
     requires { Ascends steps.old }
     ensures bound { result ≤ length steps.new }
     ensures kept { drop result steps.new ≡ pruned_steps context.now steps.old }

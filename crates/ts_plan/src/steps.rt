@@ -8,11 +8,10 @@ ghost use Rattle.ts_core.specs.lists.Members.{Among};
 ghost use Rattle.ts_plan.specs.declared.steps.Step.{Step};
 ghost use Rattle.ts_plan.specs.Steps.{IsPlannable, IsStep, Ascends, IsFirstStart, IsNextInstant, with_usable_step, Adds};
 
-use crate::context::PlanContext;
 use crate::instant::Instant;
 use crate::matching::matches_query;
 use std::alloc::{AllocError, Allocator};
-use ts_check::{MarkedRule, is_aligned};
+use ts_check::{MarkedRule, QueryContext, is_aligned, is_in_one_bucket};
 use ts_core::{Rule, index_of};
 
 /// One bucket of a rule, as a step of the walk.
@@ -50,7 +49,7 @@ fn first_boundary<A: Allocator>(rule: &Rule<A>, from: Instant, end: Instant) -> 
 /// Returns true if a bucket of the rule is still complete and doesn't cross a bucket boundary of the query. `aligned` is
 /// true if no bucket of the rule does.
 fn is_usable<A: Allocator>(
-    context: &PlanContext<'_, A>,
+    context: &QueryContext<'_, A>,
     marked: &MarkedRule<'_, A>,
     aligned: bool,
     step: &Step,
@@ -61,14 +60,14 @@ fn is_usable<A: Allocator>(
     if index_of(marked.rule, i128::from(step.from.nanos())) < marked.low {
         return false;
     }
-    aligned || context.is_in_one_bucket(step.from, step.to)
+    aligned || is_in_one_bucket(context.query(), step.from.nanos(), step.to.nanos())
 }
 
 /// Appends the step of the bucket that starts at `from`, if it is a valid piece. Returns the start of the next bucket,
 /// or `None` if this one ends after the range.
 fn push_step<A: Allocator>(
     steps: &mut Vec<Step, A>,
-    context: &PlanContext<'_, A>,
+    context: &QueryContext<'_, A>,
     number: usize,
     marked: &MarkedRule<'_, A>,
     aligned: bool,
@@ -80,7 +79,7 @@ fn push_step<A: Allocator>(
     ensures steps { IfOk result (λ next. steps.new.items ≡ with_usable_step context.now marked.now number from next steps.old.items) }
 {
     let width = i128::from(marked.rule.interval());
-    match from.checked_add(width, context.end()) {
+    match from.checked_add(width, Instant::new(context.end())) {
         None => Ok(None),
         Some(to) => {
             let step = Step {
@@ -99,7 +98,7 @@ fn push_step<A: Allocator>(
 /// Appends the steps of one rule.
 fn push_steps<A: Allocator>(
     steps: &mut Vec<Step, A>,
-    context: &PlanContext<'_, A>,
+    context: &QueryContext<'_, A>,
     number: usize,
     marked: &MarkedRule<'_, A>,
 ) -> Result<(), AllocError>
@@ -111,8 +110,10 @@ fn push_steps<A: Allocator>(
         return Ok(());
     }
     let aligned = is_aligned(marked.rule, context.query());
-    let mark = context.mark();
-    let mut next = first_boundary(marked.rule, context.start(), context.end());
+    let mark = Instant::new(context.mark());
+    let start = Instant::new(context.start());
+    let end = Instant::new(context.end());
+    let mut next = first_boundary(marked.rule, start, end);
     while let Some(from) = next {
         if from >= mark {
             break;
@@ -125,7 +126,7 @@ fn push_steps<A: Allocator>(
 /// Appends the steps of the rule with this index, if there is one.
 fn push_rule<A: Allocator>(
     steps: &mut Vec<Step, A>,
-    context: &PlanContext<'_, A>,
+    context: &QueryContext<'_, A>,
     number: usize,
 ) -> Result<(), AllocError>
     requires { IsPlannable context.now }
@@ -140,7 +141,7 @@ fn push_rule<A: Allocator>(
 /// Returns the steps of all rules, sorted by start and then by rule.
 pub(crate) fn all_steps<A: Allocator + Copy>(
     alloc: A,
-    context: &PlanContext<'_, A>,
+    context: &QueryContext<'_, A>,
 ) -> Result<Vec<Step, A>, AllocError>
     requires { IsPlannable context.now }
     ensures sound { IfOk result (λ steps. AllByRecursion (IsStep context.now) steps.items) }

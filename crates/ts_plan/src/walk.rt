@@ -6,11 +6,10 @@ ghost use Rattle.ts_core.specs.plans.Plans.{joined, merged_onto};
 ghost use Rattle.ts_plan.specs.Steps.{IsPlannable, IsStep, bucket_piece, walked};
 ghost use Rattle.ts_plan.specs.Joins.{pending_piece, pending_pieces, joins, joined_after, IsPendingPiece, ArePending};
 
-use crate::context::PlanContext;
 use crate::instant::Instant;
 use crate::steps::Step;
 use std::alloc::{AllocError, Allocator};
-use ts_check::{Piece, PieceSource, RuleName, is_aligned};
+use ts_check::{Piece, PieceSource, QueryContext, RuleName, is_aligned, is_in_one_bucket};
 
 /// Pending piece, which the next bucket may extend.
 #[derive(Clone, Copy)]
@@ -25,7 +24,7 @@ pub(crate) struct PendingPiece {
 
 impl PendingPiece {
     /// Creates a pending piece from a single bucket.
-    fn of_step<A: Allocator>(context: &PlanContext<'_, A>, step: &Step) -> PendingPiece
+    fn of_step<A: Allocator>(context: &QueryContext<'_, A>, step: &Step) -> PendingPiece
         requires plannable { IsPlannable context.now }
         requires step { IsStep context.now step.now }
         ensures piece { pending_piece context.now result ≡ bucket_piece context.now step.now }
@@ -40,7 +39,7 @@ impl PendingPiece {
         }
     }
 
-    fn piece<A: Allocator>(&self, context: &PlanContext<'_, A>) -> Piece
+    fn piece<A: Allocator>(&self, context: &QueryContext<'_, A>) -> Piece
         requires { IsPendingPiece context.now self.now }
         ensures { result ≡ pending_piece context.now self.now }
     {
@@ -53,20 +52,22 @@ impl PendingPiece {
     }
 
     /// Returns true if the bucket of a step can extend the piece: both are of one rule, and the merged piece is valid.
-    fn joins<A: Allocator>(&self, context: &PlanContext<'_, A>, step: &Step) -> bool
+    fn joins<A: Allocator>(&self, context: &QueryContext<'_, A>, step: &Step) -> bool
         requires plannable { IsPlannable context.now }
         requires pending { IsPendingPiece context.now self.now }
         requires step { IsStep context.now step.now }
         ensures { result ≡ joins context.now (pending_piece context.now self.now) (bucket_piece context.now step.now) }
     {
-        self.rule == step.rule && (self.aligned || context.is_in_one_bucket(self.from, step.to))
+        self.rule == step.rule
+            && (self.aligned
+                || is_in_one_bucket(context.query(), self.from.nanos(), step.to.nanos()))
     }
 }
 
 /// Extends the pending piece by the bucket of a step, or appends the pending piece to `pieces` and starts a new one.
 /// Returns the piece that is now pending.
 fn follow<A: Allocator>(
-    context: &PlanContext<'_, A>,
+    context: &QueryContext<'_, A>,
     pieces: &mut Vec<Piece, A>,
     pending: Option<PendingPiece>,
     step: &Step,
@@ -95,7 +96,7 @@ fn follow<A: Allocator>(
 
 /// Appends the pending piece, if there is one.
 fn push_pending<A: Allocator>(
-    context: &PlanContext<'_, A>,
+    context: &QueryContext<'_, A>,
     pieces: &mut Vec<Piece, A>,
     pending: Option<PendingPiece>,
 ) -> Result<(), AllocError>
@@ -110,7 +111,7 @@ fn push_pending<A: Allocator>(
 
 /// Appends the pending piece and, if the walk ended before the end of the range, a piece of raw points.
 fn end_walk<A: Allocator>(
-    context: &PlanContext<'_, A>,
+    context: &QueryContext<'_, A>,
     pieces: &mut Vec<Piece, A>,
     pending: Option<PendingPiece>,
     at: Instant,
@@ -119,7 +120,7 @@ fn end_walk<A: Allocator>(
     ensures { IfOk result (λ _. pieces.new.items ≡ pieces.old.items ++ joined_after context.now pending (walked context.now at [])) }
 {
     push_pending(context, pieces, pending)?;
-    let end = context.end();
+    let end = Instant::new(context.end());
     if at == end {
         return Ok(());
     }
@@ -135,7 +136,7 @@ fn end_walk<A: Allocator>(
 /// only steps from which the end is reachable.
 pub(crate) fn walk<A: Allocator + Copy>(
     alloc: A,
-    context: &PlanContext<'_, A>,
+    context: &QueryContext<'_, A>,
     steps: &[Step],
 ) -> Result<Vec<Piece, A>, AllocError>
     requires plannable { IsPlannable context.now }
@@ -144,7 +145,7 @@ pub(crate) fn walk<A: Allocator + Copy>(
 {
     let mut pieces = Vec::new(alloc);
     let mut pending = None;
-    let mut at = context.start();
+    let mut at = Instant::new(context.start());
     for step in steps {
         if step.from == at {
             pending = Some(follow(context, &mut pieces, pending, step)?);

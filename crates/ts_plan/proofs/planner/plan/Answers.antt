@@ -11,8 +11,8 @@ new-requires g c =
     let m = c.args.marks.now in
     let q = c.args.query.now.query in
     let ps = c.in-Some.pieces.items in
-    let made : IsPlanOf c.new-context.result ps = rw c.in-Some.is at c.in_ok-plan_over.ensures in
-    let plan = planned_of s m q c.new-context.result ps c.new-context.ensures.value c.new-context.ensures.plannable.wide (untrue _ c.is_too_many.ensures c.if-is_too_many.false) made in
+    let made : IsPlanOf c.query_context-context.result ps = rw c.in-Some.is at c.in_ok-plan_over.ensures in
+    let plan = planned_of s m q c.query_context-context.result ps c.query_context-context.ensures.value c.query_context-context.ensures.plannable.wide (untrue _ c.is_too_many.ensures c.if-is_too_many.false) made in
     let from : FitsSigned w64 c.from-from.result = search rules in
     let to : FitsSigned w64 c.to-to.result = search rules in
     plan_spelled s m q ps c.rules-rules.ensures.faultless (subst (FitsSigned w64) c.from-from.ensures.value from) (subst (FitsSigned w64) c.to-to.ensures.value to) plan.valid
@@ -23,6 +23,6 @@ returns g c =
     let m = c.args.marks.now in
     let q = c.args.query.now.query in
     let ps = c.in-Some.pieces.items in
-    let made : IsPlanOf c.new-context.result ps = rw c.in-Some.is at c.in_ok-plan_over.ensures in
-    let plan = planned_of s m q c.new-context.result ps c.new-context.ensures.value c.new-context.ensures.plannable.wide (untrue _ c.is_too_many.ensures c.if-is_too_many.false) made in
+    let made : IsPlanOf c.query_context-context.result ps = rw c.in-Some.is at c.in_ok-plan_over.ensures in
+    let plan = planned_of s m q c.query_context-context.result ps c.query_context-context.ensures.value c.query_context-context.ensures.plannable.wide (untrue _ c.is_too_many.ensures c.if-is_too_many.false) made in
     subst (IsPlanned s m q) (sym c.new.ensures) plan

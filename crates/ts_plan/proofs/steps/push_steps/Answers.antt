@@ -28,8 +28,10 @@ push_step-requires-clause-rule g c = rule_wide c.args.context.now.rules c.args.n
 
 pub loop-next-init : goal.loop-next-init
 loop-next-init g c =
+    let start : c.new-start.result ≡ c.args.context.now.query.from = search rules in
+    let end : c.new-end.result ≡ c.args.context.now.query.to = search rules in
     scan_begin c.args.context.now c.args.number c.args.marked.now c.first_boundary-next.result c.args.steps.now.items _ _ _ c.requires.rule c.requires.plannable
-    (ap (λ (m : MarkedRule). m.rule) c.marked.view_is) c.start.ensures.value c.end.ensures c.first_boundary-next.ensures
+    (ap (λ (m : MarkedRule). m.rule) c.marked.view_is) start end c.first_boundary-next.ensures
 
 pub loop-next-smaller : goal.loop-next-smaller
 loop-next-smaller g c =
