@@ -7,7 +7,7 @@ use Rattle.std.specs.Ordering.{int_eq, int_cmp}
 use Rattle.std.specs.FinMap.{int_cmp-IsAntisymmetric}
 use Rattle.ts_core.proofs.facts.Ids.{equal_of, same_text-eq}
 use Rattle.ts_core.proofs.lists.Comparisons.{le_from}
-use Rattle.ts_core.proofs.plans.AssembledRows.{within-part}
+use Rattle.ts_core.proofs.plans.AssembledRows.{within-part, part_under}
 use Rattle.ts_core.proofs.lists.ListSteps.{all_append}
 use Rattle.ts_core.proofs.store.Cuts.{Part}
 use Rattle.ts_core.proofs.aggregates.AggregatesLemmas.{merged_within-fits}
@@ -99,10 +99,6 @@ part_and n true true r h = absurd h
 part_and n true false false h = absurd h
 part_and n false true false h = absurd h
 part_and n false false true h = absurd h
-
-part_under : (m p q r : Bool) → Part p q r → Part (m && p) (m && q) (m && r)
-part_under true p q r h = h
-part_under false p q r h = tt
 
 -- ---- what shares add up to, in any order
 

@@ -18,7 +18,6 @@ mod PointCounts
 mod CountSteps
 -- GroupTables, FirstOf: the cells and points of a piece
 mod Selected
-mod GroupValues
 mod Walked
 mod NamedRules
 mod Widths
@@ -30,6 +29,9 @@ mod Blocks
 mod Counted
 -- Slots, Searches: the groups in order
 mod Slotted
+-- GroupValues: values of a group's tags without the empty ones
+mod GroupValuesLemmas
+mod SetSteps
 -- Fillings
 pub mod FillSteps
 -- Lent

@@ -1,5 +1,5 @@
 -- Series tested by their own tags: a search among sorted pairs, and one more condition.
-use Rattle.std.proofs.Common.{◌≡◌, ℕ, zero, suc, ◌+◌, ◌<◌, ◌≤◌, Bool, true, false, not, cond, ◌&&◌, ◌||◌, T, List, [], ◌∷◌, ◌++◌, length, get_or, drop, refl, sym, ◌∙◌, ap, subst, ⊎_elim, Result, Ok, Err, Ordering, Less, Equal, Greater, is_eq, Bor, arith}
+use Rattle.std.proofs.Common.{◌≡◌, ℕ, zero, suc, ◌+◌, ◌<◌, ◌≤◌, Bool, true, false, not, cond, ◌&&◌, ◌||◌, T, List, [], ◌∷◌, ◌++◌, length, get_or, drop, map, zip, refl, sym, ◌∙◌, ap, subst, inl, inr, ⊎_elim, true≢false, Result, Ok, Err, Ordering, Less, Equal, Greater, is_eq, Bor, arith}
 use Rattle.std.specs.Ordering.{ordering_then, ordering_reverse}
 use Rattle.std.specs.List.{list_all, list_any}
 use Rattle.std.specs.List.Sorted.{IsPermutation, IsBinarySearchResult, IsSearchInRange}
@@ -9,19 +9,43 @@ use Rattle.std.proofs.lemmas.Bool.{cases_lt, ne_eqb, or_from, or_left, or_right}
 use Rattle.std.proofs.lemmas.Cmp.{nat_list_cmp_total}
 use Rattle.std.proofs.lemmas.List.{drop_more, drop_all}
 use Rattle.std.proofs.lemmas.List.Sorted.{searchable_from_sorted, list_any-IsPermutation}
-use Rattle.std.proofs.lemmas.Map.Lookups.{exact_bytes}
 use Rattle.std.proofs.lemmas.Map.Text.{is_eq-slice_cmp}
 use Rattle.ts_core.specs.facts.Facts.{Text, text_cmp, same_text, tag_cmp, Series}
 use Rattle.ts_core.specs.facts.Tags.{value_among}
+use Rattle.ts_core.specs.lists.Members.{Among, AllDistinct}
 use Rattle.ts_core.specs.text.Texts.{borrowed_pairs, IsTagSet}
 use Rattle.ts_core.specs.queries.Queries.{Condition, meets}
-use Rattle.ts_core.proofs.facts.Ids.{tags_total}
+use Rattle.ts_core.proofs.facts.Ids.{same_text-eq, tags_total}
+use Rattle.ts_core.proofs.lists.Comparisons.{same_text-refl}
 use Rattle.ts_core.proofs.lists.Places.{both_of, less_of}
 use Rattle.ts_core.proofs.plans.PiecesTogether.{last_first}
 use Rattle.ts_exec.specs.Borrowed.{borrowed}
 use Rattle.ts_exec.specs.ReducedConditions.{meets_all}
-use Rattle.ts_exec.specs.SeriesTests.{ArePairsSorted, is_empty_text, holds_empty, has_pair, is_refused, meets_tests}
+use Rattle.ts_exec.specs.SeriesTests.{ArePairsSorted, AreDistinctTags, is_empty_text, holds_empty, has_pair, is_refused, meets_tests}
 use Rattle.ts_exec.proofs.Reduced.{and_assoc}
+
+-- ---- distinct tags
+
+above_not : (x : Text) (ts : List (Text × Text)) → T (below_all text_cmp x ts) → Among x (map (λ (t : Text × Text). t.0) ts) → ⊥
+above_not x [] b a = a
+above_not x (t ∷ ts) b a =
+    let p = both_of _ _ b in
+    ⊎_elim {C = ⊥} (λ s. true≢false (sym (same_text-refl x) ∙ ap (same_text x) s ∙ sym (is_eq-slice_cmp x t.0) ∙ ap is_eq (less_of _ p.0))) (λ r. above_not x ts p.1 r) a
+
+pub set_distinct : (ts : List (Text × Text)) → IsTagSet ts → AreDistinctTags ts
+set_distinct [] s = tt
+set_distinct (t ∷ ts) s = let p = both_of _ _ s in (above_not t.0 ts p.0, set_distinct ts p.1)
+
+among_zip : (x : Text) (ks gs : List Text) → Among x (map (λ (t : Text × Text). t.0) (zip ks gs)) → Among x ks
+among_zip x [] gs a = a
+among_zip x (k ∷ ks) [] a = absurd a
+among_zip x (k ∷ ks) (g ∷ gs) a = ⊎_elim {C = Among x (k ∷ ks)} (λ s. inl s) (λ r. inr (among_zip x ks gs r)) a
+
+-- a cell has each kept tag once
+pub zip_distinct : (ks gs : List Text) → AllDistinct ks → AreDistinctTags (zip ks gs)
+zip_distinct [] gs d = tt
+zip_distinct (k ∷ ks) [] d = tt
+zip_distinct (k ∷ ks) (g ∷ gs) d = (λ a. d.0 (among_zip k ks gs a), zip_distinct ks gs d.1)
 
 -- ---- texts
 
@@ -122,33 +146,28 @@ other_kept p t e = rw e (elim (is_empty_text t.1) as (λ b. not (not b && false)
 own_kept : (p t : Text × Text) → same_text t.0 p.0 ≡ true → not (refuses p t) ≡ not (not (same_text [] t.1) && (same_text t.1 p.1 || same_text [] p.1))
 own_kept p t e = rw (e, empty_text-same t.1) refl
 
--- tags above one that a condition is on
-above_kept : (p : Text × Text) (x : Text) (ts : List (Text × Text)) → T (below_all text_cmp x ts) → same_text x p.0 ≡ true → list_all (λ t. not (refuses p t)) ts ≡ true
-above_kept p x [] h e = refl
-above_kept p x (t ∷ ts) h e =
-    let parts = both_of _ _ h in
-    let same : x ≡ p.0 = exact_bytes x p.0 (equal_of (text_cmp x p.0) (is_eq-slice_cmp x p.0 ∙ e)) in
-    let less : text_cmp x t.0 ≡ Less = less_of _ parts.0 in
-    let apart : same_text t.0 p.0 ≡ false = ap (λ z. same_text t.0 z) (sym same) ∙ same_other t.0 x ∙ sym (is_eq-slice_cmp x t.0) ∙ ap is_eq less in
-    ap (λ b. b && list_all (λ t. not (refuses p t)) ts) (other_kept p t apart) ∙ above_kept p x ts parts.1 e
+-- tags other than one that a condition is on
+others_kept : (p : Text × Text) (x : Text) (ts : List (Text × Text)) → (Among x (map (λ (t : Text × Text). t.0) ts) → ⊥) → same_text x p.0 ≡ true → list_all (λ t. not (refuses p t)) ts ≡ true
+others_kept p x [] n e = refl
+others_kept p x (t ∷ ts) n e =
+    let apart : same_text t.0 p.0 ≡ false = not_true (same_text t.0 p.0) (λ h. n (inl (same_text-eq x p.0 e ∙ sym (same_text-eq t.0 p.0 h)))) in
+    ap (λ b. b && list_all (λ t. not (refuses p t)) ts) (other_kept p t apart) ∙ others_kept p x ts (λ a. n (inr a)) e
   where
-    equal_of : (o : Ordering) → is_eq o ≡ true → o ≡ Equal
-    equal_of Less h = absurd (subst (λ b. T (not b)) h tt)
-    equal_of Equal h = refl
-    equal_of Greater h = absurd (subst (λ b. T (not b)) h tt)
+    not_true : (b : Bool) → (b ≡ true → ⊥) → b ≡ false
+    not_true true h = absurd (h refl)
+    not_true false h = refl
 
 holds_same : (c : Condition) → holds_empty c ≡ true → fits c [] ≡ true
 holds_same c h = subst (λ b. cond c.negated (not b) b ≡ true) (empty_text-same c.value) h
 
-kept_tags : (c : Condition) → holds_empty c ≡ true → (ts : List (Text × Text)) → IsTagSet ts → list_all (λ t. not (refuses (c.tag, c.value) t)) ts ≡ fits c (value_among ts c.tag)
+kept_tags : (c : Condition) → holds_empty c ≡ true → (ts : List (Text × Text)) → AreDistinctTags ts → list_all (λ t. not (refuses (c.tag, c.value) t)) ts ≡ fits c (value_among ts c.tag)
 kept_tags c h [] s = sym (holds_same c h)
 kept_tags c h (t ∷ ts) s =
     let p : Text × Text = (c.tag, c.value) in
-    let parts = both_of _ _ s in
     let rest : Bool = list_all (λ t. not (refuses p t)) ts in
     elim (same_text t.0 c.tag) as (λ b. same_text t.0 c.tag ≡ b → (not (refuses p t) && rest) ≡ fits c (cond b t.1 (value_among ts c.tag))) [
-      | true ↦ λ e. ap (λ b. not (refuses p t) && b) (above_kept p t.0 ts parts.0 e) ∙ and_true (not (refuses p t)) ∙ own_kept p t e ∙ fits_here t.1 c.value c.negated (holds_same c h)
-      | false ↦ λ e. ap (λ b. b && rest) (other_kept p t e) ∙ kept_tags c h ts parts.1
+      | true ↦ λ e. ap (λ b. not (refuses p t) && b) (others_kept p t.0 ts s.0 e) ∙ and_true (not (refuses p t)) ∙ own_kept p t e ∙ fits_here t.1 c.value c.negated (holds_same c h)
+      | false ↦ λ e. ap (λ b. b && rest) (other_kept p t e) ∙ kept_tags c h ts s.1
     ] refl
   where
     and_true : (b : Bool) → (b && true) ≡ b
@@ -189,7 +208,7 @@ allowed_more xs x ts =
     (λ t. rw (has_more xs x t, has_more xs x (t.0, [])) (apart_more (is_empty_text t.1) (has_pair (borrowed_pairs xs) t) (has_pair (borrowed_pairs xs) (t.0, [])) (is_pair t (plain x)) (is_pair (t.0, []) (plain x)))) ts
     ∙ all_both (λ t. not (is_refused (borrowed_pairs xs) t)) (λ t. not (refuses (plain x) t)) ts
 
-pub refused_more : (needed : List Condition) (xs : Pairs) (x : Bor Text × Bor Text) (c : Condition) → plain x ≡ (c.tag, c.value) → holds_empty c ≡ true → (s : Series) → IsTagSet s.tags
+pub refused_more : (needed : List Condition) (xs : Pairs) (x : Bor Text × Bor Text) (c : Condition) → plain x ≡ (c.tag, c.value) → holds_empty c ≡ true → (s : Series) → AreDistinctTags s.tags
     → (meets_tests needed (borrowed_pairs xs) s && meets s c) ≡ meets_tests needed (borrowed_pairs (xs ++ x ∷ [])) s
 refused_more needed xs x c is h s set =
     let kept : Bool = list_all (λ t. not (is_refused (borrowed_pairs xs) t)) s.tags in

@@ -1,5 +1,5 @@
 -- The cells of a walk: their indices are in its range, and their buckets start near it.
-use Rattle.std.proofs.Common.{◌≡◌, ℤ, pos, negsuc, ◌+ℤ◌, ◌≤ℤ◌, ◌≤◌, ◌^◌, unsigned_abs, true, false, not, ◌&&◌, ◌==◌, cond, refl, List, [], ◌∷◌, map, filter, arith, SFits, w64}
+use Rattle.std.proofs.Common.{◌≡◌, ℤ, pos, negsuc, ◌+ℤ◌, ◌≤ℤ◌, ◌≤◌, ◌^◌, unsigned_abs, Bool, true, false, not, ◌&&◌, ◌==◌, cond, refl, sym, ◌∙◌, ap, List, [], ◌∷◌, map, filter, arith, SFits, w64}
 use Rattle.std.proofs.lemmas.Int.{ints}
 use Rattle.std.specs.List.{AllByRecursion}
 use Rattle.std.proofs.lemmas.Bool.{and_parts}
@@ -54,3 +54,38 @@ taken-within q r a b c e =
     let both = and_parts (matches q f && is_within a b f.time) (not ((total_in c.parts).count == 0)) e in
     let parts = and_parts (matches q f) (is_within a b f.time) both.0 in
     ((and_parts (is_selected q f.column) (is_within q.from q.to f.time) parts.0).1, parts.1)
+
+-- a cell outside of the piece isn't taken
+pub outside-untaken : (q : Query) (r : Rule) (a b : ℤ) (c : SeenCell) → is_within a b (start_of r c.cell.index) ≡ false → false ≡ is_cell_taken q r a b c
+outside-untaken q r a b c e =
+    let matched : Bool = matches q (representative r c.cell) in
+    let empty : Bool = (total_in c.parts).count == 0 in
+    sym (ap (λ z. (matched && z) && not empty) e ∙ none matched empty)
+  where
+    none : (m d : Bool) → ((m && false) && not d) ≡ false
+    none true d = refl
+    none false d = refl
+
+-- nor is a cell without data
+pub empty-untaken : (q : Query) (r : Rule) (a b : ℤ) (c : SeenCell) → ((total_in c.parts).count == 0) ≡ true → false ≡ is_cell_taken q r a b c
+empty-untaken q r a b c e =
+    let inside : Bool = matches q (representative r c.cell) && is_within a b (start_of r c.cell.index) in
+    sym (ap (λ z. inside && not z) e ∙ none inside)
+  where
+    none : (m : Bool) → (m && false) ≡ false
+    none true = refl
+    none false = refl
+
+-- another is if it is selected
+pub inside-taken : (q : Query) (r : Rule) (a b : ℤ) (c : SeenCell) → is_within q.from q.to (start_of r c.cell.index) ≡ true → is_within a b (start_of r c.cell.index) ≡ true
+    → ((total_in c.parts).count == 0) ≡ false → is_selected q (representative r c.cell).column ≡ is_cell_taken q r a b c
+inside-taken q r a b c asked piece full =
+    let selected : Bool = is_selected q (representative r c.cell).column in
+    sym (ap (λ z. ((selected && z) && is_within a b (start_of r c.cell.index)) && not ((total_in c.parts).count == 0)) asked
+    ∙ ap (λ z. ((selected && true) && z) && not ((total_in c.parts).count == 0)) piece
+    ∙ ap (λ z. ((selected && true) && true) && not z) full
+    ∙ and_all selected)
+  where
+    and_all : (m : Bool) → (((m && true) && true) && true) ≡ m
+    and_all true = refl
+    and_all false = refl

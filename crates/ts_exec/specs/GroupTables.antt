@@ -1,6 +1,6 @@
 -- Groups with their rows, in byte order of their values, to which points and cells are added. (Own rules.)
-use Rattle.std.specs.Prelude.{◌≡◌, ℕ, ℤ, pos, ◌+ℤ◌, ◌*ℤ◌, ◌==◌, Bool, false, not, ◌&&◌, T, List, [], ◌∷◌, filter, map, length, replicate, Option, Some, None, if◌then◌else◌}
-use Rattle.std.specs.List.{list_all, flat_map}
+use Rattle.std.specs.Prelude.{◌≡◌, ℕ, ℤ, pos, ◌+ℤ◌, ◌*ℤ◌, ◌==◌, Bool, false, not, ◌&&◌, T, List, [], ◌∷◌, filter, map, length, replicate, Option, Some, None, MatchOption, if◌then◌else◌}
+use Rattle.std.specs.List.{list_all}
 use Rattle.std.specs.FinMap.{find, put, is_sorted}
 use Rattle.ts_core.specs.facts.Facts.{Text, is_of, is_within}
 use Rattle.ts_core.specs.aggregates.Aggregates.{Aggregate, empty_aggregate}
@@ -18,6 +18,8 @@ use Rattle.ts_core.specs.plans.Assembly.{representative, rule_shown}
 use Rattle.ts_store.specs.read.ViewResults.{ColumnRef, column_refs_where, points_at, SeenCell, cells_within}
 use Rattle.ts_exec.specs.declared.aggregate_parts.AggregateParts.{AggregateParts}
 use Rattle.ts_exec.specs.declared.aggregate_parts.AggregateParts.TheVariants.{Whole}
+use Rattle.ts_exec.specs.ReducedConditions.{IsMetByNone}
+use Rattle.ts_exec.specs.SeriesTests.{SeriesTests, AreTestsOf}
 use Rattle.ts_exec.specs.RowParts.{BucketGrid, bucket_grid, row_index_at, with_part, with_point_parts}
 
 -- groups with their rows
@@ -51,10 +53,11 @@ with_column_parts parts grid n g (p ∷ ps) t = put group_cmp g (with_point_part
 abbrev pub width : Query → ℕ
 width q = length (buckets_in q)
 
--- the number of a query's buckets, and its bucket grid
-pub record AreBucketsOf (q : Query) (n : ℕ) (g : BucketGrid) : Type 0 where
+-- the number of a query's buckets, its bucket grid, and the tests of its conditions, or none if no series meets them
+pub record IsScanOf (q : Query) (n : ℕ) (g : BucketGrid) (t : Option SeriesTests) : Type 0 where
   pub width : n ≡ width q
   pub grid : g ≡ bucket_grid q
+  pub tests : MatchOption t (IsMetByNone q.conditions) (AreTestsOf q.conditions)
 
 abbrev pub with_column_ref : AggregateParts → Query → List ColumnPoints → ℤ → ℤ → ColumnRef → Table → Table
 with_column_ref parts q cs a b s t =
@@ -71,10 +74,6 @@ with_column_refs parts q cs a b (s ∷ ss) t = with_column_refs parts q cs a b s
 -- the columns whose series meet the conditions
 abbrev pub selected_column_refs : List Condition → List ColumnRef → List ColumnRef
 selected_column_refs conditions = filter (λ s. list_all (meets s.series) conditions)
-
--- the columns' values of the group tags, one column after the other
-abbrev pub group_values : List Text → List ColumnRef → List Text
-group_values tags ss = flat_map (λ s. tag_values tags s.series) ss
 
 -- one of the conditions wants a value of a tag
 pub record IsNarrowing (conditions : List Condition) (c : Condition) : Type 0 where

@@ -15,3 +15,4 @@ pub mod ReducedConditions
 pub mod Searches
 pub mod FirstOf
 pub mod SeriesTests
+pub mod GroupValues

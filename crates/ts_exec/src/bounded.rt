@@ -1,7 +1,5 @@
 //! Fold of points that keeps their count, sum, minimum and maximum.
 ghost use Rattle.std.specs.Prelude.{◌≡◌, ◌+◌, ◌^◌, ◌≤◌};
-ghost use Rattle.std.specs.Ordering.{int_cmp};
-ghost use Rattle.ts_core.specs.aggregates.Orders.{lesser, down_cmp};
 ghost use Rattle.ts_core.specs.aggregates.Aggregates.{merged};
 ghost use Rattle.ts_exec.specs.declared.aggregate_parts.AggregateParts.TheVariants.{Bounds};
 
@@ -33,20 +31,6 @@ impl Model for Bounded {
     ghost inverse = { λ v. let e : Extremes = unwrap_or v.extremes wide_extremes in record { count = v.count; sum = v.sum; min = e.min; max = e.max } };
 }
 
-/// Returns the lesser of two values.
-fn lower(a: i64, b: i64) -> i64
-    ensures { result ≡ lesser int_cmp a b }
-{
-    if a > b { b } else { a }
-}
-
-/// Returns the greater of two values.
-fn higher(a: i64, b: i64) -> i64
-    ensures { result ≡ lesser down_cmp a b }
-{
-    if b > a { b } else { a }
-}
-
 impl Bounded {
     /// Merges the parts of some points with those of others.
     fn merge(self, other: Bounded) -> Bounded
@@ -56,8 +40,8 @@ impl Bounded {
         Bounded {
             count: self.count + other.count,
             sum: self.sum + other.sum,
-            min: lower(self.min, other.min),
-            max: higher(self.max, other.max),
+            min: self.min.min(other.min),
+            max: self.max.max(other.max),
         }
     }
 }

@@ -1,22 +1,26 @@
 //! Counts the points that a checked plan asks for, without visiting raw points.
 ghost use Rattle.std.specs.Prelude.{◌≡◌, ◌<◌, pos, ◌≤ℤ◌, true, length, min, map, filter, if◌then◌else◌};
+ghost use Rattle.std.specs.List.{list_all};
 ghost use Rattle.ts_core.specs.facts.Facts.{is_within};
 ghost use Rattle.ts_core.specs.store.Marks.{index_of};
-ghost use Rattle.ts_core.specs.plans.Pieces.{Raw};
+ghost use Rattle.ts_core.specs.plans.Assembly.{representative};
+ghost use Rattle.ts_core.specs.plans.Pieces.{Raw, start_of};
+ghost use Rattle.ts_core.specs.queries.Queries.{meets};
 ghost use Rattle.ts_core.specs.store.StoreStates.{total_in};
 ghost use Rattle.ts_store.specs.read.ViewResults.{view_cells_at};
 ghost use Rattle.ts_exec.specs.Executions.{IsCountOf};
 ghost use Rattle.ts_exec.specs.GroupTables.{is_cell_taken};
 ghost use Rattle.ts_exec.specs.Shares.{points_of_shares, cell_share, source_shares, pieces_shares};
 
+use crate::cell_piece::{bucket_start, is_candidate, is_met_by};
 use crate::executor::is_fresh;
 use crate::fault::ExecFault;
-use crate::pieces::{bucket_start, is_taken, rule_from};
+use crate::pieces::rule_from;
 use crate::selection::are_met;
 use std::alloc::Allocator;
 use ts_check::{Checked, Piece, PieceSource};
 use ts_core::{Partial, Rule, index_of};
-use ts_ql::Query;
+use ts_ql::{Condition, Query};
 use ts_store::{View, ViewCell};
 
 /// Returns the number of raw points that match a query from `from`, inclusive, to `to`, exclusive.
@@ -38,6 +42,35 @@ fn raw_points<A: Allocator + Copy, V: View<A>>(
     count
 }
 
+/// Returns true if a cell meets all conditions.
+fn are_met_by<A: Allocator>(
+    rule: &Rule<A>,
+    cell: &ViewCell<'_, A>,
+    conditions: &[Condition<A>],
+) -> bool
+    ensures { result ≡ list_all (meets (representative rule.now cell.now.cell).column.series) conditions.now }
+{
+    conditions
+        .iter()
+        .all(|condition| is_met_by(rule, cell, condition))
+}
+
+/// Returns true if a cell has data, matches the query, and starts within the range from `from` to `to` and the query's
+/// range.
+fn is_counted<A: Allocator>(
+    rule: &Rule<A>,
+    query: &Query<A>,
+    from: i64,
+    to: i64,
+    start: &i128,
+    cell: &ViewCell<'_, A>,
+) -> bool
+    requires { start.now ≡ start_of rule.now cell.now.cell.index }
+    ensures { result ≡ is_cell_taken query.now.query rule.now from to cell.now }
+{
+    is_candidate(rule, query, from, to, start, cell) && are_met_by(rule, cell, query.conditions())
+}
+
 /// Returns the number of points of a cell, or 0 if the query doesn't match it.
 fn cell_points<A: Allocator + Copy>(
     rule: &Rule<A>,
@@ -51,7 +84,7 @@ fn cell_points<A: Allocator + Copy>(
     ensures { result ≡ (if is_cell_taken query.now.query rule.now from to cell.now then (total_in cell.now.parts).count else 0) }
 {
     let start = bucket_start(rule, from, to, &cell.index);
-    if is_taken(rule, query, from, to, &start, cell) {
+    if is_counted(rule, query, from, to, &start, cell) {
         cell.count()
     } else {
         0

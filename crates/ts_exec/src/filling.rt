@@ -5,6 +5,7 @@ ghost use Rattle.ts_core.specs.aggregates.Buckets.{bucket_of, bucket_start};
 ghost use Rattle.ts_exec.specs.Fillings.{AreNear, filled_answer};
 
 use crate::filled::{BucketRows, FilledRows};
+use crate::group_values::GroupValues;
 use crate::groups::GroupRows;
 use crate::table::Table;
 use std::alloc::Allocator;
@@ -72,18 +73,17 @@ impl<'a, A: Allocator> Rows<'a, A> {
 #[derive(Drop)]
 pub struct FilledGroup<'r, 'a, A: Allocator> {
     /// Values of the tags that the query groups by, in the order of the tags.
-    pub values: &'r [&'a str],
+    pub values: GroupValues<'r, 'a>,
     /// Rows, ordered by time.
     pub rows: FilledRows<'r, A>,
 }
 
 impl<'r, 'a, A: Allocator> Model for FilledGroup<'r, 'a, A> {
     ghost use Rattle.ts_core.specs.queries.Fills.{FilledGroup as GroupValue};
-    ghost use Rattle.ts_exec.specs.Borrowed.{borrowed};
 
     ghost Value = { GroupValue };
 
-    ghost view = { λ g. record { values = borrowed g.values.now; rows = g.rows } };
+    ghost view = { λ g. record { values = g.values; rows = g.rows } };
 }
 
 /// Iterator over the filled groups. Its model is the list of those that remain.

@@ -2,7 +2,6 @@
 ghost use Rattle.std.specs.Prelude.{◌≡◌, ◌≤◌, ◌<◌, true, [], length, Err, OnOk, IfOk};
 ghost use Rattle.std.specs.List.Sorted.{IsSearchInRange};
 ghost use Rattle.ts_store.specs.read.ViewResults.{points_at};
-ghost use Rattle.ts_exec.specs.Borrowed.{borrowed};
 ghost use Rattle.ts_exec.specs.Searches.{IsSlotOfGroup, HoldsGroup};
 ghost use Rattle.ts_exec.specs.Slots.{AreSlots, made};
 ghost use Rattle.ts_exec.specs.GroupTables.{with_column_parts, with_cell_part};
@@ -10,6 +9,7 @@ ghost use Rattle.ts_exec.specs.GroupTables.{with_column_parts, with_cell_part};
 use crate::aggregate_parts::AggregateParts;
 use crate::buckets::BucketCursor;
 use crate::column::ColumnRange;
+use crate::group_values::{GroupValues, GroupValuesBuf};
 use crate::slot::Slot;
 use std::alloc::{AllocError, Allocator};
 use std::cmp::Ordering;
@@ -20,7 +20,7 @@ use ts_store::View;
 /// A group: the values of its tags, and one row per bucket.
 #[derive(Drop)]
 pub struct GroupRows<'a, A: Allocator> {
-    values: Vec<&'a str, A>,
+    values: GroupValuesBuf<'a, A>,
     rows: Vec<Agg, A>,
 }
 
@@ -28,19 +28,18 @@ impl<'a, A: Allocator> Model for GroupRows<'a, A> {
     ghost use Rattle.std.specs.Prelude.{List};
     ghost use Rattle.ts_core.specs.aggregates.Aggregates.{Aggregate};
     ghost use Rattle.ts_core.specs.facts.Facts.{Text};
-    ghost use Rattle.ts_exec.specs.Borrowed.{borrowed};
 
     ghost Value = { List Text × List Aggregate };
 
-    ghost view = { λ g. (borrowed g.values.items, g.rows.items) };
+    ghost view = { λ g. (g.values, g.rows.items) };
 }
 
 impl<'a, A: Allocator> GroupRows<'a, A> {
     /// Returns the values of the tags that the query groups by, in the order of the tags.
-    pub fn values(&self) -> &[&'a str]
-        ensures { borrowed result.now ≡ self.now.0 }
+    pub fn values(&self) -> GroupValues<'_, 'a>
+        ensures { result ≡ self.now.0 }
     {
-        self.values.as_slice()
+        self.values.values()
     }
 
     /// Returns the rows, one per bucket.
@@ -53,10 +52,13 @@ impl<'a, A: Allocator> GroupRows<'a, A> {
 
 /// Searches for a group by binary search. Returns `Ok` with its slot, or `Err` with the slot to insert it at. Tries the
 /// last one first, as groups mostly arrive in order.
-fn find_slot<A: Allocator + Copy>(slots: &[Slot<'_, A>], values: &[&str]) -> Result<usize, usize>
+fn find_slot<A: Allocator + Copy>(
+    slots: &[Slot<'_, A>],
+    values: &GroupValues<'_, '_>,
+) -> Result<usize, usize>
     requires { AreSlots slots.now }
     ensures bound { IsSearchInRange result (length slots.now) }
-    ensures slot { IsSlotOfGroup (borrowed values.now) slots.now result }
+    ensures slot { IsSlotOfGroup values.now slots.now result }
 {
     let Some(last) = slots.last() else {
         return Err(0);
@@ -69,8 +71,12 @@ fn find_slot<A: Allocator + Copy>(slots: &[Slot<'_, A>], values: &[&str]) -> Res
 }
 
 /// Returns true if the slot `at` has the group with these values.
-fn is_at<A: Allocator + Copy>(slots: &[Slot<'_, A>], at: usize, values: &[&str]) -> bool
-    ensures { result ≡ true → HoldsGroup (borrowed values.now) slots.now at }
+fn is_at<A: Allocator + Copy>(
+    slots: &[Slot<'_, A>],
+    at: usize,
+    values: &GroupValues<'_, '_>,
+) -> bool
+    ensures { result ≡ true → HoldsGroup values.now slots.now at }
 {
     match slots.get(at) {
         Some(slot) => slot.compare(values) == Ordering::Equal,
@@ -82,14 +88,14 @@ fn is_at<A: Allocator + Copy>(slots: &[Slot<'_, A>], at: usize, values: &[&str])
 fn insert_group<'a, A: Allocator + Copy>(
     slots: &mut Vec<Slot<'a, A>, A>,
     at: usize,
-    values: Vec<&'a str, A>,
+    values: GroupValuesBuf<'a, A>,
 ) -> Result<(), AllocError>
     requires slots { AreSlots slots.old.items }
     requires bound { at ≤ length slots.old.items }
-    requires slot { IsSlotOfGroup (borrowed values.items) slots.old.items (Err at) }
+    requires slot { IsSlotOfGroup values slots.old.items (Err at) }
     ensures slots { AreSlots slots.new.items }
     ensures made { made slots.new.items ≡ made slots.old.items }
-    ensures slot { OnOk result (HoldsGroup (borrowed values.entry.items) slots.new.items at) }
+    ensures slot { OnOk result (HoldsGroup values.entry slots.new.items at) }
 {
     let slot = Slot::new(values);
     slots.insert(at, slot)?;
@@ -99,17 +105,17 @@ fn insert_group<'a, A: Allocator + Copy>(
 /// Returns the group's slot, inserting an empty one if needed.
 fn slot_of<'a, A: Allocator + Copy>(
     slots: &mut Vec<Slot<'a, A>, A>,
-    values: &[&'a str],
+    values: &GroupValues<'_, 'a>,
 ) -> Result<usize, AllocError>
     requires { AreSlots slots.old.items }
     ensures slots { AreSlots slots.new.items }
     ensures made { made slots.new.items ≡ made slots.old.items }
-    ensures slot { IfOk result (λ at. HoldsGroup (borrowed values.now) slots.new.items at) }
+    ensures slot { IfOk result (λ at. HoldsGroup values.now slots.new.items at) }
 {
     match find_slot(slots.as_slice(), values) {
         Ok(at) => Ok(at),
         Err(at) => {
-            let values = Vec::from_slice(*slots.allocator(), values)?;
+            let values = GroupValuesBuf::copied(*slots.allocator(), values)?;
             insert_group(slots, at, values)?;
             Ok(at)
         }
@@ -120,12 +126,12 @@ fn slot_of<'a, A: Allocator + Copy>(
 fn expect<'a, A: Allocator + Copy>(
     slots: &mut Vec<Slot<'a, A>, A>,
     guess: usize,
-    values: &[&'a str],
+    values: &GroupValues<'_, 'a>,
 ) -> Result<usize, AllocError>
     requires { AreSlots slots.old.items }
     ensures slots { AreSlots slots.new.items }
     ensures made { made slots.new.items ≡ made slots.old.items }
-    ensures slot { IfOk result (λ at. HoldsGroup (borrowed values.now) slots.new.items at) }
+    ensures slot { IfOk result (λ at. HoldsGroup values.now slots.new.items at) }
 {
     if is_at(slots.as_slice(), guess, values) {
         return Ok(guess);
@@ -163,6 +169,11 @@ impl<'a, A: Allocator + Copy> Groups<'a, A> {
         }
     }
 
+    /// Returns the allocator of the table.
+    pub(crate) fn allocator(&self) -> &A {
+        self.slots.allocator()
+    }
+
     /// Returns the groups that have data.
     pub(crate) fn into_groups(self) -> Result<Vec<GroupRows<'a, A>, A>, AllocError>
         ensures { IfOk result (λ v. v.items ≡ self.entry) }
@@ -178,7 +189,7 @@ impl<'a, A: Allocator + Copy> Groups<'a, A> {
     }
 
     /// Returns the group's slot, inserting an empty one if needed.
-    pub(crate) fn expect(&mut self, values: &[&'a str]) -> Result<usize, AllocError>
+    pub(crate) fn expect(&mut self, values: &GroupValues<'_, 'a>) -> Result<usize, AllocError>
         ensures { self.new ≡ self.old }
     {
         slot_of(&mut self.slots, values)
@@ -188,11 +199,11 @@ impl<'a, A: Allocator + Copy> Groups<'a, A> {
     pub(crate) fn add_part(
         &mut self,
         width: usize,
-        values: &[&'a str],
+        values: &GroupValues<'_, 'a>,
         row_index: usize,
         part: Agg,
     ) -> Result<(), AllocError>
-        ensures { OnOk result (self.new ≡ with_cell_part width (borrowed values.now) row_index part self.old) }
+        ensures { OnOk result (self.new ≡ with_cell_part width values.now row_index part self.old) }
     {
         // In every bucket, cells come in the order of their groups.
         let at = expect(&mut self.slots, self.last.saturating_add(1), values)?;
@@ -207,12 +218,12 @@ impl<'a, A: Allocator + Copy> Groups<'a, A> {
         guess: usize,
         parts: AggregateParts,
         width: usize,
-        values: &[&'a str],
+        values: &GroupValues<'_, 'a>,
         buckets: &mut BucketCursor,
         range: &ColumnRange<'_, V>,
     ) -> Result<(), AllocError>
         requires { range.now.column < length (V.seen range.now.view.now).columns }
-        ensures value { OnOk result (self.new ≡ with_column_parts parts buckets.old width (borrowed values.now) (points_at (V.seen range.now.view.now).columns range.now.column range.now.from range.now.to) self.old) }
+        ensures value { OnOk result (self.new ≡ with_column_parts parts buckets.old width values.now (points_at (V.seen range.now.view.now).columns range.now.column range.now.from range.now.to) self.old) }
         ensures same { buckets.new ≡ buckets.old }
     {
         let points = range.view.raw_range(range.column, range.from, range.to);

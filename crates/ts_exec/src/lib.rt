@@ -11,7 +11,7 @@
 //! let table = execute_selected(alloc, &store, &checked)?;
 //! let rows = fill(table, checked.query().fill());
 //! for group in rows.groups() {
-//!     // group.values are the values of the tags that the query groups by
+//!     // group.values.iter() gives the values of the tags that the query groups by
 //!     for row in group.rows {
 //!         // row.start() is the start of its bucket, row.values() has one value per column
 //!     }
@@ -26,6 +26,7 @@
 mod aggregate_parts;
 mod bounded;
 mod buckets;
+mod cell_piece;
 mod column;
 mod conditions;
 mod counting;
@@ -34,11 +35,15 @@ mod fault;
 mod filled;
 mod filling;
 mod fold;
+mod group_values;
 mod groups;
 mod joined;
 mod pieces;
+mod raw_piece;
 mod rows;
+mod scan;
 mod selection;
+mod set_values;
 mod slot;
 mod table;
 mod tag_tests;
@@ -48,5 +53,6 @@ pub use executor::{execute, execute_selected};
 pub use fault::ExecFault;
 pub use filled::{FilledRow, FilledRows, Values};
 pub use filling::{FilledGroup, FilledGroups, Rows, fill};
+pub use group_values::{GroupValues, GroupValuesIter};
 pub use groups::GroupRows;
 pub use table::Table;

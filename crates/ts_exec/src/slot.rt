@@ -2,13 +2,13 @@
 ghost use Rattle.std.specs.Prelude.{◌≡◌, ◌<◌, length, None, Some, OnOk, OnErr, option_map};
 ghost use Rattle.ts_core.specs.queries.Answers.{group_cmp};
 ghost use Rattle.ts_store.specs.read.ViewResults.{points_at};
-ghost use Rattle.ts_exec.specs.Borrowed.{borrowed};
 ghost use Rattle.ts_exec.specs.RowParts.{with_part, with_point_parts};
 ghost use Rattle.ts_exec.specs.GroupTables.{rows_or};
 
 use crate::aggregate_parts::AggregateParts;
 use crate::buckets::BucketCursor;
 use crate::column::{ColumnRange, add_points};
+use crate::group_values::{GroupValues, GroupValuesBuf};
 use crate::rows::add_part;
 use std::alloc::{AllocError, Allocator};
 use std::cmp::Ordering;
@@ -20,7 +20,7 @@ use ts_store::View;
 /// Tag values of a group, with its rows, one per bucket, if it has data.
 #[derive(Drop)]
 pub(crate) struct Slot<'a, A: Allocator> {
-    pub values: Vec<&'a str, A>,
+    pub values: GroupValuesBuf<'a, A>,
     pub rows: Option<Vec<Agg, A>>,
 }
 
@@ -28,32 +28,25 @@ impl<'a, A: Allocator> Model for Slot<'a, A> {
     ghost use Rattle.std.specs.Prelude.{List, Option, option_map};
     ghost use Rattle.ts_core.specs.aggregates.Aggregates.{Aggregate};
     ghost use Rattle.ts_core.specs.facts.Facts.{Text};
-    ghost use Rattle.ts_exec.specs.Borrowed.{borrowed};
 
     ghost Value = { List Text × Option (List Aggregate) };
 
-    ghost view = { λ s. (borrowed s.values.items, option_map (λ v. v.items) s.rows) };
-}
-
-/// Compares lists of texts lexicographically.
-fn compare(values: &[&str], others: &[&str]) -> Ordering
-    ensures { result ≡ group_cmp (borrowed values.now) (borrowed others.now) }
-{
-    values.cmp(others)
+    ghost view = { λ s. (s.values, option_map (λ v. v.items) s.rows) };
 }
 
 impl<'a, A: Allocator + Copy> Slot<'a, A> {
     /// Creates an empty group.
-    pub(crate) fn new(values: Vec<&'a str, A>) -> Slot<'a, A>
-        ensures { result ≡ (borrowed values.entry.items, None) }
+    pub(crate) fn new(values: GroupValuesBuf<'a, A>) -> Slot<'a, A>
+        ensures { result ≡ (values.entry, None) }
     {
         Slot { values, rows: None }
     }
 
-    pub(crate) fn compare(&self, values: &[&str]) -> Ordering
-        ensures { result ≡ group_cmp self.now.0 (borrowed values.now) }
+    /// Compares the group's values with others, lexicographically.
+    pub(crate) fn compare(&self, values: &GroupValues<'_, '_>) -> Ordering
+        ensures { result ≡ group_cmp self.now.0 values.now }
     {
-        compare(self.values.as_slice(), values)
+        self.values.values().compare(values)
     }
 
     /// Allocates `width` empty rows, if the group has none.

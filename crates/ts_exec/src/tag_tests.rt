@@ -1,18 +1,22 @@
-//! Tests a series by its own tags, however many conditions a query has.
-ghost use Rattle.std.specs.Prelude.{◌≡◌, ◌&&◌, not, IfOk, OnOk};
+//! Tests a series, or a cell of a rule, by its own tags, however many conditions a query has.
+ghost use Rattle.std.specs.Prelude.{◌≡◌, ◌&&◌, not, zip, map, string_bytes, IfOk, OnOk, MatchOption};
 ghost use Rattle.std.specs.List.{list_all};
 ghost use Rattle.ts_core.specs.facts.Facts.{Series};
+ghost use Rattle.ts_core.specs.plans.Assembly.{representative};
 ghost use Rattle.ts_core.specs.queries.Queries.{meets};
 ghost use Rattle.ts_core.specs.text.Texts.{owned_pairs, borrowed_pairs, IsTagSet};
 ghost use Rattle.ts_exec.specs.Borrowed.{borrowed};
-ghost use Rattle.ts_exec.specs.ReducedConditions.{meets_all};
-ghost use Rattle.ts_exec.specs.SeriesTests.{ArePairsSorted, holds_empty, has_pair, is_refused, meets_tests};
+ghost use Rattle.ts_exec.specs.ReducedConditions.{meets_all, IsMetByNone};
+ghost use Rattle.ts_exec.specs.SeriesTests.{ArePairsSorted, AreDistinctTags, AreTestsOf, holds_empty, has_pair, is_refused, meets_tests};
 
+use crate::cell_piece::is_met_by;
+use crate::conditions::reduced;
 use crate::selection::meets_each;
 use std::alloc::{AllocError, Allocator};
 use std::marker::Model;
-use ts_core::Key;
+use ts_core::{Key, Rule};
 use ts_ql::Condition;
+use ts_store::ViewCell;
 
 /// Conditions of a query, divided by whether a series without the tag meets them.
 #[derive(Drop)]
@@ -73,13 +77,44 @@ fn are_allowed<A: Allocator>(refused: &[(&str, &str)], tags: &[(String<A>, Strin
     !is_refused(refused, first.0.as_str(), first.1.as_str()) && are_allowed(refused, others)
 }
 
+/// Returns true if none of a cell's kept tags has a value that it must not have.
+fn are_kept_allowed<A: Allocator>(
+    refused: &[(&str, &str)],
+    kept: &[String<A>],
+    group: &[String<A>],
+) -> bool
+    requires { ArePairsSorted refused.now }
+    ensures { result ≡ list_all (λ t. not (is_refused (borrowed_pairs refused.now) t)) (zip (map string_bytes kept.now) (map string_bytes group.now)) }
+{
+    match (kept.split_first(), group.split_first()) {
+        (Some((tag, kept)), Some((value, group))) => {
+            !is_refused(refused, tag.as_str(), value.as_str())
+                && are_kept_allowed(refused, kept, group)
+        }
+        _ => true,
+    }
+}
+
+/// Returns true if a cell meets all conditions of a list of references.
+fn is_met_by_each<A: Allocator>(
+    rule: &Rule<A>,
+    cell: &ViewCell<'_, A>,
+    conditions: &[&Condition<A>],
+) -> bool
+    ensures { result ≡ list_all (λ c. meets (representative rule.now cell.now.cell).column.series c.now) conditions.now }
+{
+    conditions
+        .iter()
+        .all(|condition| is_met_by(rule, cell, condition))
+}
+
 /// Appends a condition to `needed`, or its tag and value to `refused`.
 fn add<'q, A: Allocator + Copy>(
     needed: &mut Vec<&'q Condition<A>, A>,
     refused: &mut Vec<(&'q str, &'q str), A>,
     condition: &'q Condition<A>,
 ) -> Result<(), AllocError>
-    ensures { OnOk result ((s : Series) → IsTagSet s.tags → (meets_tests (borrowed needed.old.items) (borrowed_pairs refused.old.items) s && meets s condition.now) ≡ meets_tests (borrowed needed.new.items) (borrowed_pairs refused.new.items) s) }
+    ensures { OnOk result ((s : Series) → AreDistinctTags s.tags → (meets_tests (borrowed needed.old.items) (borrowed_pairs refused.old.items) s && meets s condition.now) ≡ meets_tests (borrowed needed.new.items) (borrowed_pairs refused.new.items) s) }
 {
     if !holds_empty(condition) {
         needed.push(condition)?;
@@ -95,7 +130,7 @@ impl<'q, A: Allocator + Copy> TagTests<'q, A> {
         alloc: A,
         conditions: &[&'q Condition<A>],
     ) -> Result<TagTests<'q, A>, AllocError>
-        ensures { IfOk result (λ t. (s : Series) → IsTagSet s.tags → meets_tests t.needed t.refused s ≡ meets_all (borrowed conditions.now) s) }
+        ensures { IfOk result (λ t. (s : Series) → AreDistinctTags s.tags → meets_tests t.needed t.refused s ≡ meets_all (borrowed conditions.now) s) }
     {
         let mut needed = Vec::new(alloc);
         let mut refused = Vec::new(alloc);
@@ -113,4 +148,26 @@ impl<'q, A: Allocator + Copy> TagTests<'q, A> {
     {
         are_allowed(self.refused.as_slice(), key.tags()) && meets_each(key, self.needed.as_slice())
     }
+
+    /// Returns true if a cell meets the conditions.
+    pub(crate) fn are_met_by(&self, rule: &Rule<A>, cell: &ViewCell<'_, A>) -> bool
+        ensures { result ≡ meets_tests self.now.needed self.now.refused (representative rule.now cell.now.cell).column.series }
+    {
+        are_kept_allowed(self.refused.as_slice(), rule.kept_tags(), cell.group)
+            && is_met_by_each(rule, cell, self.needed.as_slice())
+    }
+}
+
+/// Returns the tests for these conditions, or `None` if they want two values of one tag.
+pub(crate) fn tests_of<'q, A: Allocator + Copy>(
+    alloc: A,
+    conditions: &'q [Condition<A>],
+) -> Result<Option<TagTests<'q, A>>, AllocError>
+    ensures { IfOk result (λ r. MatchOption r (IsMetByNone conditions.now) (AreTestsOf conditions.now)) }
+{
+    let Some(conditions) = reduced(alloc, conditions)? else {
+        return Ok(None);
+    };
+    let tests = TagTests::new(alloc, conditions.as_slice())?;
+    Ok(Some(tests))
 }

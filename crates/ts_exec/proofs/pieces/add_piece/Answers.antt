@@ -1,6 +1,6 @@
 use Rattle.std.specs.List.{list_all}
 use Rattle.std.proofs.Common.{rules, ◌≡◌, pos, ◌≤ℤ◌, ◌∙◌, ap, subst, sym, map, Some, None, List, Bool, OnOk, IfOk, get_or, ap₂, ℤ, to_z, of_z, w64}
-use Rattle.ts_core.specs.settings.Settings.{Rule}
+use Rattle.ts_core.specs.settings.Settings.{Rule, AreKeptTags}
 use Rattle.ts_core.specs.queries.Queries.{Query}
 use Rattle.ts_core.specs.store.Views.{ViewState}
 use Rattle.ts_core.specs.plans.Pieces.{Source, Rollup}
@@ -23,6 +23,11 @@ pub add_cells-requires-clause-interval : goal.add_cells-requires-clause-interval
 add_cells-requires-clause-interval g c =
     let e : rule_from c.as_str.result.now 0 c.settings.result.now.rules ≡ Some (c.in-Some.number, c.in-Some.rule.now) = search rules in
     found-holds (λ (r : Rule). pos 1 ≤ℤ r.interval) c.as_str.result.now c.settings.result.now.rules 0 c.in-Some.number c.in-Some.rule.now c.rules.ensures.valid.intervals e
+
+pub add_cells-requires-clause-once : goal.add_cells-requires-clause-once
+add_cells-requires-clause-once g c =
+    let e : rule_from c.as_str.result.now 0 c.settings.result.now.rules ≡ Some (c.in-Some.number, c.in-Some.rule.now) = search rules in
+    (found-holds (λ (r : Rule). AreKeptTags r.kept_tags) c.as_str.result.now c.settings.result.now.rules 0 c.in-Some.number c.in-Some.rule.now c.rules.ensures.valid.kept_tags e).once
 
 pub returns-in-Some-clause-value : goal.returns-in-Some-clause-value
 returns-in-Some-clause-value g c =

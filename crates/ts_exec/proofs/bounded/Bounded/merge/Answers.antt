@@ -3,6 +3,7 @@ use Rattle.std.specs.Int.{w128}
 use Rattle.std.proofs.lemmas.Int.{ints, fits_signed_from_abs}
 use Rattle.std.specs.declared.cmp.Ordering.{Ordering}
 use Rattle.ts_core.specs.aggregates.Orders.{lesser, down_cmp}
+use Rattle.ts_core.specs.aggregates.OrderLaws.{min-lesser, max-lesser}
 use Rattle.ts_core.specs.aggregates.Aggregates.{Aggregate, merged, IsSpread}
 use Rattle.ts_core.specs.aggregates.SoundLaws.{IsSound-parts, merged-parts, spread_bound}
 use Rattle.ts_exec.specs.RowParts.{bounds}
@@ -36,13 +37,13 @@ overflow_add-result-2 c =
     let k : unsigned_abs t ≤ n * 9223372036854775808 = sum_bound n t _ _ c.other.invariant.1 (search rules) (search rules) in
     rw (plain_sum m n s t few h k) (both_fit m n s t few h k)
 
-abbrev first : goal.After-higher → Aggregate
+abbrev first : goal.After-max → Aggregate
 first c = record { count = c.self.inside.count; sum = c.self.inside.sum; extremes = Some (bounds c.self.inside.min c.self.inside.max) }
 
-abbrev second : goal.After-higher → Aggregate
+abbrev second : goal.After-max → Aggregate
 second c = record { count = c.other.inside.count; sum = c.other.inside.sum; extremes = Some (bounds c.other.inside.min c.other.inside.max) }
 
-sum_is : (c : goal.After-higher) → to_z w128 (of_z w128 (to_z w128 (of_z w128 c.self.inside.sum) +ℤ to_z w128 (of_z w128 c.other.inside.sum))) ≡ c.self.inside.sum +ℤ c.other.inside.sum
+sum_is : (c : goal.After-max) → to_z w128 (of_z w128 (to_z w128 (of_z w128 c.self.inside.sum) +ℤ to_z w128 (of_z w128 c.other.inside.sum))) ≡ c.self.inside.sum +ℤ c.other.inside.sum
 sum_is c =
     let m : ℕ = c.self.inside.count in
     let n : ℕ = c.other.inside.count in
@@ -53,10 +54,10 @@ sum_is c =
     let k : unsigned_abs t ≤ n * 9223372036854775808 = sum_bound n t _ _ c.other.invariant.1 (search rules) (search rules) in
     ap (λ z. to_z w128 (of_z w128 z)) (plain_sum m n s t few h k) ∙ to_z-of_z (both_fit m n s t few h k)
 
-extremes_are : (c : goal.After-higher) → Some (bounds (to_z w64 (of_z w64 c.lower.result)) (to_z w64 (of_z w64 c.higher.result))) ≡ (merged (first c) (second c)).extremes
+extremes_are : (c : goal.After-max) → Some (bounds (to_z w64 (of_z w64 c.min.result)) (to_z w64 (of_z w64 c.max.result))) ≡ (merged (first c) (second c)).extremes
 extremes_are c =
-    let low = plain int_cmp c.self.inside.min c.other.inside.min c.lower.result (search rules) (search rules) (search rules) c.lower.ensures in
-    let high = plain down_cmp c.self.inside.max c.other.inside.max c.higher.result (search rules) (search rules) (search rules) c.higher.ensures in
+    let low = plain int_cmp c.self.inside.min c.other.inside.min c.min.result (search rules) (search rules) (search rules) (c.min.ensures.value ∙ min-lesser (to_z w64 (of_z w64 c.self.inside.min)) (to_z w64 (of_z w64 c.other.inside.min))) in
+    let high = plain down_cmp c.self.inside.max c.other.inside.max c.max.result (search rules) (search rules) (search rules) (c.max.ensures.value ∙ max-lesser (to_z w64 (of_z w64 c.self.inside.max)) (to_z w64 (of_z w64 c.other.inside.max))) in
     ap₂ (λ x y. Some (bounds x y)) low high
 
 pub invariant_of-result : goal.invariant_of-result

@@ -1,7 +1,6 @@
 use Rattle.std.proofs.Common.{◌∙◌, ap, List}
 use Rattle.std.proofs.lemmas.Result.{on_ok_weaker}
 use Rattle.ts_core.specs.facts.Facts.{Text}
-use Rattle.ts_exec.specs.Borrowed.{borrowed}
 use Rattle.ts_exec.specs.RowParts.{with_part}
 use Rattle.ts_exec.specs.Slots.{Slots}
 use Rattle.ts_exec.specs.GroupTables.{Table, with_cell_part}
@@ -10,11 +9,11 @@ use Rattle.ts_exec.proofs.groups.Groups.add_part.Goals as goal
 
 pub invariant_of-self-2 : goal.invariant_of-self-2
 invariant_of-self-2 g c =
-    written-slots c.expect.new.slots.items c.expect.ensures.slots (borrowed c.args.values.now) c.in_ok-at.at c.in_ok-at.ensures.slot c.index_mut.result.now c.add_part.new.self c.index_mut.ensures.value c.add_part.ensures.key
+    written-slots c.expect.new.slots.items c.expect.ensures.slots c.args.values.now c.in_ok-at.at c.in_ok-at.ensures.slot c.index_mut.result.now c.add_part.new.self c.index_mut.ensures.value c.add_part.ensures.key
 
 pub returns : goal.returns
 returns g c =
-    let k : List Text = borrowed c.args.values.now in
+    let k : List Text = c.args.values.now in
     let t : Slots = c.expect.new.slots.items in
     on_ok_weaker c.add_part.result (λ rows.
     written-made t c.expect.ensures.slots k c.in_ok-at.at c.in_ok-at.ensures.slot c.index_mut.result.now c.add_part.new.self c.index_mut.ensures.value c.add_part.ensures.key (with_part c.args.row_index c.args.part) c.args.width rows

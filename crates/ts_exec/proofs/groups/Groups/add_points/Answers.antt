@@ -6,7 +6,6 @@ use Rattle.ts_core.specs.store.StoreStates.{ColumnPoints}
 use Rattle.ts_core.specs.queries.Answers.{group_cmp}
 use Rattle.ts_store.specs.read.ViewResults.{points_at}
 use Rattle.ts_exec.specs.declared.aggregate_parts.AggregateParts.{AggregateParts}
-use Rattle.ts_exec.specs.Borrowed.{borrowed}
 use Rattle.ts_exec.specs.RowParts.{BucketGrid, with_point_parts}
 use Rattle.ts_exec.specs.Slots.{Slots}
 use Rattle.ts_exec.specs.GroupTables.{Table, rows_for, with_column_parts}
@@ -15,7 +14,7 @@ use Rattle.ts_exec.proofs.groups.Groups.add_points.Goals as goal
 
 pub invariant_of-self-2 : goal.invariant_of-self-2
 invariant_of-self-2 g c =
-    written-slots c.expect.new.slots.items c.expect.ensures.slots (borrowed c.args.values.now) c.in_ok-at.at c.in_ok-at.ensures.slot c.index_mut.result.now c.add_points.new.self c.index_mut.ensures.value c.add_points.ensures.key
+    written-slots c.expect.new.slots.items c.expect.ensures.slots c.args.values.now c.in_ok-at.at c.in_ok-at.ensures.slot c.index_mut.result.now c.add_points.new.self c.index_mut.ensures.value c.add_points.ensures.key
 
 -- points insert their group
 some_points : (parts : AggregateParts) (grid : BucketGrid) (n : ℕ) (g : List Text) (ps : List (ℤ × ℤ)) (t : Table) → length ps ≢ 0 → put group_cmp g (with_point_parts parts grid ps (rows_for n g t)) t ≡ with_column_parts parts grid n g ps t
@@ -27,7 +26,7 @@ returns-clause-value g c =
     let parts : AggregateParts = c.args.parts in
     let grid : BucketGrid = c.args.buckets.now in
     let n : ℕ = c.args.width in
-    let k : List Text = borrowed c.args.values.now in
+    let k : List Text = c.args.values.now in
     let t : Slots = c.expect.new.slots.items in
     let all : List (ℤ × ℤ) = c.raw_range-points.result in
     let cs : List ColumnPoints = (g.V.View.seen c.args.range.now.view.now).columns in
