@@ -3,7 +3,6 @@ ghost use Rattle.std.specs.Prelude.{◌≡◌, ◌∷◌, ◌++◌, map, codes, 
 ghost use Rattle.serde_json.specs.Data.{object, member, no_members, string};
 ghost use Rattle.serde_json.specs.View.{view, members_view};
 ghost use Rattle.serde_json.specs.Written.{compact_text};
-ghost use Rattle.ts_exec.specs.Borrowed.{borrowed};
 ghost use Rattle.ts_ql.specs.Selects.{texts};
 ghost use Rattle.ts_reply.specs.AppendedData.{AppendsData};
 ghost use Rattle.ts_reply.specs.Replies.{column_data, tags_among, IsSeriesData};
@@ -14,7 +13,7 @@ use crate::rows::push_group_rows;
 use crate::text::{push_quoted, push_value};
 use serde_json::{Map, Value, put};
 use std::alloc::{AllocError, Allocator, Global};
-use ts_exec::FilledGroup;
+use ts_exec::{FilledGroup, GroupValues, GroupValuesIter};
 use ts_ql::{Projection, Query};
 
 /// Returns the column names, beginning with `time`.
@@ -52,22 +51,22 @@ fn insert_tags<A: Allocator>(
     members: &mut Map<String, Value>,
     alloc: Global,
     tags: &[String<A>],
-    values: &[&str],
+    mut values: GroupValuesIter<'_, '_>,
 ) -> Result<(), AllocError>
-    ensures { OnOk result (members_view members.new.entries ≡ tags_among (members_view members.old.entries) (texts tags.now) (borrowed values.now)) }
+    ensures { OnOk result (members_view members.new.entries ≡ tags_among (members_view members.old.entries) (texts tags.now) values.entry) }
 {
-    match (tags.split_first(), values.split_first()) {
-        (Some((tag, tags)), Some((value, values))) => {
-            put(
-                members,
-                alloc,
-                tag.as_str(),
-                Value::try_from_str(alloc, value)?,
-            )?;
-            insert_tags(members, alloc, tags, values)
-        }
-        _ => Ok(()),
+    for tag in tags {
+        let Some(value) = values.next() else {
+            return Ok(());
+        };
+        put(
+            members,
+            alloc,
+            tag.as_str(),
+            Value::try_from_str(alloc, value)?,
+        )?;
     }
+    Ok(())
 }
 
 /// Appends tags with their values as a JSON object.
@@ -75,12 +74,12 @@ fn push_tag_map<A: Allocator>(
     alloc: Global,
     text: &mut String,
     tags: &[String<A>],
-    values: &[&str],
+    values: &GroupValues<'_, '_>,
 ) -> Result<(), AllocError>
-    ensures { OnOk result (string_bytes text.new ≡ string_bytes text.old ++ compact_text (object (tags_among no_members (texts tags.now) (borrowed values.now)))) }
+    ensures { OnOk result (string_bytes text.new ≡ string_bytes text.old ++ compact_text (object (tags_among no_members (texts tags.now) values.now))) }
 {
     let mut members = Map::new(alloc);
-    insert_tags(&mut members, alloc, tags, values)?;
+    insert_tags(&mut members, alloc, tags, values.iter())?;
     push_value(alloc, text, &Value::from(members))
 }
 
@@ -100,18 +99,17 @@ fn push_tags<A: Allocator>(
     alloc: Global,
     text: &mut String,
     tags: &[String<A>],
-    values: &[&str],
+    values: &GroupValues<'_, '_>,
 ) -> Result<(), AllocError>
-    ensures { OnOk result (string_bytes text.new ≡ string_bytes text.old ++ grouped_tags_text (texts tags.now) (borrowed values.now)) }
+    ensures { OnOk result (string_bytes text.new ≡ string_bytes text.old ++ grouped_tags_text (texts tags.now) values.now) }
 {
     if tags.is_empty() {
         return Ok(());
     }
     text.push_str(",\"tags\":")?;
-    if tags.len() == 1 && values.len() == 1 {
-        push_tag(alloc, text, tags[0].as_str(), values[0])
-    } else {
-        push_tag_map(alloc, text, tags, values)
+    match values.iter().next() {
+        Some(value) if tags.len() == 1 => push_tag(alloc, text, tags[0].as_str(), value),
+        _ => push_tag_map(alloc, text, tags, values),
     }
 }
 
@@ -129,7 +127,7 @@ pub(crate) fn push_group<A: Allocator>(
     ensures same { times.new ≡ times.old }
 {
     text.push_str(head)?;
-    push_tags(alloc, text, query.group_tags(), group.values)?;
+    push_tags(alloc, text, query.group_tags(), &group.values)?;
     text.push_str(",\"values\":")?;
     push_group_rows(alloc, text, times, group.rows)?;
     text.push_str("}")
