@@ -1,5 +1,5 @@
 -- Values without the empty ones, as the code finds and compares them.
-use Rattle.std.proofs.Common.{◌≡◌, ℕ, zero, suc, ◌+◌, ◌-◌, ◌<◌, ◌==◌, if◌then◌else◌, true, false, arith, None, drop, ap₂, List, [], ◌∷◌, ◌++◌, cond, map, length, Option, Some, refl, sym, ◌∙◌, ap, subst, String, string_bytes, Bor, Ordering, add-one}
+use Rattle.std.proofs.Common.{◌≡◌, ℕ, zero, suc, ◌+◌, ◌-◌, ◌<◌, ◌==◌, if◌then◌else◌, true, false, arith, None, drop, ap₂, List, [], ◌∷◌, ◌++◌, cond, map, length, Option, Some, refl, sym, ◌∙◌, ap, subst, String, string_bytes, Bor, add-one}
 use Rattle.std.specs.declared.cmp.Reverse.{Reverse}
 use Rattle.std.specs.Ordering.{ordering_then, nat_cmp}
 use Rattle.std.specs.Cmp.Lexicographic.{slice_cmp}

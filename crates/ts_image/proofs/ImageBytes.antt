@@ -1,13 +1,13 @@
 -- The bytes of images, each below 256.
-use Rattle.std.proofs.Common.{◌≡◌, ℕ, zero, suc, ◌+◌, ◌<◌, ℤ, ◌≤◌, ◌%◌, ◌/◌, Bool, true, false, cond, ltb, List, [], ◌∷◌, ◌++◌, length, replicate, ap, sym, subst, arith, refl, ⊎_elim}
+use Rattle.std.proofs.Common.{◌≡◌, ℕ, zero, suc, ◌+◌, ◌<◌, ℤ, ◌≤◌, ◌%◌, ◌/◌, Bool, true, false, cond, ltb, List, [], ◌∷◌, ◌++◌, length, replicate, sym, subst, arith, refl, ⊎_elim}
 use Rattle.std.specs.Int.{Width, byte_len, w8, w32, w64, w128, byte_at, bytes_high_first, to_be_bytes, cast_unsigned}
 use Rattle.std.specs.Str.{IsUtf8}
 use Rattle.std.proofs.Math.Nat.{mod-lt}
-use Rattle.std.proofs.lemmas.Bool.{and_parts, cases_lt, ltb-true, ltb-false, le-ltb}
+use Rattle.std.proofs.lemmas.Bool.{and_parts, ltb-true}
 use lib.Utf8.{scalar, scalars, scalar_cases, next, encode, encodes}
 use Rattle.ts_core.specs.facts.Facts.{Text}
 use Rattle.ts_core.specs.store.Marks.{Marks}
-use Rattle.ts_image.specs.Formats.{concat, Format, number, signed_number, text, nothing, and, also, iso, FitAlong, fields_along, along, times, list_of}
+use Rattle.ts_image.specs.Formats.{concat, Format, number, signed_number, text, and, also, fields_along, along, times, list_of}
 use Rattle.ts_image.specs.FormatLaws.{AreBytes}
 use Rattle.ts_image.specs.declared.version.Version.{Version}
 use Rattle.ts_image.specs.declared.version.Version.TheVariants.{V1, V2}

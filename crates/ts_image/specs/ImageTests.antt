@@ -1,8 +1,7 @@
 -- Tests of an image of the form for contradictions. They don't find every contradiction.
 -- (Own rules. InfluxData 1.8, line protocol: the parts of a point.)
-use Rattle.std.specs.Prelude.{◌≡◌, ◌≢◌, ◌⊎◌, ℕ, ℤ, pos, ◌+◌, ◌+ℤ◌, ◌≤◌, ◌^◌, ◌≤ℤ◌, ◌<ℤ◌, true, List, [], ◌∷◌, length, map, filter, None, unsigned_abs}
-use Rattle.std.specs.Ordering.{int_cmp, is_lt}
-use Rattle.std.specs.declared.cmp.Ordering.{Ordering}
+use Rattle.std.specs.Prelude.{◌≡◌, ◌≢◌, ◌⊎◌, ℕ, ℤ, pos, ◌+◌, ◌+ℤ◌, ◌≤◌, ◌^◌, ◌≤ℤ◌, ◌<ℤ◌, List, [], ◌∷◌, length, map, filter, None, unsigned_abs}
+use Rattle.std.specs.Ordering.{int_cmp}
 use Rattle.std.specs.List.{AllByRecursion, sum_by}
 use Rattle.ts_core.specs.facts.Facts.{Text, Series, same_text, text_cmp, series_cmp}
 use Rattle.ts_core.specs.facts.Times.{IsTime, least_time}

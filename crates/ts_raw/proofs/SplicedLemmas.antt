@@ -1,5 +1,5 @@
 -- Blocks that are copied with one point more, or in parts.
-use Rattle.std.proofs.Common.{◌≡◌, ℕ, zero, suc, ◌+◌, ◌<◌, ◌≤◌, ℤ, ◌<ℤ◌, ◌≤ℤ◌, List, [], ◌∷◌, ◌++◌, length, take, drop, length-append, refl, sym, ◌∙◌, ap, subst, arith}
+use Rattle.std.proofs.Common.{◌≡◌, ℕ, zero, suc, ◌+◌, ◌<◌, ◌≤◌, ℤ, ◌<ℤ◌, ◌≤ℤ◌, List, [], ◌∷◌, ◌++◌, length, take, drop, length-append, sym, ◌∙◌, ap, subst, arith}
 use Rattle.ts_core.specs.aggregates.Aggregates.{Aggregate, aggregate_of_one, merged, aggregate_of_points}
 use Rattle.ts_core.specs.aggregates.MergeLaws.{aggregate_laws}
 use Rattle.ts_core.proofs.aggregates.Folds.{fold-middle}

@@ -1,7 +1,7 @@
 -- A store that is loaded from the image of another: it represents the same history, and the machine's state is the
 -- reloaded one.
 use Rattle.std.proofs.Common.{◌≡◌, List, [], ◌∷◌, ℕ, map, filter, Option, Some, IfSome, refl, sym, ◌∙◌, ap, subst}
-use Rattle.ts_core.specs.facts.Facts.{Text, Series, Column}
+use Rattle.ts_core.specs.facts.Facts.{Series, Column}
 use Rattle.ts_core.specs.settings.Settings.{Settings}
 use Rattle.ts_core.specs.store.Marks.{Marks}
 use Rattle.ts_core.specs.store.History.{History}
@@ -15,7 +15,7 @@ use Rattle.ts_store.specs.store.SizedStores.{IsSized}
 use Rattle.ts_store.specs.store.Inventories.{Inventory, inventory_of}
 use Rattle.ts_store.specs.image.SavedContent.{SavedSeries, saved_key}
 use Rattle.ts_image.specs.declared.version.Version.TheVariants.{V2}
-use Rattle.ts_image.specs.Images.{ImageData, image, image_text}
+use Rattle.ts_image.specs.Images.{ImageData, image}
 use Rattle.ts_image.specs.Saving.{store_image, image_series_of}
 use Rattle.ts_image.specs.StoresMade.{key_in, IsStoreOf}
 use Rattle.ts_image.specs.FormatLaws.{AreBytes}

@@ -1,5 +1,5 @@
 -- Commands that add and drop rules, in every state of the machine.
-use Rattle.std.proofs.Common.{◌≡◌, ◌⊎◌, ◌↔◌, ℤ, Bool, true, false, true≢false, refl, sym, ◌∙◌, subst, Result, Ok, Err, IsErr, is_err, inl, inr}
+use Rattle.std.proofs.Common.{◌≡◌, ◌⊎◌, ◌↔◌, Bool, true, false, true≢false, refl, sym, ◌∙◌, subst, Result, Ok, Err, IsErr, is_err, inl, inr}
 use Rattle.ts_core.specs.facts.Facts.{Text}
 use Rattle.ts_core.specs.text.FaultTexts.{memory_text}
 use Rattle.ts_core.specs.settings.Settings.{Settings}

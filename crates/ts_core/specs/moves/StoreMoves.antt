@@ -8,7 +8,7 @@ use Rattle.ts_core.specs.store.History.{kept_since}
 use Rattle.ts_core.specs.store.Marks.{index_of}
 use Rattle.ts_core.specs.facts.Facts.{Series, Column, Fact, same_text, id_of, same_id}
 use Rattle.ts_core.specs.settings.Settings.{Rule}
-use Rattle.ts_core.specs.aggregates.Aggregates.{Aggregate, aggregate_of_one, merged_within}
+use Rattle.ts_core.specs.aggregates.Aggregates.{aggregate_of_one, merged_within}
 use Rattle.ts_core.specs.store.Cells.{Cell, cell_of, is_rolled, total_of}
 use Rattle.ts_core.specs.store.StoreStates.{ColumnPoints, CellParts, column_of, fact_at, facts_of}
 use Rattle.ts_core.specs.store.RawFacts.{same_column}

@@ -1,4 +1,4 @@
-use Rattle.std.proofs.Common.{rules, ◌≡◌, true, false, Bool, ◌&&◌, ◌∷◌, ◌∙◌, get_or, refl, sym, subst, ap, List, SFits, w64, to_z-of_z}
+use Rattle.std.proofs.Common.{rules, ◌≡◌, true, Bool, ◌&&◌, ◌∷◌, ◌∙◌, get_or, refl, sym, subst, ap, List, SFits, w64, to_z-of_z}
 use Rattle.std.specs.List.{list_all, AllByRecursion}
 use Rattle.ts_core.specs.facts.Facts.{is_within}
 use Rattle.ts_core.specs.store.Marks.{index_of}

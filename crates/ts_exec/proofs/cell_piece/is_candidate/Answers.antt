@@ -1,4 +1,4 @@
-use Rattle.std.proofs.Common.{rules, ◌≡◌, ◌==◌, Bool, true, false, ◌&&◌, ◌∙◌, ap}
+use Rattle.std.proofs.Common.{rules, ◌≡◌, ◌==◌, true, false, ◌&&◌, ◌∙◌, ap}
 use Rattle.std.specs.List.{list_all}
 use Rattle.ts_core.specs.facts.Facts.{is_of, is_within}
 use Rattle.ts_core.specs.queries.Queries.{Query, meets}

@@ -1,7 +1,7 @@
-use Rattle.std.proofs.Common.{rules, ◌≡◌, ◌∙◌, ap, subst}
+use Rattle.std.proofs.Common.{rules, ◌≡◌, ◌∙◌, subst}
 use Rattle.std.specs.List.{list_all}
 use Rattle.std.proofs.lemmas.Fn.{filter_same}
-use Rattle.ts_core.specs.facts.Facts.{Series, is_of}
+use Rattle.ts_core.specs.facts.Facts.{is_of}
 use Rattle.ts_core.specs.text.Texts.{IsTagSet}
 use Rattle.ts_core.specs.queries.Queries.{Query, meets}
 use Rattle.ts_store.specs.read.ViewResults.{ColumnRef, column_refs_where}

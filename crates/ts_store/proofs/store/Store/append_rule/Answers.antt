@@ -1,6 +1,6 @@
 use Rattle.std.proofs.Common.{rules, ◌≡◌, ◌∙◌, ℤ, None, [], ◌∷◌, ◌++◌, to_z, of_z, ap, sym, subst}
 use Rattle.std.specs.Int.{w128}
-use Rattle.ts_core.specs.store.Marks.{Marks, first_from}
+use Rattle.ts_core.specs.store.Marks.{first_from}
 use Rattle.ts_core.specs.settings.Settings.{Rule, with_rule}
 use Rattle.ts_core.specs.settings.SettingsFaults.{added_fault}
 use Rattle.ts_core.specs.store.StoreData.{StoreData}

@@ -7,7 +7,7 @@ use Rattle.ts_core.specs.store.StoreStates.{ColumnPoints}
 use Rattle.ts_raw.specs.Columns.{ColumnState}
 use Rattle.ts_raw.specs.BlockColumns.{AreHeld, points_in_texts}
 use Rattle.ts_store.specs.store.ColumnStates.{StoreContent}
-use Rattle.ts_store.specs.store.BlocksHeld.{HoldColumns, points_in_columns}
+use Rattle.ts_store.specs.store.BlocksHeld.{HoldColumns}
 use Rattle.ts_store.specs.read.PointsRead.{number_of_points}
 use Rattle.ts_store.proofs.store.BlocksLemmas.{HoldStates, next_held, columns_held}
 use Rattle.ts_store.proofs.read.ColumnRefLemmas.{shown-length}
