@@ -1,4 +1,4 @@
-"""Starts nginx with a configuration of examples/, in a folder of its own. tests/dashboard and tests/front use it."""
+"""Starts nginx with a configuration of examples/ and asks it by http.client. tests/dashboard and tests/front use it."""
 import http.client
 import os
 import shutil

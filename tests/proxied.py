@@ -1,4 +1,4 @@
-"""Starts nginx with a configuration of examples/, in a folder of its own. The scripts of tests/ use it."""
+"""Starts nginx with a configuration of examples/ and asks it by curl. tests/many_stores and tests/stops use it."""
 import json
 import os
 import re
