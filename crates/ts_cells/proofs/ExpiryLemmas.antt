@@ -4,16 +4,18 @@ use Rattle.std.proofs.lemmas.Int.{ints}
 use Rattle.std.specs.Ordering.{int_cmp, eq_by_cmp}
 use Rattle.std.specs.List.{AllByRecursion}
 use Rattle.std.specs.FinMap as finmap
-use Rattle.std.specs.FinMap.{find, from_entries, get-remove}
+use Rattle.std.specs.FinMap.{FinMap, find, from_entries, get-remove}
 use Rattle.std.specs.FinMap.Entries.{below_all}
 use Rattle.std.proofs.lemmas.Map.Lookups.{exact_signed}
 use Rattle.std.proofs.lemmas.List.{get_or-set_other, set-get_or}
 use Rattle.std.proofs.lemmas.Cmp.{tied_itself}
+use Rattle.std.proofs.lemmas.Option.{none-some}
 use Rattle.std.specs.Cmp.{int_cmp_total}
 use Rattle.std.proofs.lemmas.Grind.{get_or-set_at}
 use Rattle.std.proofs.Math.Nat.{eq-or-lt_of_le}
 use Rattle.ts_core.specs.lists.Members.{AllDistinct}
 use Rattle.ts_core.specs.store.Cells.{Cell, cell_cmp}
+use Rattle.ts_core.specs.store.TwoParts.{PartsOf}
 use Rattle.ts_core.proofs.facts.Ids.{equal_of}
 use Rattle.ts_core.proofs.plans.PieceCells.{cells_total}
 use Rattle.ts_core.proofs.lists.Comparisons.{lt_not}
@@ -22,8 +24,10 @@ use Rattle.ts_core.specs.lists.Changes.{or_else}
 use Rattle.std.specs.Bool.{OnTrue, OnFalse}
 use Rattle.ts_cells.specs.Grids.{RollupSeries, rollup_series_of, cell_at, RowOf, held, cell_in, entries_of, RowsRise, cells_of_bucket, HasLost}
 use Rattle.ts_cells.specs.Expiry.{HasEmptyFront, LosesOne, RemovesOne, IsAbove}
+use Rattle.ts_cells.specs.FrozenCounts.{frozen_in, frozen_count}
 use Rattle.ts_cells.specs.RowChanges.{NoWider}
 use Rattle.ts_cells.proofs.Searches.{find_below}
+use Rattle.ts_cells.proofs.FrozenLemmas.{frozen_removed}
 use Rattle.ts_cells.proofs.GridLemmas.{get_at, get_none, same_grid, has_rollup_series}
 use Rattle.ts_cells.proofs.GridMoves.{RowPut, same_in, false_none, row_set, cells_here, all_at, all_set}
 
@@ -145,12 +149,12 @@ module _ {P : Type 0} (rows : List (RowOf P)) (n : ℕ) (d r : RowOf P) (s : Row
       all_set Narrow rows n r a (omega (arith, l, before))
 
 -- a row that lost a cell
-pub loses : {P : Type 0} (low : ℤ) (rows before after : List (RowOf P)) (i : ℤ) (cs : List (Option P)) → ((p : ℤ) (q : ℕ) → held (cells_of_bucket before p) q ≡ held (cells_of_bucket rows p) q) → i <ℤ low → RowPut before after i cs → HasLost (cells_of_bucket before i) cs → LosesOne low rows after
-loses low rows before after i cs same b moved l = record {
+pub loses : {P : Type 0} (low : ℤ) (part : P) (rows before after : List (RowOf P)) (i : ℤ) (cs : List (Option P)) → ((p : ℤ) (q : ℕ) → held (cells_of_bucket before p) q ≡ held (cells_of_bucket rows p) q) → i <ℤ low → RowPut before after i cs → HasLost part (cells_of_bucket before i) cs → LosesOne low part rows after
+loses low part rows before after i cs same b moved l = record {
   index = i;
   series = l.series;
   below = b;
-  was = λ e. l.was (same i l.series ∙ e);
+  was = sym (same i l.series) ∙ l.was;
   cells = λ p q.
       ap (λ xs. held xs q) (moved.cells p)
       ∙ elim (eq_by_cmp int_cmp p i) as (λ x. eq_by_cmp int_cmp p i ≡ x → held (cond x cs (cells_of_bucket before p)) q ≡ cond (x && (q == l.series)) None (held (cells_of_bucket rows p) q)) [
@@ -159,19 +163,32 @@ loses low rows before after i cs same b moved l = record {
       ] refl;
 }
 
+is_held : {P : Type 0} {o : Option P} (part : P) → o ≡ Some part → o ≢ None
+is_held part e none = none-some part (sym none ∙ e)
+
 -- so the map lost that cell
-pub removes : {P : Type 0} (low : ℤ) (ls : List RollupSeries) (rows after : List (RowOf P)) → AllDistinct ls → RowsRise rows → RowsRise after → ((i : ℤ) (j : ℕ) → held (cells_of_bucket rows i) j ≢ None → j < length ls) → LosesOne low rows after
+pub removes : {P : Type 0} (low : ℤ) (ls : List RollupSeries) (rows after : List (RowOf P)) (part : P) → AllDistinct ls → RowsRise rows → RowsRise after → ((i : ℤ) (j : ℕ) → held (cells_of_bucket rows i) j ≢ None → j < length ls) → LosesOne low part rows after
     → RemovesOne low (from_entries {R = cell_cmp} (entries_of ls rows)) (from_entries {R = cell_cmp} (entries_of ls after))
-removes low ls rows after d s t inside l =
+removes low ls rows after part d s t inside l =
     let k : Cell = cell_in ls l.index l.series in
-    let within : l.series < length ls = inside l.index l.series l.was in (
+    let within : l.series < length ls = inside l.index l.series (is_held part l.was) in (
       k,
       l.below,
-      λ e. l.was (sym (get_at ls rows l.index l.series d s within) ∙ e),
+      is_held part (get_at ls rows l.index l.series d s within ∙ l.was),
       same_grid ls after (finmap.remove (from_entries {R = cell_cmp} (entries_of ls rows)) k) d t
           (λ i j h. get-remove cells_total (from_entries (entries_of ls rows)) k (cell_in ls i j) ∙ ap₂ (λ b o. cond b None o) (same_in ls i l.index j l.series d h within) (get_at ls rows i j d s h) ∙ sym (l.cells i j))
           (λ q n. get-remove cells_total (from_entries (entries_of ls rows)) k q ∙ ap₂ (λ b o. cond b None o) (false_none ls l.index l.series q within n) (get_none q ls rows n)),
     )
+
+-- and counts it no longer
+pub removes_frozen : {P : Type 0} (size : P → ℕ) (low : ℤ) (ls : List RollupSeries) (rows after : List (RowOf (PartsOf P))) (part : PartsOf P) → AllDistinct ls → RowsRise rows → RowsRise after → ((i : ℤ) (j : ℕ) → held (cells_of_bucket rows i) j ≢ None → j < length ls) → LosesOne low part rows after
+    → frozen_count size (from_entries {R = cell_cmp} (entries_of ls after)) + frozen_in size part ≡ frozen_count size (from_entries {R = cell_cmp} (entries_of ls rows))
+unfolding removes
+removes_frozen size low ls rows after part d s t inside l =
+    let m : FinMap cell_cmp (PartsOf _) = from_entries {R = cell_cmp} (entries_of ls rows) in
+    let is = removes low ls rows after part d s t inside l in
+    ap (λ (n : FinMap cell_cmp (PartsOf _)). frozen_count size n + frozen_in size part) is.3
+    ∙ frozen_removed size m is.0 part (get_at ls rows l.index l.series d s (inside l.index l.series (is_held part l.was)) ∙ l.was)
 
 held_within : {P : Type 0} (cs : List (Option P)) (j : ℕ) → held cs j ≢ None → j < length cs
 held_within [] j h = absurd (h refl)

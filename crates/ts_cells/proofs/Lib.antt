@@ -1,5 +1,6 @@
 -- Grids, CellChanges: the finite map of cells
 pub mod GridMoves
+pub mod FrozenLemmas
 pub mod GridLemmas
 pub mod Searches
 -- Rollup series: their indices in order

@@ -39,7 +39,7 @@ module _ {P : Type 0} where
   part_before (x ∷ xs) ys zero h = refl
   part_before (x ∷ xs) ys (suc q) h = part_before xs ys q (omega arith)
 
-  last_part : (xs : List P) (x : P) → slice_get (xs ++ x ∷ []) (length xs) ≡ Some x
+  pub last_part : (xs : List P) (x : P) → slice_get (xs ++ x ∷ []) (length xs) ≡ Some x
   last_part [] x = refl
   last_part (y ∷ xs) x = last_part xs x
 
@@ -48,11 +48,6 @@ module _ {P : Type 0} where
   part_kept [] (suc n) q h = refl
   part_kept (x ∷ xs) (suc n) zero h = refl
   part_kept (x ∷ xs) (suc n) (suc q) h = part_kept xs n q (omega arith)
-
-  no_part : (xs : List P) (q : ℕ) → q < length xs → slice_get xs q ≡ None → ⊥
-  no_part [] q h e = omega arith
-  no_part (x ∷ xs) zero h e = let f : Some x ≡ None = e in cc
-  no_part (x ∷ xs) (suc q) h e = no_part xs q (omega arith) e
 
   -- the part of a rollup series is at its slot
   pub held_at : (parts : List P) (slots : List (ℕ × ℕ)) (j : ℕ) → length parts ≤ no_slot → held (by_series parts slots) j ≡ slice_get parts (slot_of slots j)
@@ -236,17 +231,16 @@ module _ {P : Type 0} where
       ]
 
   -- the last cell is removed
-  pub part_lost : (parts : List P) (slots : List (ℕ × ℕ)) (series_of_slot front : List ℕ) (after : List (ℕ × ℕ)) (series n : ℕ) → IsSlotMap slots series_of_slot (length parts) → series_of_slot ≡ front ++ series ∷ [] → n + 1 ≡ length parts
-      → ((j : ℕ) → slot_of after j ≡ cond (j == series) no_slot (slot_of slots j)) → HasLost (by_series parts slots) (by_series (take n parts) after)
-  part_lost parts slots series_of_slot front after series n is last e gone =
+  pub part_lost : (parts : List P) (slots : List (ℕ × ℕ)) (series_of_slot front : List ℕ) (after : List (ℕ × ℕ)) (series n : ℕ) (x : P) → IsSlotMap slots series_of_slot (length parts) → series_of_slot ≡ front ++ series ∷ [] → n + 1 ≡ length parts → slice_get parts n ≡ Some x
+      → ((j : ℕ) → slot_of after j ≡ cond (j == series) no_slot (slot_of slots j)) → HasLost x (by_series parts slots) (by_series (take n parts) after)
+  part_lost parts slots series_of_slot front after series n x is last e last_is gone =
       let many : length parts ≡ length front + 1 = one_more slots series_of_slot front series (length parts) is last in
       let short : length (take n parts) ≡ n = length-take-le n parts (omega arith) in
       record {
         series = series;
-        was = λ none.
+        was =
             let here : slot_of slots series ≡ length front = last_slot slots series_of_slot front series (length parts) is last in
-            let some : slice_get parts (slot_of slots series) ≡ None = sym (held_at parts slots series is.few) ∙ none in
-            no_part parts (slot_of slots series) (omega arith) some;
+            held_at parts slots series is.few ∙ ap (slice_get parts) (let at : slot_of slots series ≡ n = omega arith in at) ∙ last_is;
         cells = λ j.
             held_at (take n parts) after j (let f = is.few in omega arith)
             ∙ ap (slice_get (take n parts)) (gone j)

@@ -1,5 +1,5 @@
 -- Removal of cells below an index. (Own rules.)
-use Rattle.std.specs.Prelude.{◌≡◌, ◌≢◌, ℕ, zero, suc, ℤ, ◌<◌, ◌≤◌, ◌<ℤ◌, ◌≤ℤ◌, ◌==◌, ◌&&◌, List, length, None, if◌then◌else◌}
+use Rattle.std.specs.Prelude.{◌≡◌, ◌≢◌, ℕ, zero, suc, ℤ, ◌<◌, ◌≤◌, ◌<ℤ◌, ◌≤ℤ◌, ◌==◌, ◌&&◌, List, length, Some, None, if◌then◌else◌}
 use Rattle.std.specs.Ordering.{int_cmp, eq_by_cmp}
 use Rattle.std.specs.List.{AllWithin}
 use Rattle.std.specs.FinMap as finmap
@@ -12,12 +12,12 @@ pub record HasEmptyFront {P : Type 0} (count : ℕ) (rows : List (RowOf P)) : Ty
   pub bound : count ≤ length rows
   pub empty : AllWithin (λ (r : RowOf P). (j : ℕ) → held r.1 j ≡ None) rows 0 count
 
--- the rows lost the cell of one rollup series in one bucket below an index, and no other
-pub record LosesOne {P : Type 0} (low : ℤ) (before after : List (RowOf P)) : Type 0 where
+-- the rows lost the cell of one rollup series in one bucket below an index, which had this value, and no other
+pub record LosesOne {P : Type 0} (low : ℤ) (part : P) (before after : List (RowOf P)) : Type 0 where
   pub index : ℤ
   pub series : ℕ
   pub below : index <ℤ low
-  pub was : held (cells_of_bucket before index) series ≢ None
+  pub was : held (cells_of_bucket before index) series ≡ Some part
   pub cells : (i : ℤ) (j : ℕ) → held (cells_of_bucket after i) j ≡ (if eq_by_cmp int_cmp i index && (j == series) then None else held (cells_of_bucket before i) j)
 
 -- no cell is below the index, and none was removed

@@ -1,5 +1,5 @@
 -- Cells by buckets and rollup series. A rollup series is a field with a group, referred to by its index. (Own rules.)
-use Rattle.std.specs.Prelude.{◌≡◌, ℕ, ℤ, ◌≤◌, T, List, [], ◌∷◌, ◌++◌, length, get_or, Option, Some, None, refl, ◌≢◌, ◌==◌, if◌then◌else◌, map}
+use Rattle.std.specs.Prelude.{◌≡◌, ℕ, ℤ, ◌≤◌, T, List, [], ◌∷◌, ◌++◌, length, get_or, Option, Some, None, refl, ◌==◌, if◌then◌else◌, map}
 use Rattle.std.specs.Ordering.{int_cmp}
 use Rattle.std.specs.List.{AllByRecursion}
 use Rattle.std.specs.FinMap as finmap
@@ -76,10 +76,10 @@ pub record IsGrid {P : Type 0} (ls : List RollupSeries) (rows : List (RowOf P)) 
 abbrev pub cells_of_bucket : {P : Type 0} → List (RowOf P) → ℤ → List (Option P)
 cells_of_bucket rows index = or_else [] (find int_cmp index rows)
 
--- the row lost the cell of one rollup series, and no other
-pub record HasLost {P : Type 0} (before after : List (Option P)) : Type 0 where
+-- the row lost the cell of one rollup series, which had this value, and no other
+pub record HasLost {P : Type 0} (part : P) (before after : List (Option P)) : Type 0 where
   pub series : ℕ
-  pub was : held before series ≢ None
+  pub was : held before series ≡ Some part
   pub cells : (j : ℕ) → held after j ≡ (if j == series then None else held before j)
 
 -- ---- codes

@@ -25,8 +25,8 @@ returns-then-not-is_below-clause-none g c =
       cells = c.loop-emptied.invariant.cells;
     })
 
-pub returns-then-remove_last-clause-rows : goal.returns-then-remove_last-clause-rows
-returns-then-remove_last-clause-rows g c =
+pub returns-in-Some-clause-rows : goal.returns-in-Some-clause-rows
+returns-in-Some-clause-rows g c =
     let i = c.loop-emptied.invariant in
     let rows : List (RowOf g.row.P.Denot) = c.loop-emptied.rows.items in
     let n : ℕ = c.loop-emptied.emptied in
@@ -39,8 +39,8 @@ returns-then-remove_last-clause-rows g c =
       narrow = λ m a. no_wider rows n d r i.rising some c.index_mut-row.ensures.value c.remove_last.ensures.len m (i.narrow m a);
     }
 
-pub returns-then-remove_last-clause-removed : goal.returns-then-remove_last-clause-removed
-returns-then-remove_last-clause-removed g c =
+pub returns-in-Some-clause-removed : goal.returns-in-Some-clause-removed
+returns-in-Some-clause-removed g c =
     let rows : List (RowOf g.row.P.Denot) = c.loop-emptied.rows.items in
     let n : ℕ = c.loop-emptied.emptied in
     let d : RowOf g.row.P.Denot = c.index_mut-row.result.now in
@@ -49,7 +49,7 @@ returns-then-remove_last-clause-removed g c =
     let below : int_lt d.0 c.args.low.now ≡ true = search rules in
     let put : RowPut rows (set rows n r) d.0 r.1 = put_here rows n d r c.loop-emptied.invariant.rising some c.index_mut-row.ensures.value c.remove_last.ensures.index in
     let was : d.1 ≡ cells_of_bucket rows d.0 = was_here rows n d r c.loop-emptied.invariant.rising some c.index_mut-row.ensures.value in
-    loses c.args.low.now c.args.rows.now.items rows (set rows n r) d.0 r.1 c.loop-emptied.invariant.cells (lt_from d.0 c.args.low.now below) put (subst (λ cs. HasLost cs r.1) was c.if-remove_last.ensures.removed)
+    loses c.args.low.now c.in-Some.part c.args.rows.now.items rows (set rows n r) d.0 r.1 c.loop-emptied.invariant.cells (lt_from d.0 c.args.low.now below) put (subst (λ cs. HasLost c.in-Some.part cs r.1) was c.in-Some.ensures.removed)
 
 pub loop-emptied-preserved : goal.loop-emptied-preserved
 loop-emptied-preserved g c =
@@ -60,7 +60,7 @@ loop-emptied-preserved g c =
     let some : n < length rows = search rules in
     let put : RowPut rows (set rows n r) d.0 r.1 = put_here rows n d r c.loop-emptied.invariant.rising some c.index_mut-row.ensures.value c.remove_last.ensures.index in
     let was : d.1 ≡ cells_of_bucket rows d.0 = was_here rows n d r c.loop-emptied.invariant.rising some c.index_mut-row.ensures.value in
-    let none = c.if-remove_last.ensures.none in
+    let none = c.in_default.ensures.none in
     record {
       rising = put.rising;
       front = front_grows n rows r c.loop-emptied.invariant.front some (λ j. ap (λ cs. held cs j) none.1 ∙ none.0 j);

@@ -1,7 +1,8 @@
-use Rattle.std.proofs.Common.{rules, arith, ◌≡◌, ◌≤◌, ◌+◌, ℕ, List, None, length, take, sym, ◌∙◌, ap, subst}
+use Rattle.std.proofs.Common.{rules, arith, ◌≡◌, ◌≤◌, ◌+◌, ℕ, List, [], ◌∷◌, ◌++◌, None, length, take, sym, ◌∙◌, ap, subst}
+use Rattle.std.specs.List.{slice_get}
 use Rattle.ts_cells.specs.Grids.{RowOf, held, HasLost}
 use Rattle.ts_cells.specs.Rows.{by_series}
-use Rattle.ts_cells.proofs.RowLemmas.{length-by_series, none_held, gone_mapped, part_lost}
+use Rattle.ts_cells.proofs.RowLemmas.{length-by_series, last_part, none_held, gone_mapped, part_lost}
 use Rattle.ts_cells.proofs.row.Row.remove_last.Goals as goal
 
 pub returns-in_default-clause-none : goal.returns-in_default-clause-none
@@ -23,11 +24,15 @@ pub returns-clause-removed : goal.returns-clause-removed
 returns-clause-removed g c =
     let parts : List g.row.P.Denot = c.self.inside.parts.items in
     let slots : List (ℕ × ℕ) = c.self.inside.slots in
-    let many : length c.pop-2.new.self.items + 1 ≡ length parts = search rules in
-    let front : c.pop-2.new.self.items ≡ take (length c.pop-2.new.self.items) parts = search rules in
-    subst (λ (s : RowOf g.row.P.Denot). HasLost s.1 (by_series c.pop-2.new.self.items c.remove.new.self)) c.self.view_is
-    (subst (λ ps. HasLost (by_series parts slots) (by_series ps c.remove.new.self)) (sym front)
-    (part_lost parts slots c.self.inside.series_of_slot.items c.pop.new.self.items c.remove.new.self c.in-Some.series (length c.pop-2.new.self.items) c.self.invariant c.in-Some.ensures.items many c.remove.ensures.slots))
+    let left : List g.row.P.Denot = c.pop-2.new.self.items in
+    let part : g.row.P.Denot = c.unwrap-part.result in
+    let many : length left + 1 ≡ length parts = search rules in
+    let front : left ≡ take (length left) parts = search rules in
+    let all : parts ≡ left ++ part ∷ [] = search rules in
+    subst (λ (s : RowOf g.row.P.Denot). HasLost part s.1 (by_series left c.remove.new.self)) c.self.view_is
+    (subst (λ ps. HasLost part (by_series parts slots) (by_series ps c.remove.new.self)) (sym front)
+    (part_lost parts slots c.self.inside.series_of_slot.items c.pop.new.self.items c.remove.new.self c.in-Some.series (length left) part c.self.invariant c.in-Some.ensures.items many
+    (ap (λ ps. slice_get ps (length left)) all ∙ last_part left part) c.remove.ensures.slots))
 
 pub returns-clause-len : goal.returns-clause-len
 returns-clause-len g c =
