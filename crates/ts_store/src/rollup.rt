@@ -3,10 +3,11 @@
 ghost use Rattle.std.specs.Prelude.{◌≡◌, ◌<◌, length, replicate, map, IsSome, is_some, IfSome, option_map, IfOk, OnOk, OnErr, None, Some};
 ghost use Rattle.std.specs.FinMap as finmap;
 ghost use Rattle.std.specs.List.{AllByRecursion};
-ghost use Rattle.ts_core.specs.aggregates.Aggregates.{empty_aggregate};
+ghost use Rattle.ts_core.specs.aggregates.Aggregates.{Aggregate, empty_aggregate};
 ghost use Rattle.ts_core.specs.lists.Members.{AllDistinct};
 ghost use Rattle.ts_core.specs.facts.Tags.{tag_values};
 ghost use Rattle.ts_cells.specs.Expiry.{LosesBelow};
+ghost use Rattle.ts_cells.specs.FrozenCounts.{frozen_count};
 ghost use Rattle.ts_core.specs.lists.Numbered.{IsAt};
 ghost use Rattle.ts_cells.specs.Grids.{rollup_series_of, rollup_series_named, borrowed_texts, cell_at, cell_in};
 ghost use Rattle.ts_cells.specs.Walks.{entry_of, entries_within};
@@ -276,6 +277,13 @@ impl<A: Allocator + Copy> Rollup<A> {
         ensures below { LosesBelow low.now result self.old.grid.cells self.new.grid.cells }
     {
         self.cells.expire(low)
+    }
+
+    /// Returns the number of cells that have frozen facts.
+    pub(crate) fn frozen_count(&self) -> u128
+        ensures { result ≡ frozen_count (λ (a : Aggregate). a.count) self.now.grid.cells }
+    {
+        self.cells.frozen_count()
     }
 
     /// Returns the columns of a rollup series, in creation order.

@@ -1,14 +1,15 @@
 -- Cells of a walk with frozen facts: exactly those of the map, from the low index on.
-use Rattle.std.proofs.Common.{◌≡◌, ℕ, zero, suc, length, get_or, Some, ◌&&◌, ◌<◌, ◌≤◌, ◌^◌, ℤ, pos, negsuc, ◌≤ℤ◌, ◌<ℤ◌, int_le, nat_lt, Bool, true, false, cond, List, [], ◌∷◌, map, filter, unsigned_abs, FitsSigned, w64, refl, sym, ◌∙◌, ap, subst, inl, inr, arith}
+use Rattle.std.proofs.Common.{◌≡◌, ℕ, zero, suc, length, get_or, Some, ◌&&◌, ◌<◌, ◌≤◌, ◌^◌, ℤ, pos, negsuc, ◌≤ℤ◌, ◌<ℤ◌, int_le, nat_lt, Bool, true, false, cond, List, [], ◌∷◌, map, filter, unsigned_abs, FitsSigned, w64, refl, sym, ◌∙◌, ap, ap₂, subst, inl, inr, ◌+◌, not, int_lt, arith}
 use Rattle.std.proofs.lemmas.Int.{ints}
 use Rattle.std.specs.FinMap as finmap
 use Rattle.std.specs.List.{AllByRecursion}
-use Rattle.std.proofs.lemmas.List.{get_or_default}
+use Rattle.std.proofs.lemmas.List.{get_or_default, length-map}
 use Rattle.std.proofs.lemmas.Option.{none-some, same_Some, slice_get-get_or}
 use Rattle.ts_core.specs.lists.Numbered.{IsAt}
 use Rattle.ts_core.specs.lists.Members.{Among}
 use Rattle.ts_core.specs.facts.Times.{IsTime}
 use Rattle.ts_core.specs.facts.Facts.{Column, is_within}
+use Rattle.ts_core.specs.aggregates.Aggregates.{Aggregate}
 use Rattle.ts_core.specs.settings.Settings.{Rule, IsPossibleRule}
 use Rattle.ts_core.specs.store.Marks.{index_of}
 use Rattle.ts_core.specs.store.Cells.{Cell}
@@ -17,12 +18,14 @@ use Rattle.ts_core.specs.store.StoreData.{CellMap}
 use Rattle.ts_core.proofs.lists.Comparisons.{lt_true}
 use Rattle.ts_core.proofs.aggregates.IndicesFit.{indices_fit}
 use Rattle.ts_core.proofs.lists.MembersLemmas.{Among-map}
+use Rattle.ts_cells.specs.FrozenCounts.{frozen_count}
 use Rattle.ts_cells.specs.Walks.{CellWithPart, entry_of, entries_within}
 use Rattle.ts_store.specs.store.PossibleCells.{IsBucketIndex, HasPossibleCells, HavePossibleCells}
 use Rattle.ts_store.specs.store.ColumnStates.{StoreContent}
 use Rattle.ts_store.specs.read.LiveCells.{rollup_at}
 use Rattle.ts_store.specs.rollup.Rollups.{RollupState, new_rollup, AreRollups, cells_of}
 use Rattle.ts_store.proofs.rollup.RollupsGrow.{rollups-length}
+use Rattle.ts_cells.proofs.FrozenLemmas.{count_split}
 use Rattle.ts_store.specs.image.FrozenLeft.{has_frozen, frozen_cell, frozen_left, HasNearCells}
 use Rattle.ts_store.specs.image.SavedContent.{FrozenCell, frozen_from}
 
@@ -81,6 +84,54 @@ facts_frozen held r n s low to ks near wide read entries =
     walk_frozen (rollup_at held.rollups n).grid.cells low to ks
     (λ k a. let below = index_near r k.index near.second near.offset (near.possible k a).index in omega (arith, ints, below, wide))
     (entries ∙ ap (λ (t : RollupState). entries_within low to t.grid.cells) is)
+
+-- ---- their number
+
+not_low : (low i : ℤ) → int_lt i low ≡ not (int_le low i)
+not_low low i =
+    elim (int_le low i) as (λ b. int_le low i ≡ b → int_lt i low ≡ not b) [
+      | true ↦ λ e. grind (arith, ints)
+      | false ↦ λ e. grind (arith, ints)
+    ] refl
+
+le_true : (x y : ℤ) → x ≤ℤ y → int_le x y ≡ true
+le_true x y h = grind (arith, ints)
+
+below_low : (from low : ℤ) (es : List (Cell × CellParts)) → ((e : Cell × CellParts) → Among e es → from ≤ℤ e.0.index)
+    → filter is_frozen (filter (λ (e : Cell × CellParts). is_within from low e.0.index) es) ≡ filter (λ (e : Cell × CellParts). not (int_le low e.0.index) && is_frozen e) es
+below_low from low [] near = refl
+below_low from low (e ∷ es) near =
+    let rest = below_low from low es (λ x a. near x (inr a)) in
+    let inside : List (Cell × CellParts) = filter (λ (x : Cell × CellParts). is_within from low x.0.index) es in
+    let those : List (Cell × CellParts) = filter (λ (x : Cell × CellParts). not (int_le low x.0.index) && is_frozen x) es in
+    ap₂ (λ a b. filter is_frozen (cond (a && b) (e ∷ inside) inside)) (le_true from e.0.index (near e (inl refl))) (not_low low e.0.index)
+    ∙ elim (int_le low e.0.index) as (λ b. filter is_frozen (cond (not b) (e ∷ inside) inside) ≡ cond (not b && is_frozen e) (e ∷ those) those) [
+      | true ↦ rest
+      | false ↦ elim (is_frozen e) as (λ b. cond b (e ∷ filter is_frozen inside) (filter is_frozen inside) ≡ cond b (e ∷ those) those) [ true ↦ ap (λ (xs : List (Cell × CellParts)). e ∷ xs) rest | false ↦ rest ]
+    ]
+
+above_start : (z : ℤ) → FitsSigned w64 z → negsuc (2 ^ 64) ≤ℤ z
+above_start z fits = omega (arith, ints)
+
+-- the cells of a walk below a low index, and those from it on, are all that have frozen facts
+pub facts_counted : (held : StoreContent) (r : Rule) (n : ℕ) (s : RollupState) (from low : ℤ) (ks : List (CellWithPart CellParts)) → HasNearCells held r n → from ≤ℤ negsuc (2 ^ 64) → s ≡ get_or held.rollups n s → map entry_of ks ≡ entries_within from low s.grid.cells
+    → length (frozen_from low (rollup_at held.rollups n).grid.cells) + length (frozen_left ks) ≡ frozen_count (λ (a : Aggregate). a.count) s.grid.cells
+facts_counted held r n s from low ks near wide read entries =
+    let is : s ≡ rollup_at held.rollups n = read ∙ get_or_default held.rollups n s new_rollup near.there in
+    let m : CellMap = (rollup_at held.rollups n).grid.cells in
+    let es : List (Cell × CellParts) = finmap.entries m in
+    let on : Cell × CellParts → Bool = λ e. int_le low e.0.index in
+    let start : (e : Cell × CellParts) → Among e es → from ≤ℤ e.0.index =
+    λ e a. let k = near.possible e.0 (Among-map (λ (y : Cell × CellParts). y.0) e es a) in
+    let above = subst (λ z. negsuc (2 ^ 64) ≤ℤ z) k.index.2 (above_start (index_of r k.index.0) (indices_fit.bucket r k.index.0 near.second near.offset (near_time k.index.0 k.index.1))) in
+    omega (arith, ints, above, wide) in
+    let left : length (frozen_left ks) ≡ length (filter (λ (e : Cell × CellParts). not (on e) && is_frozen e) es) =
+    ap length (left_frozen ks ∙ ap (λ (xs : List (Cell × CellParts)). map frozen_entry (filter is_frozen xs)) (entries ∙ ap (λ (t : RollupState). entries_within from low t.grid.cells) is) ∙ ap (map frozen_entry) (below_low from low es start))
+    ∙ length-map (filter (λ (e : Cell × CellParts). not (on e) && is_frozen e) es) frozen_entry in
+    let those : length (frozen_from low m) ≡ length (filter (λ (e : Cell × CellParts). on e && is_frozen e) es) = length-map (filter (λ (e : Cell × CellParts). on e && is_frozen e) es) frozen_entry in
+    let all = count_split on is_frozen es in
+    let same = ap (λ (t : RollupState). frozen_count (λ (a : Aggregate). a.count) t.grid.cells) is in
+    omega arith
 
 -- ---- of a store
 

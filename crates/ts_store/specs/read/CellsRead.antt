@@ -1,4 +1,4 @@
--- The cells of a rule that a walk gives, by each history that the store represents. (Own rule.)
+-- The cells of a rule that a walk gives, by each history that the store stands for. (Own rule.)
 use Rattle.std.specs.Prelude.{◌≡◌, ◌≤ℤ◌, ℤ, true, List, map}
 use Rattle.ts_core.specs.lists.Members.{Among}
 use Rattle.ts_core.specs.facts.Facts.{Column, is_within}

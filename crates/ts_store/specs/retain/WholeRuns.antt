@@ -71,7 +71,7 @@ pub record TakesStep (old new : StoreData) (answer : StepAnswer) : Type 0 where
   pub marks : new.marks ≡ old.marks
   pub series : new.series ≡ old.series
 
--- A whole run: a history that the store represented is represented with the run. Columns keep their order. The cells of
+-- A whole run: after it the store stands for each history that it stood for, with the run. Columns keep their order. The cells of
 -- each rule from its low index on stay, and no others.
 pub record Retains (now : ℤ) (old new : StoreData) : Type 0 where
   pub steps : ℕ

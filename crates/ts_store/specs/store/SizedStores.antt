@@ -1,5 +1,5 @@
 -- Plain facts about the data of a store, which its calls rely on and keep, and which a loader can check. They also hold
--- of a store that was loaded from an image that no store wrote, and that represents no history. (Own rules.)
+-- of a store that was loaded from an image that no store wrote, and that stands for no history. (Own rules.)
 use Rattle.std.specs.Prelude.{◌≡◌, ℤ, pos, ◌+ℤ◌, ◌≤◌, ◌≤ℤ◌, ◌^◌, IsTrue, List, length, map, None}
 use Rattle.std.specs.List.{AllByRecursion}
 use Rattle.ts_core.specs.lists.Members.{Among, AllDistinct}

@@ -1,5 +1,5 @@
 //! Iterator over the cells of a rule that have a frozen part.
-ghost use Rattle.std.specs.Prelude.{◌≡◌, [], ◌∷◌, MatchOption};
+ghost use Rattle.std.specs.Prelude.{◌≡◌, ◌+◌, ◌≤◌, length, [], ◌∷◌, MatchOption};
 ghost use Rattle.std.specs.Iterator.{YieldsFirst, item_count};
 ghost use Rattle.ts_store.specs.image.FrozenLeft.{frozen_cell, frozen_left, HasNearCells};
 ghost use Rattle.ts_store.specs.read.LiveCells.{rollup_at};
@@ -65,6 +65,30 @@ impl<A: Allocator + Copy> ColumnFacts<A> {
             left: self.rollups[number].walk(low, &i128::MAX),
         }
     }
+
+    /// Returns the number of these cells. Visits only cells below `low`, which are about to be removed.
+    pub(crate) fn frozen_count(&self, rule: &Rule<A>, number: usize, low: &i128) -> u128
+        requires { HasNearCells self.now rule.now number }
+        ensures { result ≡ length (frozen_from low.now (rollup_at self.now.rollups number).grid.cells) }
+    {
+        let rollup = &self.rollups[number];
+        let below = FrozenCells {
+            left: rollup.walk(&i128::MIN, low),
+        };
+        without(rollup.frozen_count(), below)
+    }
+}
+
+/// Returns the number of cells without these.
+fn without<A: Allocator + Copy>(count: u128, cells: FrozenCells<'_, A>) -> u128
+    requires { length cells ≤ count }
+    ensures { result + length cells.entry ≡ count }
+{
+    let mut left = count;
+    for _ in cells {
+        left -= 1;
+    }
+    left
 }
 
 /// Returns the next cell whose frozen part isn't empty, and skips those before it.

@@ -23,9 +23,9 @@ pub struct AddedRule {
 }
 
 impl<A: Allocator + Copy> Store<A> {
-    /// Adds the rule that a JSON value is, as `add_rule` does. Returns its name and its low index. An error of the value
-    /// or of the rule, or out of memory, changes nothing. The error is found before anything is allocated, so only a
-    /// rule that could be added runs out of memory.
+    /// Adds the rule that a JSON value is, as `add_rule` does. Returns its name and its low index. An error of the
+    /// value or of the rule, or out of memory, changes nothing. The error is found before anything is allocated, so
+    /// only a rule that could be added runs out of memory.
     pub fn add_rule_json(&mut self, alloc: A, value: &Value) -> Result<AddedRule, SettingsError>
         ensures added { AddsValue self.old self.new (view value.now) result }
         ensures memory { IfErr result (λ e. e ≡ errors.OutOfMemory → fault_added self.old.settings (rule_parsed (view value.now)) ≡ None) }

@@ -142,7 +142,8 @@ impl<A: Allocator + Copy> ColumnFacts<A> {
         count
     }
 
-    /// Returns the number of points of the coded blocks of all columns. It may include up to 256 removed ones per column.
+    /// Returns the number of points of the coded blocks of all columns. It may include up to 256 removed ones per
+    /// column.
     pub(crate) fn held_points(&self) -> u64
         requires { length (facts_in self.now.columns) ≤ 2 ^ 62 }
         ensures all { length (facts_in self.now.columns) ≤ result }

@@ -50,4 +50,14 @@ impl<A: Allocator + Copy> Store<A> {
         self.facts
             .frozen_cells(kept, rule, &self.marks.lows()[rule])
     }
+
+    /// Returns the number of those cells, without a walk over them.
+    pub fn frozen_count(&self, rule: usize) -> u128
+        requires { rule < length self.now.settings.rules }
+        ensures { result ≡ length (frozen_from (slice_index_or self.now.marks.lows rule (pos 0)) (slice_index_or self.now.cells rule finmap.empty)) }
+    {
+        let kept = &self.settings.rules()[rule];
+        self.facts
+            .frozen_count(kept, rule, &self.marks.lows()[rule])
+    }
 }
