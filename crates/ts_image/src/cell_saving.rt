@@ -15,18 +15,16 @@ use std::io::Write;
 use ts_core::{OutputBuffer, Refused, Rule, Sink};
 use ts_store::{FrozenCell, FrozenCells, Store, View};
 
-/// Returns the number of cells. Fails with AllocError if it doesn't fit in 64 bits.
-fn count_cells<A: Allocator + Copy>(cells: FrozenCells<'_, A>) -> Result<u64, AllocError>
-    ensures { IfOk result (λ n. n ≡ length cells.entry) }
+/// Returns the number of saved cells of a rule, without a walk over them. Fails with AllocError if it doesn't fit in 64
+/// bits.
+fn count_cells<A: Allocator + Copy>(store: &Store<A>, number: usize) -> Result<u64, AllocError>
+    requires { number < length store.now.settings.rules }
+    ensures { IfOk result (λ n. n ≡ length (frozen_cells_at store.now number)) }
 {
-    let mut count: u64 = 0;
-    for _ in cells {
-        if count == u64::MAX {
-            return Err(AllocError);
-        }
-        count += 1;
+    match u64::try_from(store.frozen_count(number)) {
+        Ok(count) => Ok(count),
+        Err(_) => Err(AllocError),
     }
-    Ok(count)
 }
 
 /// Returns the number of saved cells of each rule. Fails with AllocError too if one doesn't fit in 64 bits.
@@ -39,7 +37,7 @@ pub(crate) fn count_all_cells<A: Allocator + Copy>(
     let rules = store.settings().rules().len();
     let mut counts = Vec::with_capacity(alloc, rules)?;
     for number in 0..rules {
-        counts.push(count_cells(store.frozen_cells(number))?)?;
+        counts.push(count_cells(store, number)?)?;
     }
     Ok(counts)
 }

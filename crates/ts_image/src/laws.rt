@@ -11,7 +11,7 @@ ghost use Rattle.ts_image.specs.SavedImages.{SavedImagesArePossible};
 ghost use Rattle.ts_image.specs.WrittenImages.{WrittenImagesAreAcceptable};
 ghost use Rattle.ts_image.specs.FirstVersion.{FirstImagesArePossible, FirstImagesFit, FirstImagesAreLoaded};
 
-/// Proves that a store created from an image represents each history that the saved store represented.
+/// Proves that a store created from an image stands for each history that the saved store stood for.
 pub fn reloads()
     ensures any { Reloads }
     ensures pictured { (k n : StoreData) (d : ImageData) → IsPictureOf k d → IsMadeOf d n → StaysFor k n }
@@ -24,14 +24,14 @@ pub fn images_are_exact()
     ensures exact { (v : Version) (p : Cursor) → AreBytes p.rest → IsExact (image v) p (read_whole (image v) p) }
 {}
 
-/// Proves that the image of a store that represents a history has no contradiction.
+/// Proves that the image of a store that stands for a history has no contradiction.
 pub fn saved_images_are_possible()
     ensures any { SavedImagesArePossible }
     ensures written { WrittenImagesAreAcceptable }
 {}
 
 /// Proves that each image of version 1, written of a store without an open run and without an added rule, is loaded, as
-/// a store that represents the same history.
+/// a store that stands for the same history.
 pub fn images_of_version_1_are_loaded()
     ensures possible { FirstImagesArePossible }
     ensures fits { FirstImagesFit }

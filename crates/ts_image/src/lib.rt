@@ -4,7 +4,7 @@
 //!
 //! Proved: each image is read as its data and only that. Other bytes are refused with the offset of the first field at
 //! fault. An image that contradicts itself is refused; that of a store with a history never is. A loaded store has the
-//! data of its image, and represents each history that the saved store represented. A save fails only if a write fails
+//! data of its image, and stands for each history that the saved store stood for. A save fails only if a write fails
 //! or when out of memory.
 //!
 //! ```text

@@ -1,5 +1,5 @@
 //! A summary of what an image holds.
-ghost use Rattle.std.specs.Prelude.{◌≡◌, ◌<◌, ◌^◌, length, IfOk};
+ghost use Rattle.std.specs.Prelude.{◌≡◌, length, IfOk};
 ghost use Rattle.std.specs.List.{AllByRecursion};
 ghost use Rattle.ts_core.specs.store.StoreStates.{facts_of};
 ghost use Rattle.ts_image.specs.Saving.{HasItsColumns};
@@ -8,7 +8,7 @@ use crate::duration_text::{keeping_text, offset_text};
 use serde::Serialize;
 use std::alloc::{AllocError, Global};
 use ts_core::{Rule, Settings};
-use ts_store::{FrozenCells, SavedSeries, Store, View};
+use ts_store::{SavedSeries, Store, View};
 
 /// A rollup rule, in the form of settings.
 #[derive(Drop, Serialize)]
@@ -92,17 +92,6 @@ impl<'a> SettingsSummary<'a> {
     }
 }
 
-/// Counts cells.
-fn count_cells(cells: FrozenCells<'_, Global>) -> u64
-    ensures { length cells.entry < 2 ^ 64 → result ≡ length cells.entry }
-{
-    let mut count: u64 = 0;
-    for _ in cells {
-        count = count.saturating_add(1);
-    }
-    count
-}
-
 /// Returns the contents of each rule.
 fn rules_of(alloc: Global, store: &Store<Global>) -> Result<Vec<RuleSummary<'_>>, AllocError> {
     let mut rules = Vec::new(alloc);
@@ -110,7 +99,7 @@ fn rules_of(alloc: Global, store: &Store<Global>) -> Result<Vec<RuleSummary<'_>>
         rules.push(RuleSummary {
             name: rule.name(),
             low: store.marks().lows()[number],
-            cells: count_cells(store.frozen_cells(number)),
+            cells: u64::try_from(store.frozen_count(number)).unwrap_or(u64::MAX),
         })?;
     }
     Ok(rules)
