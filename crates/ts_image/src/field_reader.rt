@@ -226,6 +226,7 @@ impl<A: Allocator + Copy> FieldReader<A> {
         ensures shaped { IsShaped result }
         ensures calls { CallsSource self.old.ahead source.old result self.new.ahead source.new }
     {
+        // For the proof: the buffer is as its type says.
         let _ = &self.ahead;
         while (bytes.len() as u64) < length {
             if self.ahead.buffered().is_empty() && !self.fill(source)? {

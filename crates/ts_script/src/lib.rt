@@ -30,5 +30,6 @@ mod run_fault;
 
 pub use command::Command;
 pub use engine::{run, run_within};
+pub use marks_text::marks_to;
 pub use opening::store_with;
 pub use run_fault::RunFault;

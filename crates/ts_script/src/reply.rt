@@ -120,8 +120,8 @@ fn send_made<W: Write>(
     }
 }
 
-/// Appends a fault without a detail, with its LF, to the buffered answers. The message is built in `text`, which has the
-/// capacity, so nothing is allocated.
+/// Appends a fault without a detail, with its LF, to the buffered answers. The message is built in `text`, which has
+/// the capacity, so nothing is allocated.
 #[tactic(auto, using(crate::proofs::ReplyLemmas::fault_short))]
 fn send_fault<W: Write>(
     code: FaultCode,

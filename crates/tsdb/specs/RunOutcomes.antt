@@ -1,7 +1,8 @@
 -- The exit status of the program, and its line on standard error. (Own rule.)
-use Rattle.std.specs.Prelude.{ℕ, ◌++◌, codes, Option, Some, None}
+use Rattle.std.specs.Prelude.{ℕ, codes, Option, Some, None}
 use Rattle.ts_core.specs.facts.Facts.{Text}
-use Rattle.ts_script.specs.RunFaults.{run_fault_text}
+use Rattle.ts_core.specs.declared.text.fault_code.FaultCode.{FaultCode}
+use Rattle.ts_script.specs.RunFaults.{run_fault_code}
 use Rattle.tsdb.specs.declared.command_line.CliOutcome.TheVariants as cli_outcome
 use Rattle.ts_script.specs.declared.run_fault.RunFault.{RunFault}
 use Rattle.ts_script.specs.declared.run_fault.RunFault.TheVariants.{OutOfMemory, Reader, Writer, TooManyReads}
@@ -23,25 +24,21 @@ status_of NoText = 2
 status_of (NoScript cli_outcome.OutOfMemory) = 3
 status_of (Stopped OutOfMemory) = 3
 
--- the meaning of an error of a run
-abbrev pub meaning_of : RunFault → Text
-meaning_of Reader = codes "standard input could not be read"
-meaning_of Writer = codes "standard output could not be written"
-meaning_of TooManyReads = codes "standard input did not end within 4294967296 reads"
-meaning_of OutOfMemory = codes "there is no memory for reading the script"
+-- the fault that stopped the script, if the common table of faults has it
+abbrev pub fault_of : CallOutcome → Option FaultCode
+fault_of (Stopped fault) = run_fault_code fault
+fault_of outcome = None
 
--- the message of a fault, with its meaning
-abbrev pub stopped_line : RunFault → Text
-stopped_line fault = run_fault_text fault ++ codes ": " ++ meaning_of fault
-
--- the line for standard error, if there is one; for a wrong command line, clap has already printed the error
+-- the line for standard error, if there is one and it is none of a fault; for a wrong command line, clap has already
+-- printed the error
 abbrev pub error_line : CallOutcome → Option Text
 error_line Answered = None
-error_line (Stopped fault) = Some (stopped_line fault)
+error_line (Stopped OutOfMemory) = Some (codes "tsdb: out of memory")
+error_line (Stopped fault) = None
 error_line (NoScript cli_outcome.Done) = None
 error_line (NoScript cli_outcome.Wrong) = None
 error_line (NoScript cli_outcome.Device) = Some (codes "tsdb: standard output or standard error could not be written")
-error_line (NoScript cli_outcome.OutOfMemory) = Some (codes "tsdb: there is no memory to answer the command line")
+error_line (NoScript cli_outcome.OutOfMemory) = Some (codes "tsdb: out of memory")
 error_line NoFault = Some (codes "tsdb: no fault has this number; `tsdb faults` prints them all")
 error_line NoText = Some (codes "tsdb: the command line can't be read as text")
 error_line NoSeed = Some (codes "tsdb: the system gave no random bytes")

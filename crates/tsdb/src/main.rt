@@ -2,9 +2,9 @@
 //! what an image holds (`tsdb inspect`) and the meaning of faults (`tsdb faults`). Depends on ts_script, ts_http,
 //! ts_image and ts_store.
 //!
-//! Proved: a call has the effect that specs/Calls defines for its words and standard input (`call::answer_arguments`), and
-//! requests change a store as ts_http defines them (`requests::serve_on`). Sockets, the clock and files have no
-//! contract.
+//! Proved: a call has the effect that specs/Calls defines for its words and standard input
+//! (`call::answer_arguments`), and requests change a store as ts_http defines them (`requests::serve_on`). Sockets,
+//! the clock and files have no contract.
 //!
 //! ```text
 //! printf 'write cpu v=5i 1\ncount cpu v 0 10\n' | tsdb replay     prints ok and 1

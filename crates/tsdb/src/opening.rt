@@ -1,49 +1,17 @@
 //! The lines that a server prints before its first request.
 ghost use Rattle.std.specs.Prelude.{◌≡◌, ◌++◌, OnOk, string_bytes};
-ghost use Rattle.ts_script.specs.MarksTexts.{low_text, lows_text, marks_text};
 ghost use Rattle.tsdb.specs.Openings.{file_text};
 
 use crate::command_line::Service;
 use itoa::Buffer;
 use std::alloc::{AllocError, Global};
 use std::io;
-use ts_core::{Marks, Rule, Settings, push_all};
+use ts_core::push_all;
+use ts_script::marks_to;
 use ts_store::{Store, View};
 
 /// Capacity of a line, in bytes. One that is longer grows.
 const CAPACITY: usize = 1024;
-
-/// Appends a space, a rule's name and its low index.
-fn low_to(text: &mut String, name: &str, low: i128) -> Result<(), AllocError>
-    ensures { OnOk result (string_bytes text.new ≡ string_bytes text.old ++ low_text name.now low) }
-{
-    push_all(text, &[" ", name, "=", Buffer::new().format(low)])
-}
-
-/// Appends the name and the low index of each rule.
-fn lows_to(text: &mut String, rules: &[Rule<Global>], lows: &[i128]) -> Result<(), AllocError>
-    ensures { OnOk result (string_bytes text.new ≡ string_bytes text.old ++ lows_text rules.now lows.now) }
-{
-    match (rules.split_first(), lows.split_first()) {
-        (Some((rule, rules)), Some((low, lows))) => {
-            low_to(text, rule.name(), *low)?;
-            lows_to(text, rules, lows)
-        }
-        _ => Ok(()),
-    }
-}
-
-/// Appends the marks, as the script command `retain` prints them.
-fn marks_to(
-    text: &mut String,
-    settings: &Settings<Global>,
-    marks: &Marks<Global>,
-) -> Result<(), AllocError>
-    ensures { OnOk result (string_bytes text.new ≡ string_bytes text.old ++ marks_text settings.now marks.now) }
-{
-    push_all(text, &["marks ", Buffer::new().format(marks.raw().nanos())])?;
-    lows_to(text, settings.rules(), marks.lows())
-}
 
 /// Appends the name of an image, and the path that it leads to if it is a link.
 fn file_to(text: &mut String, name: &str, path: &str) -> Result<(), AllocError>

@@ -1,10 +1,11 @@
 //! Exit status of the program, and its line on standard error.
 ghost use Rattle.std.specs.Prelude.{◌≡◌, None, Some, MatchOption};
 ghost use Rattle.std.specs.Process.{exit_status};
-ghost use Rattle.tsdb.specs.RunOutcomes.{status_of, stopped_line, error_line};
+ghost use Rattle.tsdb.specs.RunOutcomes.{status_of, fault_of, error_line};
 
 use crate::command_line::CliOutcome;
 use std::process::ExitCode;
+use ts_core::FaultCode;
 use ts_script::RunFault;
 
 /// Outcome of a call of the program.
@@ -48,8 +49,18 @@ impl CallOutcome {
         }
     }
 
-    /// Returns the line for standard error, if there is one. For a wrong command line, clap has already printed the
-    /// error.
+    /// Returns the fault that stopped the script, if the common table of faults has it.
+    pub fn fault(self) -> Option<FaultCode>
+        ensures { result ≡ fault_of self }
+    {
+        match self {
+            CallOutcome::Stopped(fault) => fault.code(),
+            _ => None,
+        }
+    }
+
+    /// Returns the line for standard error, if there is one and it is none of a fault. For a wrong command line, clap has
+    /// already printed the error.
     pub fn error_line(self) -> Option<&'static str>
         ensures { MatchOption result (error_line self ≡ None) (λ line. error_line self ≡ Some line.now) }
     {
@@ -59,37 +70,29 @@ impl CallOutcome {
             CallOutcome::NoScript(CliOutcome::Device) => {
                 Some("tsdb: standard output or standard error could not be written")
             }
-            CallOutcome::NoScript(CliOutcome::OutOfMemory) => {
-                Some("tsdb: there is no memory to answer the command line")
-            }
+            CallOutcome::NoScript(CliOutcome::OutOfMemory)
+            | CallOutcome::Stopped(RunFault::OutOfMemory) => Some("tsdb: out of memory"),
             CallOutcome::NoFault => {
                 Some("tsdb: no fault has this number; `tsdb faults` prints them all")
             }
             CallOutcome::NoText => Some("tsdb: the command line can't be read as text"),
             CallOutcome::NoSeed => Some("tsdb: the system gave no random bytes"),
-            CallOutcome::Stopped(fault) => Some(stopped_line(fault)),
+            CallOutcome::Stopped(RunFault::Reader | RunFault::Writer | RunFault::TooManyReads) =>
+                None,
         }
     }
 }
 
-/// Prints the line for standard error, if there is one, and returns the exit status.
+/// Prints the line for standard error, if there is one, and returns the exit status. A fault has its number and its
+/// message.
 pub fn end(rt: &impl Eprint, outcome: CallOutcome) -> ExitCode
     ensures { exit_status result ≡ status_of outcome }
 {
+    if let Some(code) = outcome.fault() {
+        let _ = eprintln!(rt; "fault {}: {}", code.number(), code.message());
+    }
     if let Some(line) = outcome.error_line() {
         let _ = eprintln!(rt; "{line}");
     }
     outcome.exit_code()
-}
-
-/// Returns the message of a fault with its meaning.
-fn stopped_line(fault: RunFault) -> &'static str
-    ensures { result.now ≡ stopped_line fault }
-{
-    match fault {
-        RunFault::Reader => "fault 96: standard input could not be read",
-        RunFault::Writer => "fault 97: standard output could not be written",
-        RunFault::TooManyReads => "fault 98: standard input did not end within 4294967296 reads",
-        RunFault::OutOfMemory => "fault memory: there is no memory for reading the script",
-    }
 }
