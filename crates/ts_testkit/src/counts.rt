@@ -1,9 +1,14 @@
 //! Aggregates with counts at their limit.
+ghost use Rattle.std.specs.Prelude.{◌≡◌, ◌↔◌, ◌<◌, ◌+◌, ◌^◌, IfSome, IsNone};
+ghost use Rattle.ts_core.specs.aggregates.Aggregates.{merged};
 
 use ts_core::{Agg, MAX_COUNT, Partial, Time};
 
 /// Returns the merged aggregate of both, if they have at most 2^62 points together.
-pub fn merged(a: Agg, b: Agg) -> Option<Agg> {
+pub fn merged(a: Agg, b: Agg) -> Option<Agg>
+    ensures sum { IfSome result (λ m. m ≡ merged a b) }
+    ensures none { IsNone result ↔ (2 ^ 62 < a.count + b.count) }
+{
     if a.count() + b.count() > MAX_COUNT {
         return None;
     }

@@ -1,4 +1,5 @@
 //! Devices over memory: a reader and a writer that transfer bytes in pieces, and fail at one call.
+ghost use Rattle.std.specs.Prelude.{◌≡◌};
 
 use std::io;
 use std::io::{ErrorKind, Read, Write};
@@ -18,7 +19,11 @@ pub struct PieceReader<'a> {
 
 impl<'a> PieceReader<'a> {
     /// Creates a reader before its first call.
-    pub fn new(left: &'a [u8], piece: usize, fails_at: usize) -> PieceReader<'a> {
+    pub fn new(left: &'a [u8], piece: usize, fails_at: usize) -> PieceReader<'a>
+        ensures bytes { result.left.now ≡ left.now }
+        ensures calls { result.calls ≡ 0 }
+        ensures limits { (result.piece ≡ piece) × (result.fails_at ≡ fails_at) }
+    {
         PieceReader {
             left,
             piece,
@@ -29,6 +34,10 @@ impl<'a> PieceReader<'a> {
 }
 
 impl Read for PieceReader<'_> {
+    ghost use Rattle.std.specs.Prelude.{Some, None, ◌==◌, if◌then◌else◌};
+
+    ghost remaining = { λ r. if r.piece == 0 then None else Some r.left.now };
+
     fn read(&mut self, buf: &mut [u8]) -> io::Result<usize> {
         let call = self.calls;
         self.calls = call.saturating_add(1);
@@ -64,7 +73,12 @@ pub struct PieceWriter {
 
 impl PieceWriter {
     /// Creates a writer over an empty vector, before its first call.
-    pub fn new(written: Vec<u8>, piece: usize, fails_at: usize, failure: Failure) -> PieceWriter {
+    pub fn new(written: Vec<u8>, piece: usize, fails_at: usize, failure: Failure) -> PieceWriter
+        ensures bytes { result.written.items ≡ written.items }
+        ensures calls { result.calls ≡ 0 }
+        ensures limits { (result.piece ≡ piece) × (result.fails_at ≡ fails_at) }
+        ensures failure { result.failure ≡ failure }
+    {
         PieceWriter {
             written,
             piece,
@@ -76,6 +90,10 @@ impl PieceWriter {
 }
 
 impl Write for PieceWriter {
+    ghost use Rattle.std.specs.Prelude.{Some};
+
+    ghost contents = { λ w. Some w.written.items };
+
     fn write(&mut self, buf: &[u8]) -> io::Result<usize> {
         let call = self.calls;
         self.calls = call.saturating_add(1);
