@@ -233,12 +233,17 @@ needed_more cs c refused s =
 
 -- ---- all conditions
 
+none_refused : (ts : List (Text × Text)) → list_all (λ t. not (is_refused [] t)) ts ≡ true
+none_refused [] = refl
+none_refused (t ∷ ts) = elim (is_empty_text t.1) as (λ b. (not (not b && false) && list_all (λ u. not (is_refused [] u)) ts) ≡ true) [ true ↦ none_refused ts | false ↦ none_refused ts ]
+
+-- without pairs no tag is refused
+pub allowed-none : (xs : Pairs) → length xs ≡ 0 → (ts : List (Text × Text)) → true ≡ list_all (λ t. not (is_refused (borrowed_pairs xs) t)) ts
+allowed-none [] e ts = sym (none_refused ts)
+allowed-none (x ∷ xs) e ts = absurd (omega (arith, e))
+
 pub tests-none : (s : Series) (b : Bool) → (meets_tests [] [] s && b) ≡ b
 tests-none s b = ap (λ k. (k && true) && b) (none_refused s.tags)
-  where
-    none_refused : (ts : List (Text × Text)) → list_all (λ t. not (is_refused [] t)) ts ≡ true
-    none_refused [] = refl
-    none_refused (t ∷ ts) = elim (is_empty_text t.1) as (λ b. (not (not b && false) && list_all (λ u. not (is_refused [] u)) ts) ≡ true) [ true ↦ none_refused ts | false ↦ none_refused ts ]
 
 pub tests-next : (old new : Bool) (items : List (Bor Condition)) (i : ℕ) (c : Bor Condition) (s : Series) → i < length items → c ≡ get_or items i c → (old && meets s c.now) ≡ new
     → (old && meets_all (borrowed (drop i items)) s) ≡ meets_all (borrowed items) s → (new && meets_all (borrowed (drop (i + 1) items)) s) ≡ meets_all (borrowed items) s

@@ -71,6 +71,9 @@ fn are_allowed<A: Allocator>(refused: &[(&str, &str)], tags: &[(String<A>, Strin
     requires { ArePairsSorted refused.now }
     ensures { result ≡ list_all (λ t. not (is_refused (borrowed_pairs refused.now) t)) (owned_pairs tags.now) }
 {
+    if refused.is_empty() {
+        return true;
+    }
     let Some((first, others)) = tags.split_first() else {
         return true;
     };
@@ -86,6 +89,9 @@ fn are_kept_allowed<A: Allocator>(
     requires { ArePairsSorted refused.now }
     ensures { result ≡ list_all (λ t. not (is_refused (borrowed_pairs refused.now) t)) (zip (map string_bytes kept.now) (map string_bytes group.now)) }
 {
+    if refused.is_empty() {
+        return true;
+    }
     match (kept.split_first(), group.split_first()) {
         (Some((tag, kept)), Some((value, group))) => {
             !is_refused(refused, tag.as_str(), value.as_str())
