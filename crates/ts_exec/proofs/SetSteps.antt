@@ -1,14 +1,17 @@
 -- Values without the empty ones, as the code finds and compares them.
-use Rattle.std.proofs.Common.{◌≡◌, ℕ, zero, suc, ◌+◌, ◌-◌, ◌<◌, ◌==◌, if◌then◌else◌, true, false, arith, None, drop, ap₂, List, [], ◌∷◌, ◌++◌, cond, map, length, Option, Some, refl, sym, ◌∙◌, ap, subst, String, string_bytes, Bor, add-one}
+use Rattle.std.proofs.Common.{◌≡◌, ℕ, zero, suc, ◌+◌, ◌-◌, ◌<◌, ◌==◌, if◌then◌else◌, true, false, arith, None, drop, ap₂, List, [], ◌∷◌, ◌++◌, cond, map, zip, length, Option, Some, refl, sym, ◌∙◌, ap, subst, String, string_bytes, Bor, add-one}
 use Rattle.std.specs.declared.cmp.Reverse.{Reverse}
 use Rattle.std.specs.Ordering.{ordering_then, nat_cmp}
 use Rattle.std.specs.Cmp.Lexicographic.{slice_cmp}
 use Rattle.std.specs.List.{position_from}
+use Rattle.std.specs.List.Sorted.{IsStrictlySortedBy}
 use Rattle.std.proofs.lemmas.Option.{same_Some}
 use Rattle.ts_core.specs.facts.Facts.{Text, same_text, text_cmp}
+use Rattle.ts_core.specs.facts.Tags.{value_among}
+use Rattle.ts_core.specs.text.Texts.{IsTagSet}
 use Rattle.ts_ql.specs.Selects.{texts}
-use Rattle.ts_exec.specs.GroupValues.{SetValue, AreSetValues, all_values, seen_set, set_value_cmp, set_values, tag_index, first_value}
-use Rattle.ts_exec.proofs.GroupValuesLemmas.{all-set, are-set}
+use Rattle.ts_exec.specs.GroupValues.{SetValue, AreSetValues, all_values, seen_set, set_value_cmp, set_values, tag_index, first_value, own_values, kept_indices, kept_values}
+use Rattle.ts_exec.proofs.GroupValuesLemmas.{all-set, are-set, own-set, kept-set}
 
 -- a search by position finds a tag's index
 pub position-index : {A : Type 0} (name : Text) (i : ℕ) (kept : List (String A)) → position_from (λ k. same_text (string_bytes k) name) i kept ≡ tag_index i (texts kept) name
@@ -33,6 +36,19 @@ set-fits tags f n vs long is =
     subst (λ m. AreSetValues 0 m vs × (all_values 0 m vs ≡ map f tags)) long
     (subst (λ (us : List SetValue). AreSetValues 0 (length tags) us × (all_values 0 (length tags) us ≡ map f tags)) (sym is)
     (subst (λ m. AreSetValues 0 m (set_values 0 tags f)) (none-more (length tags)) (are-set 0 tags f), all-set 0 tags f))
+
+-- those that are appended to an empty list: of a series' own tags
+pub own-fits : (tags : List Text) (own : List (Text × Text)) (n : ℕ) (none all : List (Reverse ℕ × Bor Text)) → length tags ≡ n → IsStrictlySortedBy text_cmp tags → IsTagSet own
+    → none ≡ [] → seen_set all ≡ seen_set none ++ own_values tags own → AreSetValues 0 n (seen_set all) × (all_values 0 n (seen_set all) ≡ map (value_among own) tags)
+own-fits tags own n none all long sorted set empty is =
+    set-fits tags (value_among own) n (seen_set all) long (is ∙ ap (λ xs. seen_set xs ++ own_values tags own) empty ∙ own-set tags own sorted set)
+
+-- of a cell's group
+pub kept-fits : (tags own group : List Text) (kept : List (ℕ × ℕ)) (n : ℕ) (none all : List (Reverse ℕ × Bor Text)) → length tags ≡ n → kept ≡ kept_indices 0 tags own
+    → none ≡ [] → seen_set all ≡ seen_set none ++ kept_values kept group → AreSetValues 0 n (seen_set all) × (all_values 0 n (seen_set all) ≡ map (value_among (zip own group)) tags)
+kept-fits tags own group kept n none all long are empty is =
+    set-fits tags (value_among (zip own group)) n (seen_set all) long
+    (is ∙ ap (λ xs. seen_set xs ++ kept_values kept group) empty ∙ ap (λ ks. kept_values ks group) are ∙ kept-set tags own group)
 
 -- ---- one value after the other
 

@@ -12,7 +12,6 @@ use crate::set_values::{KeptTag, SetValue, push_kept, push_own, value_of};
 use std::alloc::{AllocError, Allocator};
 use std::cmp::Ordering;
 use std::marker::Model;
-use std::mem;
 use ts_core::Key;
 
 /// Values of a group's tags. Its model is the list of all, empty ones too, in the order of the tags.
@@ -160,17 +159,7 @@ impl<'a, A: Allocator + Copy> GroupValuesBuf<'a, A> {
         self.set.allocator()
     }
 
-    /// Takes the empty list, with its memory.
-    fn take_list(&mut self) -> Vec<SetValue<'a>, A>
-        ensures { result.items ≡ [] }
-    {
-        let alloc = *self.allocator();
-        let mut set = mem::replace(&mut self.set, Vec::new(alloc));
-        set.clear();
-        set
-    }
-
-    /// Replaces the values by a series' values of these tags.
+    /// Replaces the values by a series' values of these tags. On error, all values are empty.
     pub(crate) fn read_series(
         &mut self,
         tags: &[String<A>],
@@ -179,14 +168,19 @@ impl<'a, A: Allocator + Copy> GroupValuesBuf<'a, A> {
         requires { IsStrictlySortedBy text_cmp (texts tags.now) }
         ensures { OnOk result (self.new ≡ tag_values (texts tags.now) key.now) }
     {
-        let mut set = self.take_list();
-        push_own(&mut set, tags, key.tags())?;
         self.tags = tags.len();
-        self.set = set;
-        Ok(())
+        self.set.clear();
+        match push_own(&mut self.set, tags, key.tags()) {
+            Ok(()) => Ok(()),
+            Err(fault) => {
+                self.set.clear();
+                Err(fault)
+            }
+        }
     }
 
-    /// Replaces the values by those that a cell's group has of these tags, of which a rule keeps `kept`.
+    /// Replaces the values by those that a cell's group has of these tags, of which a rule keeps `kept`. On error, all
+    /// values are empty.
     pub(crate) fn read_cell(
         &mut self,
         tags: &[String<A>],
@@ -196,10 +190,14 @@ impl<'a, A: Allocator + Copy> GroupValuesBuf<'a, A> {
         requires { (own : List Text) × (kept.now ≡ kept_indices 0 (texts tags.now) own) }
         ensures { OnOk result ((own : List Text) → kept.now ≡ kept_indices 0 (texts tags.now) own → self.new ≡ map (value_among (zip own (texts group.now))) (texts tags.now)) }
     {
-        let mut set = self.take_list();
-        push_kept(&mut set, kept, group)?;
         self.tags = tags.len();
-        self.set = set;
-        Ok(())
+        self.set.clear();
+        match push_kept(&mut self.set, kept, group) {
+            Ok(()) => Ok(()),
+            Err(fault) => {
+                self.set.clear();
+                Err(fault)
+            }
+        }
     }
 }
