@@ -195,6 +195,13 @@ impl<'a, A: Allocator + Copy> Groups<'a, A> {
         slot_of(&mut self.slots, values)
     }
 
+    /// Returns the slot after that of the last cell's group, or the first slot after the last one. In every bucket, cells
+    /// come in the order of their groups.
+    fn next_slot(&self) -> usize {
+        let next = self.last.saturating_add(1);
+        if next < self.slots.len() { next } else { 0 }
+    }
+
     /// Merges a part into the row of a bucket of a group, inserting the group if needed.
     pub(crate) fn add_part(
         &mut self,
@@ -205,8 +212,8 @@ impl<'a, A: Allocator + Copy> Groups<'a, A> {
     ) -> Result<(), AllocError>
         ensures { OnOk result (self.new ≡ with_cell_part width values.now row_index part self.old) }
     {
-        // In every bucket, cells come in the order of their groups.
-        let at = expect(&mut self.slots, self.last.saturating_add(1), values)?;
+        let next = self.next_slot();
+        let at = expect(&mut self.slots, next, values)?;
         self.last = at;
         self.slots[at].add_part(width, row_index, part)
     }
