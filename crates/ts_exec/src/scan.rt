@@ -1,4 +1,4 @@
-//! What all pieces of a query share while they are added to the groups.
+//! Holds the state that all pieces of a query share while they are added to the groups.
 ghost use Rattle.std.specs.Prelude.{◌≡◌, IfOk};
 ghost use Rattle.std.specs.List.{list_all};
 ghost use Rattle.ts_core.specs.lists.Members.{AllDistinct};
