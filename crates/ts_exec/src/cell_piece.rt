@@ -170,9 +170,15 @@ pub(crate) fn add_cells<'a, A: Allocator + Copy + 'a, V: View<A> + 'a>(
     let first = index_of(rule, i128::from(from));
     let end = index_of(rule, i128::from(to));
     let mut small = true;
-    for cell in view.cell_walk(number, &first, &end) {
-        small = small && is_small(&cell);
-        add_cell(groups, scan, rule, &kept, from, to, &cell)?;
+    let mut cells = view.cell_walk(number, &first, &end);
+    loop {
+        // Matched by reference: a cell has some 200 bytes, which aren't copied out of the option.
+        let found = cells.next();
+        let Some(cell) = &found else {
+            break;
+        };
+        small = small && is_small(cell);
+        add_cell(groups, scan, rule, &kept, from, to, cell)?;
     }
     Ok(small)
 }

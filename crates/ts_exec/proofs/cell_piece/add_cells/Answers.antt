@@ -20,10 +20,8 @@ loop-cell-init g c =
     let rs : List RuleCells = (g.V.View.seen c.args.view.now).rules in
     let f : SFits w64 c.args.from = search rules in
     let t : SFits w64 c.args.to = search rules in
-    let first : c.into_iter-cell-iterator.result ≡ view_cells_at rs c.args.number (index_of r c.args.from) (index_of r c.args.to) = search rules in
+    let first : c.cell_walk-cells.result ≡ view_cells_at rs c.args.number (index_of r c.args.from) (index_of r c.args.to) = search rules in
     rw (to_z-of_z f, to_z-of_z t) (
-      tt,
-      tt,
       ap (λ (cs : List SeenCell). with_cell_parts q r c.args.from c.args.to cs c.args.groups.now) first,
       ap (list_all is_small) first,
       subst (AllByRecursion (λ (x : SeenCell). is_within (index_of r c.args.from) (index_of r c.args.to) x.cell.index ≡ true)) (sym first) (cells-within (get_or rs c.args.number no_rule) (index_of r c.args.from) (index_of r c.args.to)),
@@ -32,8 +30,8 @@ loop-cell-init g c =
 
 pub loop-cell-preserved : goal.loop-cell-preserved
 loop-cell-preserved g c =
-    let rest : List SeenCell = c.next.new.self in
-    let next : c.loop-cell.cell-iterator ≡ c.in-Some.cell ∷ rest = search rules in
+    let rest : List SeenCell = c.next-found.new.self in
+    let next : c.loop-cell.cells ≡ c.in-Some.cell ∷ rest = search rules in
     let both : c.if-small.small ≡ (c.loop-cell.small && is_small c.in-Some.cell) = elim c.if-small.branch [ then-small w ↦ search rules | else-small w ↦ search rules ] in
     let small =
     ap (λ (z : Bool). z && list_all is_small rest) both

@@ -1,4 +1,4 @@
-use Rattle.std.proofs.Common.{◌≡◌, ◌&&◌, true}
+use Rattle.std.proofs.Common.{◌≡◌, ◌&&◌, true, length}
 use Rattle.std.specs.List.{list_all, AllByRecursion}
 use Rattle.ts_core.specs.facts.Facts.{is_within}
 use Rattle.ts_core.specs.store.Marks.{index_of}
@@ -12,8 +12,10 @@ invariant-loop-cell g l =
     let q = l.fn.scan in
     let a = index_of l.rule l.from in
     let b = index_of l.rule l.to in
-    (goal.iterator-loop-cell g).can_next l.cell-iterator × (goal.iterator-loop-cell g).is_finite l.cell-iterator
-    × (with_cell_parts q l.rule l.from l.to l.cell-iterator l.groups ≡ with_cell_parts q l.rule l.from l.to (view_cells_at (g.V.View.seen l.view).rules l.number a b) l.fn.groups)
-    × ((l.small && list_all is_small l.cell-iterator) ≡ list_all is_small (view_cells_at (g.V.View.seen l.view).rules l.number a b))
-    × AllByRecursion (λ (c : SeenCell). is_within a b c.cell.index ≡ true) l.cell-iterator
+    (with_cell_parts q l.rule l.from l.to l.cells l.groups ≡ with_cell_parts q l.rule l.from l.to (view_cells_at (g.V.View.seen l.view).rules l.number a b) l.fn.groups)
+    × ((l.small && list_all is_small l.cells) ≡ list_all is_small (view_cells_at (g.V.View.seen l.view).rules l.number a b))
+    × AllByRecursion (λ (c : SeenCell). is_within a b c.cell.index ≡ true) l.cells
     × (l.scan ≡ l.fn.scan)
+
+abbrev pub decreases-loop-cell : goal.decreases-loop-cell
+decreases-loop-cell g l = length l.cells
