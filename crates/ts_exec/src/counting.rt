@@ -4,7 +4,7 @@ ghost use Rattle.std.specs.List.{list_all};
 ghost use Rattle.ts_core.specs.facts.Facts.{is_within};
 ghost use Rattle.ts_core.specs.store.Marks.{index_of};
 ghost use Rattle.ts_core.specs.plans.Assembly.{representative};
-ghost use Rattle.ts_core.specs.plans.Pieces.{Raw, start_of};
+ghost use Rattle.ts_core.specs.plans.Pieces.{Raw};
 ghost use Rattle.ts_core.specs.queries.Queries.{meets};
 ghost use Rattle.ts_core.specs.store.StoreStates.{total_in};
 ghost use Rattle.ts_store.specs.read.ViewResults.{view_cells_at};
@@ -55,22 +55,6 @@ fn are_met_by<A: Allocator>(
         .all(|condition| is_met_by(rule, cell, condition))
 }
 
-/// Returns true if a cell has data, matches the query, and starts within the range from `from` to `to` and the query's
-/// range.
-fn is_counted<A: Allocator>(
-    rule: &Rule<A>,
-    query: &Query<A>,
-    from: i64,
-    to: i64,
-    start: &i128,
-    cell: &ViewCell<'_, A>,
-) -> bool
-    requires { start.now ≡ start_of rule.now cell.now.cell.index }
-    ensures { result ≡ is_cell_taken query.now.query rule.now from to cell.now }
-{
-    is_candidate(rule, query, from, to, start, cell) && are_met_by(rule, cell, query.conditions())
-}
-
 /// Returns the number of points of a cell, or 0 if the query doesn't match it.
 fn cell_points<A: Allocator + Copy>(
     rule: &Rule<A>,
@@ -84,7 +68,9 @@ fn cell_points<A: Allocator + Copy>(
     ensures { result ≡ (if is_cell_taken query.now.query rule.now from to cell.now then (total_in cell.now.parts).count else 0) }
 {
     let start = bucket_start(rule, from, to, &cell.index);
-    if is_counted(rule, query, from, to, &start, cell) {
+    if is_candidate(rule, query, from, to, &start, cell)
+        && are_met_by(rule, cell, query.conditions())
+    {
         cell.count()
     } else {
         0
