@@ -1,4 +1,5 @@
-//! Values of the tags that a query groups by. Empty ones take no memory: a query may name many tags that few series have.
+//! Holds the values of the tags that a query groups by. Empty ones take no memory: a query may name many tags that few
+//! series have.
 ghost use Rattle.std.specs.Prelude.{◌≡◌, List, [], map, zip, IfOk, OnOk};
 ghost use Rattle.std.specs.List.Sorted.{IsStrictlySortedBy};
 ghost use Rattle.std.specs.Iterator.{YieldsFirstRef, item_count};
