@@ -195,8 +195,8 @@ impl<'a, A: Allocator + Copy> Groups<'a, A> {
         slot_of(&mut self.slots, values)
     }
 
-    /// Returns the slot after that of the last cell's group, or the first slot after the last one. In every bucket, cells
-    /// come in the order of their groups.
+    /// Returns the slot after that of the last cell's group, or the first slot after the last one: in every bucket,
+    /// cells come in the order of their groups.
     fn next_slot(&self) -> usize {
         let next = self.last.saturating_add(1);
         if next < self.slots.len() { next } else { 0 }
