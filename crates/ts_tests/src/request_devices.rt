@@ -1,5 +1,5 @@
-//! Requests over devices that transfer bytes in pieces or fail: a batch of three lines, of which the second is below the
-//! raw mark.
+//! Requests over devices that transfer bytes in pieces or fail: a batch of three lines, of which the second is below
+//! the raw mark.
 
 use crate::stores::{ONE_RULE, at_second, fill_and_retain, store_of};
 use std::alloc::Global;

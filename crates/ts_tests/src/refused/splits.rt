@@ -67,8 +67,8 @@ fn write_refused<'h>(
     (is_written, was_refused)
 }
 
-/// Writes this point in this way; then writes it again, if it was refused. Returns true if nothing was refused, and none
-/// if a write isn't whole.
+/// Writes this point in this way; then writes it again, if it was refused. Returns true if nothing was refused, and
+/// none if a write isn't whole.
 fn is_split<'h>(
     heap: &'h Refusing<Global>,
     store: &mut Store<&'h Refusing<Global>>,
@@ -96,7 +96,8 @@ fn is_split_at_once(heap: &Refusing<Global>, json: Global, left: u64) -> Option<
     }
 }
 
-/// Refuses each request of the write in turn, until none is refused. Returns how many were; none if a write isn't whole.
+/// Refuses each request of the write in turn, until none is refused. Returns how many were; none if a write isn't
+/// whole.
 fn refused_splits(heap: &Refusing<Global>, json: Global) -> Option<u64> {
     for left in 0..MANY {
         if is_split_at_once(heap, json, left)? {
