@@ -50,9 +50,9 @@ tree_meets now script ts reach v = run_meets ts now start_progress (Some (script
 -- ---- from the machine to trees
 
 -- each rest of the state follows the tokens in some tree
-record Viable (now : ℤ) (s : Progress) (read : List Lexeme) : Type 0 where
-  sound : Sound s
-  grows : (q : Rest s.state) → Suits s q → (script : Script)
+pub record Viable (now : ℤ) (s : Progress) (read : List Lexeme) : Type 0 where
+  pub sound : Sound s
+  pub grows : (q : Rest s.state) → Suits s q → (script : Script)
       × ((ts : List Lexeme) (reach : Reach) → ReadsTokens (left now s q) ts reach → ReadsTokens (spell now script) (read ++ ts) reach) × (script_queries now script ≡ all_said now s q)
 
 start_grows : (now : ℤ) (q : Rest states.Statement) → Suits start_progress q → (script : Script)
@@ -88,7 +88,7 @@ run_viable (t ∷ ts) now s n read w e =
     ]
     refl e
 
-viable : (now : ℤ) (n : Progress) (ts : List Lexeme) → run now start_progress ts ≡ Ok n → Viable now n ts
+pub viable : (now : ℤ) (n : Progress) (ts : List Lexeme) → run now start_progress ts ≡ Ok n → Viable now n ts
 viable now n ts e = run_viable ts now start_progress n [] (start_viable now) e
 
 -- ---- queries
@@ -131,7 +131,7 @@ begins_if now s ts w false live =
     (tree.0, inl (subst (λ (xs : List Lexeme). ReadsTokens (spell now tree.0) xs Within) (append-nil ts) (tree.1 [] Within rest.2)))
 
 -- tokens that the machine takes may go on to be a text
-begins : (now : ℤ) (s : Progress) (ts : List Lexeme) → run now start_progress ts ≡ Ok s → MayBecome now ts
+pub begins : (now : ℤ) (s : Progress) (ts : List Lexeme) → run now start_progress ts ≡ Ok s → MayBecome now ts
 begins now s ts e = begins_if now s ts (viable now s ts e) (is_done s.state) refl
 
 -- tokens that may go on to be a text are taken

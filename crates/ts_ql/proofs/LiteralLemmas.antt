@@ -1,7 +1,9 @@
 -- One step over a literal.
-use Rattle.std.proofs.Common.{◌≡◌, ℕ, ◌+◌, ◌*◌, ◌-◌, ◌<◌, ◌≤◌, ◌^◌, Bool, true, false, cond, [], ◌∷◌, ◌++◌, length, get_or, drop, arith, refl, sym, ◌∙◌, Option, Some, None, append-nil, append_assoc}
+use Rattle.std.proofs.Common.{◌≡◌, ℕ, ◌+◌, ◌*◌, ◌-◌, ◌<◌, ◌≤◌, ◌^◌, Bool, true, false, cond, codes, bytes_eq, List, ap, [], ◌∷◌, ◌++◌, length, get_or, drop, arith, refl, sym, ◌∙◌, Option, Some, None, append-nil, append_assoc}
 use Rattle.std.proofs.lemmas.List.{at_drop_more}
-use Rattle.std.proofs.lemmas.Str.{chars_past_char}
+use Rattle.std.proofs.lemmas.Bool.Decides.{same_from_decides, Decides-like}
+use Rattle.std.proofs.lemmas.Slice.Eq.{bytes_eq-Decides}
+use Rattle.std.proofs.lemmas.Str.{chars_past_char, encodes_same, IsUtf8-past_char}
 use Rattle.std.specs.Char.{is_ascii_digit}
 use Rattle.std.specs.Char.{encode_utf8}
 use Rattle.std.specs.Str.{encode_utf8_all, chars, IsUtf8}
@@ -10,7 +12,7 @@ use Rattle.std.proofs.Math.Nat.{mul-le-mul_left}
 use Rattle.ts_core.specs.facts.Durations.{in_64_bits}
 use Rattle.ts_core.specs.facts.Facts.{Text}
 use Rattle.ts_ql.proofs.LexingLemmas.{next_byte}
-use Rattle.ts_ql.specs.Literals.{units_added_up, escape, characters_spelled}
+use Rattle.ts_ql.specs.Literals.{units_added_up, escape, characters_spelled, spelled_chars, text_spelled}
 use Rattle.ts_core.specs.declared.facts.time_unit.TimeUnit.{TimeUnit}
 use Rattle.ts_core.specs.facts.TimeUnits.{unit_begun}
 use Rattle.ts_core.proofs.facts.DurationSteps.{unit_counts}
@@ -68,6 +70,14 @@ unit_past total number text i whole lt is digit past =
 
 -- ---- texts
 
+pub spelled_nothing : text_spelled [] ≡ []
+unfolding text_spelled chars
+spelled_nothing = refl
+
+pub spelled_time : text_spelled (codes "time") ≡ codes "time"
+unfolding text_spelled chars encode_utf8
+spelled_time = refl
+
 -- these bytes, then the text with its escapes resolved
 abbrev pub spelled_on : Text → Bool → Text → Text
 spelled_on before escaped text = before ++ encode_utf8_all (characters_spelled escaped (chars text))
@@ -91,3 +101,36 @@ no_chars (b ∷ bs) e = absurd (omega arith)
 pub spelled_past : (before text : Text) (escaped : Bool) → length text ≡ 0 → spelled_on before escaped text ≡ before
 spelled_past before text true e = rw (no_chars text e) (append-nil before)
 spelled_past before text false e = rw (no_chars text e) (append-nil before)
+
+-- ---- characters of texts
+
+pub chars_plain : (text rest : Text) (c : ℕ) → IsUtf8 text → text ≡ encode_utf8 c ++ rest → (c ≡ 92 → ⊥) → spelled_chars text ≡ c ∷ spelled_chars rest
+chars_plain text rest c utf8 e is = rw (chars_past_char text rest c utf8 e, ne_eqb c 92 is) refl
+
+pub chars_escape : (text middle rest : Text) (c d : ℕ) → IsUtf8 text → text ≡ encode_utf8 c ++ middle → c ≡ 92 → middle ≡ encode_utf8 d ++ rest → spelled_chars text ≡ escape d ∷ spelled_chars rest
+chars_escape text middle rest c d utf8 e is f =
+    let within : IsUtf8 middle = IsUtf8-past_char text middle c utf8 e in
+    rw (chars_past_char text middle c utf8 e, eq-eqb c 92 is, chars_past_char middle rest d within f) refl
+
+pub chars_backslash : (text middle : Text) (c : ℕ) → IsUtf8 text → text ≡ encode_utf8 c ++ middle → c ≡ 92 → length middle ≡ 0 → spelled_chars text ≡ []
+chars_backslash text middle c utf8 e is end = rw (chars_past_char text middle c utf8 e, eq-eqb c 92 is, no_chars middle end) refl
+
+pub chars_end : (text : Text) → length text ≡ 0 → spelled_chars text ≡ []
+chars_end text e = rw (no_chars text e) refl
+
+-- two strings are the same if their characters are
+pub alike : (text other : Text) → bytes_eq (text_spelled text) (text_spelled other) ≡ bytes_eq (spelled_chars text) (spelled_chars other)
+unfolding text_spelled
+alike text other =
+    let cs = spelled_chars text in
+    let ds = spelled_chars other in
+    same_from_decides (bytes_eq (encode_utf8_all cs) (encode_utf8_all ds)) (bytes_eq cs ds)
+    (Decides-like (bytes_eq (encode_utf8_all cs) (encode_utf8_all ds)) (encodes_same cs ds) (ap encode_utf8_all) (bytes_eq-Decides (encode_utf8_all cs) (encode_utf8_all ds)))
+    (bytes_eq-Decides cs ds)
+
+-- one more equal character
+pub alike_more : (cs ds xs ys : List ℕ) (c d : ℕ) → cs ≡ c ∷ xs → ds ≡ d ∷ ys → d ≡ c → bytes_eq cs ds ≡ bytes_eq xs ys
+alike_more cs ds xs ys c d e f same = rw (e, f, same, eq-eqb c c refl) refl
+
+pub alike_not : (cs ds xs ys : List ℕ) (c d : ℕ) → cs ≡ c ∷ xs → ds ≡ d ∷ ys → (d ≡ c → ⊥) → bytes_eq cs ds ≡ false
+alike_not cs ds xs ys c d e f other = rw (e, f, ne_eqb c d (λ same. other (sym same))) refl

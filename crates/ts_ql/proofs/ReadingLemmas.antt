@@ -44,7 +44,7 @@ read_done most i now text s at after said lt reads stepped done =
     let ends : with_rest most i now text at (Ok after) ≡ Ok after.queries = rw done refl in
     sym reads ∙ (read_on_step most i now text s at lt ∙ (ap (with_rest most i now text at) stepped ∙ ends))
 
-not_done : (p : State) → (p ≡ states.Done → ⊥) → is_done p ≡ false
+pub not_done : (p : State) → (p ≡ states.Done → ⊥) → is_done p ≡ false
 not_done states.Done h = absurd (h refl)
 not_done p h = refl
 

@@ -28,7 +28,7 @@ text_says_by now text queries e false is =
     let w = reads_ok now text queries (short (length text) is) e in
     subst (λ (qs : List Select). Says now (tokens_of text) qs) (w.2) (says now w.0 (tokens_of text) w.1 w.3)
 
-text_says : (now : ℤ) (text : Text) (queries : List Select) → queries_of now text ≡ Ok queries → TextSays now text queries
+pub text_says : (now : ℤ) (text : Text) (queries : List Select) → queries_of now text ≡ Ok queries → TextSays now text queries
 text_says now text queries e = text_says_by now text queries e (nat_lt 65536 (length text)) refl
 
 text_fault_by : (now : ℤ) (text : Text) (f : Fault) → queries_of now text ≡ Err f → (b : Bool) → nat_lt 65536 (length text) ≡ b → IsFaultIf b now text f

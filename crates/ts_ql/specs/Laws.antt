@@ -1,13 +1,14 @@
 -- The queries that the tokens of a text mean, or their first error.
 -- (InfluxData 1.8, InfluxQL reference: queries. Own rule: the tokens before the first error begin some valid text.)
-use Rattle.std.specs.Prelude.{◌≡◌, ◌⊎◌, ◌≤◌, ℕ, ◌+◌, ℤ, List, [], ◌∷◌, ◌++◌, length, drop, map, nat_lt, Bool, true, false, Some, None, Result, Ok, Err, ⊤}
+use Rattle.std.specs.Prelude.{◌≡◌, ◌⊎◌, ◌≤◌, ℕ, ◌+◌, ℤ, List, [], ◌∷◌, ◌++◌, length, drop, map, nat_lt, Bool, true, false, Some, None, Result, Ok, Err, ⊤, codes}
 use Rattle.std.specs.Str.Parse.{AllDigits, digits_value}
 use Rattle.ts_core.specs.facts.Facts.{Text}
 use Rattle.ts_core.specs.facts.Durations.{Term, AreTerms, spelled, total}
 use Rattle.ts_ql.specs.declared.fault.ParseError.{ParseError}
 use Rattle.ts_ql.specs.declared.fault.ParseError.TheVariants as errors
 use Rattle.ts_ql.specs.QueryFaults.{Fault, Syntax, as_fault, unexpected, Gives}
-use Rattle.ts_ql.specs.Grammar.{Item, Any, This, Examine, Is, Script}
+use Rattle.ts_ql.specs.Grammar.{Item, Any, This, Examine, Is, Keyword, Of, Script}
+use Rattle.ts_ql.specs.declared.token.Kind.TheVariants as kinds
 use Rattle.ts_ql.specs.Lexing.{duration_end}
 use Rattle.ts_ql.specs.Literals.{magnitude}
 use Rattle.ts_ql.specs.Meanings.{script_queries}
@@ -107,6 +108,27 @@ pub record ReadsText {X : Type 0} (view : X → List Select) (now : ℤ) (text :
   pub queries : (queries : List Select) → TextSays now text queries → Gives view result (Ok queries)
   -- a text with a first error is refused with it
   pub fault : (fault : Fault) → TextFault now text fault → Gives view result (Err fault)
+
+-- A statement with a second column is complete before the first error: a comma stands where a FROM could be, and the end
+-- of a statement after it.
+pub record HasSecondColumn (now : ℤ) (ts : List Lexeme) : Type 0 where
+  pub before : List Lexeme
+  pub comma : Lexeme
+  pub middle : List Lexeme
+  pub end : Lexeme
+  pub behind : List Lexeme
+  pub parts : ts ≡ before ++ comma ∷ (middle ++ end ∷ behind)
+  pub is_comma : Is (Of kinds.Comma) comma
+  pub is_end : Is (Of kinds.Semicolon) end ⊎ Is (Of kinds.End) end
+  pub no_error : MayBecome now (before ++ comma ∷ middle)
+  pub from : Lexeme
+  pub is_from : Is (Keyword (codes "from")) from
+  pub ends_column : MayBecome now (before ++ from ∷ [])
+
+-- A call may run out of memory on this text: it has no error, or the names of columns have to be compared before its
+-- first error is known.
+abbrev pub NeedsMemory : ℤ → Text → Type 0
+NeedsMemory now text = ((queries : List Select) × TextSays now text queries) ⊎ HasSecondColumn now (tokens_of text)
 
 -- each text means queries or has a first error, and exactly one of these
 pub record IsDecided (now : ℤ) (text : Text) : Type 0 where

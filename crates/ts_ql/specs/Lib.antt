@@ -21,6 +21,7 @@ pub mod Laws
 pub mod Counting
 -- Used only by proofs of the code: where tokens end, and the state machine that parses a text.
 pub mod Shapes
+pub mod Lists
 pub mod SelectSteps
 pub mod MomentSteps
 pub mod WhereSteps

@@ -42,6 +42,10 @@ characters_spelled escaped [] = []
 characters_spelled true (c ∷ cs) = escape c ∷ characters_spelled false cs
 characters_spelled false (c ∷ cs) = if c == 92 then characters_spelled true cs else c ∷ characters_spelled false cs
 
+-- the characters of a string with its escapes resolved
+abbrev pub spelled_chars : Text → List ℕ
+spelled_chars text = characters_spelled false (chars text)
+
 -- the string with its escapes resolved
 unfoldable pub text_spelled : Text → Text
 text_spelled text = encode_utf8_all (characters_spelled false (chars text))

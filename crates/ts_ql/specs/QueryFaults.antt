@@ -57,10 +57,15 @@ abbrev pub IsFailure : {Y : Type 0} → ParseError → Result Y Fault → Type 0
 IsFailure errors.OutOfMemory said = Unit {0}
 IsFailure (errors.Fault fault) said = said ≡ Err (as_fault fault)
 
--- a call returned this result and left this state, unless it ran out of memory
-abbrev pub GivesWith : {X S : Type 0} → Result X ParseError → S → Result (X × S) Fault → Type 0
-GivesWith (Ok x) state said = said ≡ Ok (x, state)
-GivesWith (Err e) state said = IsFailure e said
+-- a call that needs no memory returned this result and left this state
+abbrev pub FindsWith : {X S : Type 0} → Result X QlFault → S → Result (X × S) Fault → Type 0
+FindsWith (Ok x) state said = said ≡ Ok (x, state)
+FindsWith (Err fault) state said = said ≡ Err (as_fault fault)
+
+-- a call that needs no memory returned this result
+abbrev pub Finds : {X : Type 0} → Result X QlFault → Result X Fault → Type 0
+Finds (Ok x) said = said ≡ Ok x
+Finds (Err fault) said = said ≡ Err (as_fault fault)
 
 -- a call returned this result, seen through `view`, unless it ran out of memory
 abbrev pub Gives : {X Y : Type 0} → (X → Y) → Result X ParseError → Result Y Fault → Type 0

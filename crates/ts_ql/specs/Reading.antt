@@ -2,10 +2,11 @@
 -- in Laws.
 -- (InfluxData 1.8, InfluxQL: the basic SELECT statement, several statements. Own rule: at most 65,536 bytes and 16
 -- statements.)
-use Rattle.std.specs.Prelude.{◌≡◌, ◌&&◌, ℕ, zero, suc, ℤ, ◌+◌, List, [], ◌∷◌, ◌++◌, length, Bool, true, false, ◌==◌, nat_lt, nat_le, Option, Some, None, Result, Ok, Err, if◌then◌else◌, codes}
+use Rattle.std.specs.Prelude.{◌≡◌, ◌≤◌, ◌&&◌, ℕ, zero, suc, ℤ, ◌+◌, List, [], ◌∷◌, ◌++◌, length, Bool, true, false, ◌==◌, nat_lt, nat_le, Option, Some, None, Result, Ok, Err, if◌then◌else◌, codes}
 use Rattle.ts_core.specs.facts.Facts.{Text}
 use Rattle.ts_ql.specs.declared.filling.FillClause.{FillClause}
 use Rattle.ts_ql.specs.declared.fault.ParseError.{ParseError}
+use Rattle.ts_ql.specs.declared.fault.QlFault.{QlFault}
 use Rattle.ts_ql.specs.declared.moment.Moment.{Moment}
 use Rattle.ts_ql.specs.declared.moment.Range.{Range}
 use Rattle.ts_ql.specs.declared.state.Clause.{Clause}
@@ -15,7 +16,7 @@ use Rattle.ts_ql.specs.declared.state.State.TheVariants as states
 use Rattle.ts_ql.specs.declared.reader.Reader.{Reader}
 use Rattle.ts_ql.specs.declared.token.Kind.{Kind}
 use Rattle.ts_ql.specs.declared.token.Kind.TheVariants as kinds
-use Rattle.ts_ql.specs.QueryFaults.{Fault, Syntax, TooManyStatements, unexpected, IsFailure}
+use Rattle.ts_ql.specs.QueryFaults.{Fault, Syntax, TooManyStatements, as_fault, unexpected, IsFailure}
 use Rattle.ts_ql.specs.GroupSteps.{Grouped, group_step, fill_step}
 use Rattle.ts_ql.specs.Lexing.{token_at}
 use Rattle.ts_ql.specs.Literals.{is_word}
@@ -173,7 +174,7 @@ pub record Progress : Type 0 where
   pub queries : List Select
 
 abbrev pub progress : {A : Type 0} → Reader A → Progress
-progress r = record { state = r.state; count = r.count; start = r.start; builder = builder_state r.builder; queries = r.queries.items }
+progress r = record { state = r.state; count = r.count; start = r.start; builder = builder_state r.builder; queries = r.queries }
 
 abbrev pub start_progress : Progress
 start_progress = record { state = states.Statement; count = 0; start = 0; builder = empty_builder; queries = [] }
@@ -185,6 +186,15 @@ Advance = Result Progress Fault
 abbrev pub LeavesState : Result (Unit {0}) ParseError → Progress → Advance → Type 0
 LeavesState (Ok u) s step = step ≡ Ok s
 LeavesState (Err e) s step = IsFailure e step
+
+-- a call that needs no memory left this state
+abbrev pub FindsState : Result (Unit {0}) QlFault → Progress → Advance → Type 0
+FindsState (Ok u) s step = step ≡ Ok s
+FindsState (Err fault) s step = step ≡ Err (as_fault fault)
+
+-- the end of a statement with two columns or more, whose names are compared
+abbrev pub ComparesNames : Progress → Kind → Type 0
+ComparesNames s kind = (2 ≤ length s.builder.selection.columns) × (is_end kind ≡ true)
 
 -- SELECT begins a statement, and the text may end after one
 abbrev pub begun_at : Kind → Lexeme → Progress → Advance

@@ -1,6 +1,6 @@
 -- Effect of each token in SELECT and FROM.
 -- (InfluxData 1.8, InfluxQL: the basic SELECT statement, AS; FROM.)
-use Rattle.std.specs.Prelude.{List, [], ◌∷◌, ◌++◌, ◌||◌, Option, Some, None, option_map, Result, Ok, Err, if◌then◌else◌, codes, bytes_eq, string_bytes}
+use Rattle.std.specs.Prelude.{List, [], ◌∷◌, ◌++◌, ◌||◌, Option, Some, None, option_map, Result, Ok, Err, if◌then◌else◌, codes, bytes_eq}
 use Rattle.ts_core.specs.facts.Facts.{Text}
 use Rattle.ts_core.specs.declared.queries.value.Function.{Function}
 use Rattle.ts_core.specs.declared.queries.value.Function.TheVariants as functions
@@ -9,6 +9,7 @@ use Rattle.ts_ql.specs.declared.state.State.TheVariants as states
 use Rattle.ts_ql.specs.declared.selection.Selection.{Selection}
 use Rattle.ts_ql.specs.declared.token.Kind.{Kind}
 use Rattle.ts_ql.specs.declared.token.Kind.TheVariants as kinds
+use Rattle.ts_ql.specs.Lists.{spelled}
 use Rattle.ts_ql.specs.QueryFaults.{Fault, unsupported, unexpected}
 use Rattle.ts_ql.specs.Literals.{is_word}
 use Rattle.ts_ql.specs.Selects.{Projection, function_name}
@@ -24,10 +25,10 @@ pub record Selected : Type 0 where
 
 abbrev pub selected : {A : Type 0} → Selection A → Selected
 selected s = record {
-  columns = s.columns.items;
+  columns = s.columns;
   function = s.function;
-  field = option_map string_bytes s.field;
-  measurement = string_bytes s.measurement;
+  field = option_map spelled s.field;
+  measurement = spelled s.measurement;
 }
 
 abbrev pub Selecting : Type 0

@@ -1,6 +1,6 @@
 -- Effect of each token in the conditions of WHERE.
 -- (InfluxData 1.8, InfluxQL: the WHERE clause, tags. Own rule: at most 32 open parentheses.)
-use Rattle.std.specs.Prelude.{ℕ, ◌+◌, ◌-◌, List, [], ◌∷◌, ◌++◌, Bool, true, false, ◌==◌, nat_lt, Result, Ok, Err, if◌then◌else◌, codes, string_bytes}
+use Rattle.std.specs.Prelude.{ℕ, ◌+◌, ◌-◌, List, [], ◌∷◌, ◌++◌, Bool, true, false, ◌==◌, nat_lt, Result, Ok, Err, if◌then◌else◌, codes}
 use Rattle.ts_core.specs.facts.Facts.{Text}
 use Rattle.ts_core.specs.queries.Queries.{Condition}
 use Rattle.ts_ql.specs.declared.filter.WhereClause.{WhereClause}
@@ -8,6 +8,7 @@ use Rattle.ts_ql.specs.declared.state.State.{State}
 use Rattle.ts_ql.specs.declared.state.State.TheVariants as states
 use Rattle.ts_ql.specs.declared.token.Kind.{Kind}
 use Rattle.ts_ql.specs.declared.token.Kind.TheVariants as kinds
+use Rattle.ts_ql.specs.Lists.{spelled}
 use Rattle.ts_ql.specs.QueryFaults.{Fault, unsupported, unexpected}
 use Rattle.ts_ql.specs.Literals.{is_word, text_spelled}
 use Rattle.ts_ql.specs.Tokens.{Lexeme}
@@ -22,8 +23,8 @@ pub record Filtered : Type 0 where
 
 abbrev pub filtered : {A : Type 0} → WhereClause A → Filtered
 filtered f = record {
-  conditions = f.conditions.items;
-  tag = string_bytes f.tag;
+  conditions = f.conditions;
+  tag = spelled f.tag;
   negated = f.negated;
   depth = f.depth;
 }

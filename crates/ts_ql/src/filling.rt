@@ -1,11 +1,11 @@
 //! Parser of the FILL clause.
 ghost use Rattle.std.specs.Prelude.{◌≡◌};
-ghost use Rattle.ts_ql.specs.QueryFaults.{GivesWith};
+ghost use Rattle.ts_ql.specs.QueryFaults.{FindsWith};
 ghost use Rattle.ts_ql.specs.GroupSteps.{chosen, with_number, fill_step, no_fill};
 ghost use Rattle.ts_ql.specs.Literals.{literal};
 ghost use Rattle.ts_ql.specs.Tokens.{lexeme};
 
-use crate::fault::{ParseError, QlFaultKind};
+use crate::fault::{QlFault, QlFaultKind};
 use crate::literal::{is_word, literal};
 use crate::state::State;
 use crate::token::{Kind, Token};
@@ -31,8 +31,8 @@ impl FillClause {
     }
 
     /// Sets the fill option; returns the next state.
-    fn choose<'a>(&mut self, fill: Fill) -> Result<State, ParseError<'a>>
-        ensures { GivesWith result self.new (chosen fill self.old) }
+    fn choose<'a>(&mut self, fill: Fill) -> Result<State, QlFault<'a>>
+        ensures { FindsWith result self.new (chosen fill self.old) }
     {
         self.fill = fill;
         Ok(State::FillClose)
@@ -45,15 +45,15 @@ impl FillClause {
         first: usize,
         negative: bool,
         token: &Token<'a>,
-    ) -> Result<State, ParseError<'a>>
-        ensures { GivesWith result self.new (with_number first self.old (literal negative token.now.text.now)) }
+    ) -> Result<State, QlFault<'a>>
+        ensures { FindsWith result self.new (with_number first self.old (literal negative token.now.text.now)) }
     {
         match literal(negative, token.text) {
             Some(number) => {
                 self.fill = Fill::Number(number);
                 Ok(State::FillClose)
             }
-            None => Err(ParseError::Fault(QlFaultKind::OutOfRange.at(first))),
+            None => Err(QlFaultKind::OutOfRange.at(first)),
         }
     }
 
@@ -63,8 +63,8 @@ impl FillClause {
         &mut self,
         state: State,
         token: &Token<'a>,
-    ) -> Result<State, ParseError<'a>>
-        ensures { GivesWith result self.new (fill_step state (lexeme token.now) self.old) }
+    ) -> Result<State, QlFault<'a>>
+        ensures { FindsWith result self.new (fill_step state (lexeme token.now) self.old) }
     {
         match (state, token.kind) {
             (State::FillOpen, Kind::LeftParen) => Ok(State::FillOption),
@@ -84,7 +84,7 @@ impl FillClause {
             (State::FillOption, Kind::Integer) => self.parse_number(token.start, false, token),
             (State::FillMinus, Kind::Integer) => self.parse_number(self.first, true, token),
             (State::FillClose, Kind::RightParen) => Ok(State::AfterFill),
-            _ => Err(ParseError::Fault(token.unexpected())),
+            _ => Err(token.unexpected()),
         }
     }
 }

@@ -1,19 +1,16 @@
 //! Parser of the GROUP BY clause: the interval with its offset, and the tags.
-ghost use Rattle.std.specs.Prelude.{◌≡◌, IfOk, false};
-ghost use Rattle.std.specs.List.Sorted.{IsStrictlySortedBy};
-ghost use Rattle.ts_core.specs.facts.Facts.{text_cmp};
-ghost use Rattle.ts_ql.specs.QueryFaults.{GivesWith};
+ghost use Rattle.std.specs.Prelude.{◌≡◌, false};
+ghost use Rattle.ts_ql.specs.QueryFaults.{FindsWith};
 ghost use Rattle.ts_ql.specs.GroupSteps.{HasInterval, empty_groups, item_at, with_interval, with_offset, group_step};
 ghost use Rattle.ts_ql.specs.Literals.{literal};
-ghost use Rattle.ts_ql.specs.Selects.{texts};
 ghost use Rattle.ts_ql.specs.Tokens.{lexeme};
 
-use crate::fault::{ParseError, QlFaultKind};
-use crate::literal::{is_word, literal, text_spelled};
+use crate::fault::{QlFault, QlFaultKind};
+use crate::lists::Tags;
+use crate::literal::{is_word, literal};
 use crate::state::State;
 use crate::token::{Kind, Token};
-use std::alloc::{AllocError, Allocator};
-use std::collections::BTreeSet;
+use std::alloc::Allocator;
 use std::marker::Model;
 use ts_core::Buckets;
 
@@ -23,17 +20,15 @@ pub(crate) struct GroupByClause<A: Allocator> {
     buckets: Option<Buckets>,
     /// Offset in the text of the first token of the bucket offset.
     first: usize,
-    /// Group tags, a sorted set.
-    tags: BTreeSet<String<A>, A>,
+    tags: Tags<A>,
 }
 
 impl<A: Allocator> Model for GroupByClause<A> {
     ghost use Rattle.ts_ql.specs.GroupSteps.{Grouped, HasInterval};
-    ghost use Rattle.ts_ql.specs.Selects.{texts};
 
     ghost Value = { Grouped };
 
-    ghost view = { λ g. record { buckets = g.buckets; first = g.first; tags = texts g.tags.keys } };
+    ghost view = { λ g. record { buckets = g.buckets; first = g.first; tags = g.tags } };
 
     ghost invariant = { λ g. HasInterval g.buckets };
 }
@@ -46,28 +41,27 @@ impl<A: Allocator + Copy> GroupByClause<A> {
         GroupByClause {
             buckets: None,
             first: 0,
-            tags: BTreeSet::new(alloc),
+            tags: Tags::new(alloc),
         }
     }
 
     /// Consumes the column that an item begins with; returns the next state. Fails at a second `time`.
-    fn parse_column<'a>(&mut self, alloc: A, token: &Token<'a>) -> Result<State, ParseError<'a>>
-        ensures { GivesWith result self.new (item_at (lexeme token.now) self.old) }
+    fn parse_column<'a>(&mut self, alloc: A, token: &Token<'a>) -> Result<State, QlFault<'a>>
+        ensures { FindsWith result self.new (item_at (lexeme token.now) self.old) }
     {
         if token.is_time_column() {
             return match self.buckets {
                 None => Ok(State::TimeOpen),
-                Some(_) => Err(ParseError::Fault(token.unexpected())),
+                Some(_) => Err(token.unexpected()),
             };
         }
-        let name = text_spelled(alloc, token.text)?;
-        self.tags.insert(name)?;
+        self.tags.insert(alloc, token.text);
         Ok(State::AfterTag)
     }
 
     /// Consumes the interval; returns the next state. Fails with `OutOfRange`.
-    fn parse_interval<'a>(&mut self, token: &Token<'a>) -> Result<State, ParseError<'a>>
-        ensures { GivesWith result self.new (with_interval (lexeme token.now) self.old (literal false token.now.text.now)) }
+    fn parse_interval<'a>(&mut self, token: &Token<'a>) -> Result<State, QlFault<'a>>
+        ensures { FindsWith result self.new (with_interval (lexeme token.now) self.old (literal false token.now.text.now)) }
     {
         match literal(false, token.text) {
             Some(interval) if interval >= 1 => {
@@ -77,7 +71,7 @@ impl<A: Allocator + Copy> GroupByClause<A> {
                 });
                 Ok(State::IntervalEnd)
             }
-            _ => Err(ParseError::Fault(QlFaultKind::OutOfRange.at(token.start))),
+            _ => Err(QlFaultKind::OutOfRange.at(token.start)),
         }
     }
 
@@ -88,8 +82,8 @@ impl<A: Allocator + Copy> GroupByClause<A> {
         first: usize,
         negative: bool,
         token: &Token<'a>,
-    ) -> Result<State, ParseError<'a>>
-        ensures { GivesWith result self.new (with_offset first self.old (literal negative token.now.text.now)) }
+    ) -> Result<State, QlFault<'a>>
+        ensures { FindsWith result self.new (with_offset first self.old (literal negative token.now.text.now)) }
     {
         match literal(negative, token.text) {
             Some(offset) => {
@@ -99,7 +93,7 @@ impl<A: Allocator + Copy> GroupByClause<A> {
                 };
                 Ok(State::OffsetEnd)
             }
-            None => Err(ParseError::Fault(QlFaultKind::OutOfRange.at(first))),
+            None => Err(QlFaultKind::OutOfRange.at(first)),
         }
     }
 
@@ -110,8 +104,8 @@ impl<A: Allocator + Copy> GroupByClause<A> {
         alloc: A,
         state: State,
         token: &Token<'a>,
-    ) -> Result<State, ParseError<'a>>
-        ensures { GivesWith result self.new (group_step state (lexeme token.now) self.old) }
+    ) -> Result<State, QlFault<'a>>
+        ensures { FindsWith result self.new (group_step state (lexeme token.now) self.old) }
     {
         match (state, token.kind) {
             (State::GroupBy, Kind::Keyword) if is_word(token.text, "by") => Ok(State::Item),
@@ -129,7 +123,7 @@ impl<A: Allocator + Copy> GroupByClause<A> {
             (State::AfterTag, Kind::DoubleColon) => Ok(State::GroupTagType),
             (State::GroupTagType, Kind::Word) if is_word(token.text, "tag") => Ok(State::AfterItem),
             (State::AfterTag | State::AfterItem, Kind::Comma) => Ok(State::Item),
-            _ => Err(ParseError::Fault(token.unexpected())),
+            _ => Err(token.unexpected()),
         }
     }
 
@@ -141,13 +135,17 @@ impl<A: Allocator + Copy> GroupByClause<A> {
         self.buckets
     }
 
-    /// Returns the tags in byte order, without duplicates.
-    pub(crate) fn into_tags(self, alloc: A) -> Result<Vec<String<A>, A>, AllocError>
-        ensures value { IfOk result (λ tags. texts tags.items ≡ self.tags) }
-        ensures order { IfOk result (λ tags. IsStrictlySortedBy text_cmp (texts tags.items)) }
+    /// Returns the tags.
+    pub(crate) fn tags(&self) -> &Tags<A>
+        ensures { result.now ≡ self.now.tags }
     {
-        // For the proof: the tags have this order.
-        let _order = self.tags.iter();
-        self.tags.into_iter().collect(alloc)
+        &self.tags
+    }
+
+    /// Returns the tags.
+    pub(crate) fn into_tags(self) -> Tags<A>
+        ensures { result ≡ self.tags }
+    {
+        self.tags
     }
 }

@@ -22,6 +22,7 @@ mod filling;
 mod filter;
 mod groups;
 mod keywords;
+mod lists;
 mod literal;
 mod moment;
 mod number;

@@ -1,13 +1,16 @@
 //! Values of literals: numbers, durations and strings.
-ghost use Rattle.std.specs.Prelude.{◌≡◌, ◌-◌, ◌<◌, IfOk, pos, string_bytes};
+ghost use Rattle.std.specs.Prelude.{◌≡◌, ◌-◌, ◌<◌, [], ◌∷◌, length, IfOk, IfSome, pos, string_bytes, bytes_eq};
 ghost use Rattle.std.specs.Char.{is_ascii_digit};
-ghost use Rattle.std.specs.Str.{str_eq_ignore_ascii_case};
+ghost use Rattle.std.specs.Option.{MatchOption};
+ghost use Rattle.std.specs.Str.{IsUtf8, str_eq_ignore_ascii_case};
+ghost use Rattle.std.specs.Str.Iter.{chars_rest};
 ghost use Rattle.ts_core.specs.facts.Durations.{in_64_bits};
-ghost use Rattle.ts_ql.specs.Literals.{magnitude, literal, escape, text_spelled};
+ghost use Rattle.ts_ql.specs.Literals.{magnitude, literal, escape, spelled_chars, text_spelled};
 ghost use Rattle.ts_ql.specs.DurationUnits.{nanoseconds_of_unit};
 
 use crate::unit::nanoseconds_of_unit;
 use std::alloc::{AllocError, Allocator};
+use std::str::Chars;
 use ts_core::{byte_at, with_digit, with_units};
 
 /// Returns the value of an integer, or of a duration in nanoseconds; `None` from 2^64 on.
@@ -74,6 +77,35 @@ pub(crate) fn text_spelled<A: Allocator + Copy>(
         }
     }
     Ok(spelled)
+}
+
+/// Returns the next character of a string with its escapes resolved.
+fn next_spelled(chars: &mut Chars<'_>) -> Option<char>
+    requires { IsUtf8 (chars_rest chars.old) }
+    ensures rest { IsUtf8 (chars_rest chars.new) }
+    ensures shorter { IfSome result (λ _. length (chars_rest chars.new) < length (chars_rest chars.old)) }
+    ensures value { MatchOption result (spelled_chars (chars_rest chars.old) ≡ []) (λ c. spelled_chars (chars_rest chars.old) ≡ c ∷ spelled_chars (chars_rest chars.new)) }
+{
+    let c = chars.next()?;
+    if c != '\\' {
+        return Some(c);
+    }
+    Some(escape(chars.next()?))
+}
+
+/// Returns true if two strings are the same with their escapes resolved.
+pub(crate) fn is_spelled_alike(text: &str, other: &str) -> bool
+    ensures { result ≡ bytes_eq (text_spelled text.now) (text_spelled other.now) }
+{
+    let mut chars = text.chars();
+    let mut others = other.chars();
+    while let Some(c) = next_spelled(&mut chars) {
+        match next_spelled(&mut others) {
+            Some(other) if other == c => {}
+            _ => return false,
+        }
+    }
+    next_spelled(&mut others).is_none()
 }
 
 /// Returns true if the text is the word, ignoring ASCII case.

@@ -1,13 +1,13 @@
 //! Parser of time expressions in WHERE, and the time range that their comparisons leave.
 ghost use Rattle.std.specs.Prelude.{◌≡◌, ◌+◌, ◌≤◌, ◌^◌, false, unsigned_abs};
-ghost use Rattle.ts_ql.specs.QueryFaults.{Gives, GivesWith};
+ghost use Rattle.ts_ql.specs.QueryFaults.{Finds, FindsWith};
 ghost use Rattle.ts_ql.specs.Literals.{literal};
 ghost use Rattle.ts_ql.specs.MomentSteps.{CanAddMore, based, later_by, earlier_by, compared, moment_step, moment_time, no_moment, narrowed};
 ghost use Rattle.ts_ql.specs.Ranges.{unbounded, from_on, before, bounded};
 ghost use Rattle.ts_ql.specs.Tokens.{lexeme};
 
 use crate::date::timestamp_of;
-use crate::fault::{ParseError, QlFaultKind};
+use crate::fault::{QlFault, QlFaultKind};
 use crate::literal::{is_word, literal};
 use crate::state::State;
 use crate::token::{Kind, Token};
@@ -54,8 +54,8 @@ impl Moment {
 
     /// Starts the expression at offset `first` with its first value; returns the next state. Fails with `OutOfRange` at
     /// `first` if there is no value.
-    fn begin<'a>(&mut self, first: usize, value: Option<i128>) -> Result<State, ParseError<'a>>
-        ensures { GivesWith result self.new (based first self.old value) }
+    fn begin<'a>(&mut self, first: usize, value: Option<i128>) -> Result<State, QlFault<'a>>
+        ensures { FindsWith result self.new (based first self.old value) }
     {
         match value {
             Some(value) => {
@@ -63,37 +63,37 @@ impl Moment {
                 self.total = value;
                 Ok(State::AfterMoment)
             }
-            None => Err(ParseError::Fault(QlFaultKind::OutOfRange.at(first))),
+            None => Err(QlFaultKind::OutOfRange.at(first)),
         }
     }
 
     /// Adds a duration; returns the next state. Fails with `OutOfRange` at the token.
-    fn add<'a>(&mut self, token: &Token<'a>) -> Result<State, ParseError<'a>>
+    fn add<'a>(&mut self, token: &Token<'a>) -> Result<State, QlFault<'a>>
         requires { unsigned_abs self.old.total ≤ 2 ^ 126 + 2 ^ 64 }
-        ensures { GivesWith result self.new (later_by (lexeme token.now) self.old (literal false token.now.text.now)) }
+        ensures { FindsWith result self.new (later_by (lexeme token.now) self.old (literal false token.now.text.now)) }
     {
         let Some(value) = literal(false, token.text) else {
-            return Err(ParseError::Fault(QlFaultKind::OutOfRange.at(token.start)));
+            return Err(QlFaultKind::OutOfRange.at(token.start));
         };
         self.total += i128::from(value);
         Ok(State::AfterMoment)
     }
 
     /// Subtracts a duration; returns the next state. Fails with `OutOfRange` at the token.
-    fn subtract<'a>(&mut self, token: &Token<'a>) -> Result<State, ParseError<'a>>
+    fn subtract<'a>(&mut self, token: &Token<'a>) -> Result<State, QlFault<'a>>
         requires { unsigned_abs self.old.total ≤ 2 ^ 126 + 2 ^ 64 }
-        ensures { GivesWith result self.new (earlier_by (lexeme token.now) self.old (literal false token.now.text.now)) }
+        ensures { FindsWith result self.new (earlier_by (lexeme token.now) self.old (literal false token.now.text.now)) }
     {
         let Some(value) = literal(false, token.text) else {
-            return Err(ParseError::Fault(QlFaultKind::OutOfRange.at(token.start)));
+            return Err(QlFaultKind::OutOfRange.at(token.start));
         };
         self.total -= i128::from(value);
         Ok(State::AfterMoment)
     }
 
     /// Sets the comparison operator; returns the next state.
-    fn compare<'a>(&mut self, comparison: Comparison) -> Result<State, ParseError<'a>>
-        ensures { GivesWith result self.new (compared comparison self.old) }
+    fn compare<'a>(&mut self, comparison: Comparison) -> Result<State, QlFault<'a>>
+        ensures { FindsWith result self.new (compared comparison self.old) }
     {
         self.comparison = comparison;
         Ok(State::Moment)
@@ -106,9 +106,9 @@ impl Moment {
         now: Time,
         state: State,
         token: &Token<'a>,
-    ) -> Result<State, ParseError<'a>>
+    ) -> Result<State, QlFault<'a>>
         requires { CanAddMore now self.old }
-        ensures { GivesWith result self.new (moment_step now state (lexeme token.now) self.old) }
+        ensures { FindsWith result self.new (moment_step now state (lexeme token.now) self.old) }
     {
         let now = i128::from(now.nanos());
         match (state, token.kind) {
@@ -144,20 +144,20 @@ impl Moment {
             (State::AfterMoment, Kind::Minus) => Ok(State::MomentLess),
             (State::MomentPlus, Kind::Duration) => self.add(token),
             (State::MomentLess, Kind::Duration) => self.subtract(token),
-            _ => Err(ParseError::Fault(token.unexpected())),
+            _ => Err(token.unexpected()),
         }
     }
 
     /// Returns the value as a time. Fails with `OutOfRange` at the expression if it isn't a valid time.
-    fn time<'a>(&self) -> Result<Time, ParseError<'a>>
-        ensures { Gives (λ t. t) result (moment_time self.now) }
+    fn time<'a>(&self) -> Result<Time, QlFault<'a>>
+        ensures { Finds result (moment_time self.now) }
     {
         match i64::try_from(self.total) {
             Ok(nanos) => match Time::new(nanos) {
                 Some(time) => Ok(time),
-                None => Err(ParseError::Fault(QlFaultKind::OutOfRange.at(self.first))),
+                None => Err(QlFaultKind::OutOfRange.at(self.first)),
             },
-            Err(_) => Err(ParseError::Fault(QlFaultKind::OutOfRange.at(self.first))),
+            Err(_) => Err(QlFaultKind::OutOfRange.at(self.first)),
         }
     }
 }
@@ -226,8 +226,8 @@ impl Range {
 
     /// Narrows the range by a complete time expression. Fails with `OutOfRange` if that isn't a valid time.
     #[tactic(auto, unfolding(crate::specs::MomentSteps::narrowed))]
-    pub(crate) fn narrowed<'a>(self, moment: &Moment) -> Result<Range, ParseError<'a>>
-        ensures { Gives (λ r. r) result (narrowed moment.now self) }
+    pub(crate) fn narrowed<'a>(self, moment: &Moment) -> Result<Range, QlFault<'a>>
+        ensures { Finds result (narrowed moment.now self) }
     {
         let time = moment.time()?;
         Ok(self.bounded(moment.comparison, time))

@@ -1,12 +1,13 @@
 //! `parse`: a state machine that parses a text token by token, statement by statement.
 ghost use Rattle.std.specs.Prelude.{◌≡◌, ◌≤◌, ◌&&◌, length};
 ghost use Rattle.ts_ql.specs.QueryFaults.{Gives};
-ghost use Rattle.ts_ql.specs.Laws.{ReadsText, IsDecided, LiteralsCount, DurationsEndLast};
+ghost use Rattle.ts_ql.specs.Laws.{ReadsText, NeedsMemory, IsDecided, LiteralsCount, DurationsEndLast};
 ghost use Rattle.ts_ql.specs.MomentSteps.{CanAddMore};
-ghost use Rattle.ts_ql.specs.Reading.{next_clause, may_end, is_end, after_end, progress, start_progress, LeavesState, begun, ended, step, queries_of};
+ghost use Rattle.ts_ql.specs.Reading.{next_clause, may_end, is_end, after_end, progress, start_progress, LeavesState, FindsState, ComparesNames, begun, ended, step, queries_of};
 ghost use Rattle.ts_ql.specs.Tokens.{lexeme};
 
-use crate::fault::{ParseError, QlFaultKind};
+use crate::fault::{ParseError, QlFault, QlFaultKind};
+use crate::lists::Queries;
 use crate::literal::is_word;
 use crate::query::Query;
 use crate::state::State;
@@ -18,15 +19,15 @@ use ts_core::Time;
 
 /// Parser of a text.
 #[derive(Drop)]
-pub(crate) struct Reader<A: Allocator> {
+pub(crate) struct Reader<'a, A: Allocator> {
     pub state: State,
     /// Number of statements begun.
     pub count: u8,
     /// Offset of the current statement.
     pub start: usize,
-    pub builder: StatementBuilder<A>,
+    pub builder: StatementBuilder<'a, A>,
     /// Queries of the statements before it.
-    pub queries: Vec<Query<A>, A>,
+    pub queries: Queries<A>,
 }
 
 /// Returns the first state of the clause that the token opens, if it opens one.
@@ -75,9 +76,9 @@ fn after_end(kind: Kind) -> State
     }
 }
 
-impl<A: Allocator + Copy> Reader<A> {
+impl<'a, A: Allocator + Copy> Reader<'a, A> {
     /// Creates the parser in its initial state.
-    fn new(alloc: A) -> Reader<A>
+    fn new(alloc: A) -> Reader<'a, A>
         ensures { progress result ≡ start_progress }
     {
         Reader {
@@ -85,22 +86,22 @@ impl<A: Allocator + Copy> Reader<A> {
             count: 0,
             start: 0,
             builder: StatementBuilder::new(alloc),
-            queries: Vec::new(alloc),
+            queries: Queries::new(alloc),
         }
     }
 
     /// Begins a statement at SELECT, or finishes at the end of the text. Fails with `TooManyStatements` at the 17th.
     #[tactic(auto, unfolding(crate::specs::Reading::begun))]
-    fn begin<'a>(&mut self, token: &Token<'a>) -> Result<(), ParseError<'a>>
-        ensures { LeavesState result (progress self.new) (begun (lexeme token.now) (progress self.old)) }
+    fn begin(&mut self, token: &Token<'a>) -> Result<(), QlFault<'a>>
+        ensures { FindsState result (progress self.new) (begun (lexeme token.now) (progress self.old)) }
     {
         match token.kind {
             Kind::Keyword => {
                 if !is_word(token.text, "select") {
-                    return Err(ParseError::Fault(token.unexpected()));
+                    return Err(token.unexpected());
                 }
                 if self.count >= 16 {
-                    return Err(ParseError::Fault(QlFaultKind::TooManyStatements.at(token.start)));
+                    return Err(QlFaultKind::TooManyStatements.at(token.start));
                 }
                 self.state = State::Function;
                 self.count += 1;
@@ -109,22 +110,23 @@ impl<A: Allocator + Copy> Reader<A> {
             }
             Kind::End => {
                 if self.count == 0 {
-                    return Err(ParseError::Fault(token.unexpected()));
+                    return Err(token.unexpected());
                 }
                 self.state = State::Done;
                 Ok(())
             }
-            _ => Err(ParseError::Fault(token.unexpected())),
+            _ => Err(token.unexpected()),
         }
     }
 
     /// Finishes the current statement and appends its query.
-    fn end<'a>(&mut self, alloc: A, now: Time, kind: Kind) -> Result<(), ParseError<'a>>
-        ensures { LeavesState result (progress self.new) (ended now kind (progress self.old)) }
+    fn end(&mut self, alloc: A, now: Time, kind: Kind) -> Result<(), ParseError<'a>>
+        ensures value { LeavesState result (progress self.new) (ended now kind (progress self.old)) }
+        ensures memory { result ≡ Err ParseError.OutOfMemory → 2 ≤ length (progress self.old).builder.selection.columns }
     {
+        let (buckets, span) = self.builder.check(alloc, self.start, now)?;
         let builder = mem::replace(&mut self.builder, StatementBuilder::new(alloc));
-        let query = builder.query(alloc, self.start, now)?;
-        self.queries.push(query)?;
+        self.queries.push(alloc, builder, buckets, span);
         let state = after_end(kind);
         self.state = state;
         Ok(())
@@ -132,25 +134,27 @@ impl<A: Allocator + Copy> Reader<A> {
 
     /// Consumes the next token.
     #[tactic(auto, unfolding(crate::specs::Reading::step))]
-    fn parse_token<'a>(
-        &mut self,
-        alloc: A,
-        now: Time,
-        token: &Token<'a>,
-    ) -> Result<(), ParseError<'a>>
+    fn parse_token(&mut self, alloc: A, now: Time, token: &Token<'a>) -> Result<(), ParseError<'a>>
         requires { CanAddMore now self.old.builder.moment }
-        ensures { LeavesState result (progress self.new) (step now (lexeme token.now) (progress self.old)) }
+        ensures value { LeavesState result (progress self.new) (step now (lexeme token.now) (progress self.old)) }
+        ensures memory { result ≡ Err ParseError.OutOfMemory → ComparesNames (progress self.old) token.now.kind }
     {
-        self.state = self.builder.finish_time(self.state, token.kind)?;
+        self.state = self
+            .builder
+            .finish_time(self.state, token.kind)
+            .map_err(ParseError::Fault)?;
         if let State::Statement = self.state {
-            return self.begin(token);
+            return self.begin(token).map_err(ParseError::Fault);
         }
         if ends(self.state, token.kind) {
             return self.end(alloc, now, token.kind);
         }
         self.state = match next_clause(self.state, token) {
             Some(next) => next,
-            None => self.builder.parse_token(alloc, now, self.state, token)?,
+            None => self
+                .builder
+                .parse_token(alloc, now, self.state, token)
+                .map_err(ParseError::Fault)?,
         };
         Ok(())
     }
@@ -163,7 +167,8 @@ fn read<A: Allocator + Copy>(
     now: Time,
 ) -> Result<Vec<Query<A>, A>, ParseError<'_>>
     requires { length text.now ≤ 65536 }
-    ensures { Gives (λ v. v.items) result (queries_of now text.now) }
+    ensures reading { Gives (λ v. v.items) result (queries_of now text.now) }
+    ensures memory { result ≡ Err ParseError.OutOfMemory → NeedsMemory now text.now }
 {
     let mut reader = Reader::new(alloc);
     let mut at = 0;
@@ -171,7 +176,7 @@ fn read<A: Allocator + Copy>(
         let token = Token::at(text, at);
         reader.parse_token(alloc, now, &token)?;
         if let State::Done = reader.state {
-            return Ok(reader.queries);
+            return Ok(reader.queries.into_vec()?);
         }
         at = token.end;
     }
@@ -187,6 +192,7 @@ pub fn parse<A: Allocator + Copy>(
     now: Time,
 ) -> Result<Vec<Query<A>, A>, ParseError<'_>>
     ensures reading { ReadsText (λ v. v.items) now text.now result }
+    ensures memory { result ≡ Err ParseError.OutOfMemory → NeedsMemory now text.now }
     ensures decided { IsDecided now text.now }
     ensures literals { LiteralsCount }
     ensures ends { DurationsEndLast }

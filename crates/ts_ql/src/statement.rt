@@ -1,9 +1,10 @@
 //! Turns a complete statement into a query.
-ghost use Rattle.std.specs.Prelude.{◌≡◌, ◌≤ℤ◌, IfOk, IfSome, false, int_le, int_lt, pos, [], option_map, string_bytes};
+ghost use Rattle.std.specs.Prelude.{◌≡◌, ◌≤◌, ◌≤ℤ◌, IfOk, IfSome, false, int_le, int_lt, pos, [], length, option_map, string_bytes};
 ghost use Rattle.std.specs.Option.{unwrap_or};
 ghost use Rattle.ts_core.specs.facts.Times.{least_time};
 ghost use Rattle.ts_ql.specs.BucketLimits.{IsLimited};
-ghost use Rattle.ts_ql.specs.QueryFaults.{Gives, GivesWith, option_as_fault};
+ghost use Rattle.ts_ql.specs.QueryFaults.{Gives, FindsWith, option_as_fault};
+ghost use Rattle.ts_ql.specs.Lists.{spelled};
 ghost use Rattle.ts_ql.specs.MomentSteps.{CanAddMore};
 ghost use Rattle.ts_ql.specs.Reading.{finish_time_step, builder_step};
 ghost use Rattle.ts_ql.specs.Tokens.{lexeme};
@@ -14,38 +15,24 @@ use crate::fault::{ParseError, QlFault, QlFaultKind};
 use crate::filling::FillClause;
 use crate::filter::{WhereClause, after_term};
 use crate::groups::GroupByClause;
+use crate::literal::text_spelled;
 use crate::moment::{Moment, Range};
-use crate::query::{Projection, Query, QueryParts, Span};
+use crate::query::{Query, QueryParts, Span};
 use crate::selection::Selection;
 use crate::state::{Clause, State};
 use crate::token::{Kind, Token};
 use std::alloc::{AllocError, Allocator};
-use std::collections::BTreeSet;
 use ts_core::{Buckets, LEAST_TIME, Time};
 
 /// Builder of a statement.
 #[derive(Drop)]
-pub(crate) struct StatementBuilder<A: Allocator> {
-    pub selection: Selection<A>,
-    pub filter: WhereClause<A>,
+pub(crate) struct StatementBuilder<'a, A: Allocator> {
+    pub selection: Selection<'a, A>,
+    pub filter: WhereClause<'a, A>,
     pub moment: Moment,
     pub range: Range,
     pub groups: GroupByClause<A>,
     pub filling: FillClause,
-}
-
-/// Returns true if two columns have the same name, or one is named `time`.
-fn repeats<A: Allocator + Copy>(alloc: A, columns: &[Projection<A>]) -> Result<bool, AllocError>
-    ensures { IfOk result (λ found. found ≡ repeats columns.now) }
-{
-    let mut names = BTreeSet::new(alloc);
-    for column in columns {
-        let name = column.name();
-        if name == "time" || !names.insert(name)? {
-            return Ok(true);
-        }
-    }
-    Ok(false)
 }
 
 /// Returns the time range, which starts at the lower bound; `None` without one. The default upper bound is `now`,
@@ -102,19 +89,17 @@ fn span_fault<'a>(start: usize, buckets: Buckets, span: &Span) -> Option<QlFault
     }
 }
 
-/// Returns the text, or the empty one without any.
-fn or_empty<A: Allocator>(alloc: A, text: Option<String<A>>) -> String<A>
-    ensures { string_bytes result ≡ unwrap_or (option_map string_bytes text) [] }
+/// Returns the text of a field, or the empty one without any.
+#[tactic(auto, using(crate::proofs::LiteralLemmas::spelled_nothing))]
+fn field_text<A: Allocator + Copy>(alloc: A, field: Option<&str>) -> Result<String<A>, AllocError>
+    ensures { IfOk result (λ text. string_bytes text ≡ unwrap_or (option_map spelled field.entry) []) }
 {
-    match text {
-        Some(text) => text,
-        None => String::new(alloc),
-    }
+    text_spelled(alloc, field.unwrap_or(""))
 }
 
-impl<A: Allocator + Copy> StatementBuilder<A> {
+impl<'a, A: Allocator + Copy> StatementBuilder<'a, A> {
     /// Creates the builder in its initial state.
-    pub(crate) fn new(alloc: A) -> StatementBuilder<A>
+    pub(crate) fn new(alloc: A) -> StatementBuilder<'a, A>
         ensures { builder_state result ≡ empty_builder }
     {
         StatementBuilder {
@@ -127,18 +112,22 @@ impl<A: Allocator + Copy> StatementBuilder<A> {
         }
     }
 
-    /// Finishes the statement, which begins at offset `start`. Fails at `start` with `RepeatedColumn`, `OutOfProfile`
-    /// without GROUP BY time, `NoLowerBound`, or an error of the buckets.
+    /// Checks the statement, which begins at offset `start`; returns its buckets and its range. Fails at `start` with
+    /// `RepeatedColumn`, `OutOfProfile` without GROUP BY time, `NoLowerBound`, or an error of the buckets. Needs memory
+    /// only for two columns.
     #[tactic(auto, unfolding(crate::specs::Statements::statement_query))]
-    pub(crate) fn query<'a>(
-        self,
+    pub(crate) fn check(
+        &self,
         alloc: A,
         start: usize,
         now: Time,
-    ) -> Result<Query<A>, ParseError<'a>>
-        ensures { Gives (λ q. q) result (statement_query start now (meaning (builder_state self))) }
+    ) -> Result<(Buckets, Span), ParseError<'a>>
+        ensures value { Gives (λ p. query_of (meaning (builder_state self.now)) p.0 p.1) result (statement_query start now (meaning (builder_state self.now))) }
+        ensures columns { IfOk result (λ _. repeats (builder_state self.now).selection.columns ≡ false) }
+        ensures limits { IfOk result (λ p. IsLimited (query_of (meaning (builder_state self.now)) p.0 p.1).query) }
+        ensures memory { result ≡ Err ParseError.OutOfMemory → 2 ≤ length (builder_state self.now).selection.columns }
     {
-        if repeats(alloc, self.selection.columns.as_slice())? {
+        if self.selection.columns.repeat(alloc)? {
             return Err(ParseError::Fault(QlFaultKind::RepeatedColumn.at(start)));
         }
         let Some(buckets) = self.groups.buckets() else {
@@ -149,26 +138,30 @@ impl<A: Allocator + Copy> StatementBuilder<A> {
         };
         match span_fault(start, buckets, &span) {
             Some(fault) => Err(ParseError::Fault(fault)),
-            None => Ok(self.over(alloc, buckets, span)?),
+            None => Ok((buckets, span)),
         }
     }
 
     /// Creates the query over a time range.
-    fn over(self, alloc: A, buckets: Buckets, span: Span) -> Result<Query<A>, AllocError>
-        requires columns { repeats self.selection.columns.items ≡ false }
+    pub(crate) fn over(self, alloc: A, buckets: Buckets, span: Span) -> Result<Query<A>, AllocError>
+        requires columns { repeats (builder_state self).selection.columns ≡ false }
         requires limits { IsLimited (query_of (meaning (builder_state self)) buckets span).query }
-        ensures { IfOk result (λ query. query ≡ query_of (meaning (builder_state self)) buckets span) }
+        ensures { IfOk result (λ query. query ≡ query_of (meaning (builder_state self.entry)) buckets span) }
     {
-        let mut selection = self.selection;
+        let fill = self.filling.fill;
+        let selection = self.selection;
         let filter = self.filter;
-        let field = or_empty(alloc, selection.field.take());
-        let tags = self.groups.into_tags(alloc)?;
+        let measurement = text_spelled(alloc, selection.measurement)?;
+        let field = field_text(alloc, selection.field)?;
+        let columns = selection.columns.into_vec()?;
+        let conditions = filter.conditions.into_vec()?;
+        let tags = self.groups.into_tags().into_vec(alloc)?;
         Ok(Query::new(QueryParts {
-            columns: selection.columns,
-            fill: self.filling.fill,
-            measurement: selection.measurement,
+            columns,
+            fill,
+            measurement,
             field,
-            conditions: filter.conditions,
+            conditions,
             from: span.from,
             to: span.to,
             interval: buckets.interval,
@@ -180,13 +173,10 @@ impl<A: Allocator + Copy> StatementBuilder<A> {
     /// Finishes a time comparison if the token doesn't continue it; returns the next state. Fails with `OutOfRange` if
     /// the time expression isn't a valid time.
     #[tactic(auto, unfolding(crate::specs::Reading::finish_time_step))]
-    pub(crate) fn finish_time<'a>(
-        &mut self,
-        state: State,
-        kind: Kind,
-    ) -> Result<State, ParseError<'a>>
-        ensures value { GivesWith result (builder_state self.new) (finish_time_step state kind (builder_state self.old)) }
+    pub(crate) fn finish_time(&mut self, state: State, kind: Kind) -> Result<State, QlFault<'a>>
+        ensures value { FindsWith result (builder_state self.new) (finish_time_step state kind (builder_state self.old)) }
         ensures moment { self.new.moment ≡ self.old.moment }
+        ensures selection { self.new.selection ≡ self.old.selection }
     {
         match (state, kind) {
             (State::AfterMoment, Kind::Plus | Kind::Minus) => Ok(state),
@@ -200,15 +190,15 @@ impl<A: Allocator + Copy> StatementBuilder<A> {
 
     /// Passes the next token to the builder of its clause; returns the next state.
     #[tactic(auto, unfolding(crate::specs::Reading::builder_step))]
-    pub(crate) fn parse_token<'a>(
+    pub(crate) fn parse_token(
         &mut self,
         alloc: A,
         now: Time,
         state: State,
         token: &Token<'a>,
-    ) -> Result<State, ParseError<'a>>
+    ) -> Result<State, QlFault<'a>>
         requires { CanAddMore now self.old.moment }
-        ensures { GivesWith result (builder_state self.new) (builder_step now state (lexeme token.now) (builder_state self.old)) }
+        ensures { FindsWith result (builder_state self.new) (builder_step now state (lexeme token.now) (builder_state self.old)) }
     {
         match state.clause() {
             Clause::Select => self.selection.parse_token(alloc, state, token),
@@ -216,7 +206,7 @@ impl<A: Allocator + Copy> StatementBuilder<A> {
             Clause::Moment => self.moment.parse_token(now, state, token),
             Clause::Group => self.groups.parse_token(alloc, state, token),
             Clause::Fill => self.filling.parse_token(state, token),
-            Clause::None => Err(ParseError::Fault(token.unexpected())),
+            Clause::None => Err(token.unexpected()),
         }
     }
 }

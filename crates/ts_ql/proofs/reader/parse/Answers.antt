@@ -19,7 +19,7 @@ returns-then-text-gt65536-clause-ends g c = durations_end_last
 pub returns-clause-reading : goal.returns-clause-reading
 returns-clause-reading g c =
     let short : length c.args.text.now ≤ 65536 = omega arith in
-    reads_text (λ v. v.items) c.args.now c.args.text.now c.read.result (λ e. short) c.read.ensures
+    reads_text (λ v. v.items) c.args.now c.args.text.now c.read.result (λ e. short) c.read.ensures.reading
 
 pub returns-clause-decided : goal.returns-clause-decided
 returns-clause-decided g c = decided c.args.now c.args.text.now

@@ -1,6 +1,6 @@
 use Rattle.std.proofs.Common.{◌≡◌, rules, false, codes, bytes_eq}
 use Rattle.ts_ql.proofs.StatementLemmas.{has_name, told_first, told_more}
-use Rattle.ts_ql.proofs.statement.repeats.Goals as goal
+use Rattle.ts_ql.proofs.lists.columns.repeats.Goals as goal
 
 pub loop-column-init : goal.loop-column-init
 loop-column-init g c = rw c.new-names.ensures.empty (told_first c.args.columns.now)

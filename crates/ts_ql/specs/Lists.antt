@@ -1,0 +1,96 @@
+-- Lists of statements, and the columns, conditions and tags in them, as written.
+-- (InfluxData 1.8, InfluxQL: the basic SELECT statement, AS; the WHERE clause, tags; the GROUP BY clause.)
+use Rattle.std.specs.Prelude.{◌≡◌, List, [], ◌∷◌, ◌++◌, Bool, false, Option, Some, None, IfSome, option_map, codes, bytes_eq, Vec}
+use Rattle.std.specs.Borrow.{Bor}
+use Rattle.std.specs.Option.{unwrap_or}
+use Rattle.ts_core.specs.declared.queries.value.Function.{Function}
+use Rattle.ts_core.specs.facts.Facts.{Text}
+use Rattle.ts_core.specs.queries.Queries.{Condition}
+use Rattle.ts_ql.specs.declared.lists.columns.Column.{Column}
+use Rattle.ts_ql.specs.declared.lists.columns.Count.{Count}
+use Rattle.ts_ql.specs.declared.lists.columns.Count.TheVariants as counts
+use Rattle.ts_ql.specs.declared.lists.conditions.TagTest.{TagTest}
+use Rattle.ts_ql.specs.declared.lists.queries.Outline.{Outline}
+use Rattle.ts_ql.specs.declared.lists.tags.Tag.{Tag}
+use Rattle.ts_ql.specs.Literals.{text_spelled}
+use Rattle.ts_ql.specs.Selects.{Projection, Select, function_name, inserted_text}
+
+-- the text that a token spells
+abbrev pub spelled : Bor Text → Text
+spelled text = text_spelled text.now
+
+-- a column is named by AS, or else by its function
+abbrev pub column_name : Function → Option (Bor Text) → Text
+column_name f None = function_name f
+column_name f (Some alias) = spelled alias
+
+abbrev pub projection : Column → Projection
+projection c = record { function = c.function; name = column_name c.function c.alias }
+
+abbrev pub condition : TagTest → Condition
+condition t = record { tag = spelled t.tag; value = spelled t.value; negated = t.negated }
+
+-- the columns, conditions and tags of a statement, or the queries of a text
+pub record Lists : Type 0 where
+  pub columns : List Projection
+  pub conditions : List Condition
+  pub tags : List Text
+  pub queries : List Select
+
+abbrev pub no_lists : Lists
+no_lists = record { columns = []; conditions = []; tags = []; queries = [] }
+
+abbrev pub with_column : Column → Lists → Lists
+with_column c l = record l { columns = l.columns ++ projection c ∷ [] }
+
+abbrev pub with_condition : TagTest → Lists → Lists
+with_condition t l = record l { conditions = l.conditions ++ condition t ∷ [] }
+
+abbrev pub with_tag : Tag → Lists → Lists
+with_tag t l = record l { tags = inserted_text (spelled t.name) l.tags }
+
+-- the query of a statement with these columns, conditions and tags
+abbrev pub outlined : Lists → Lists → Lists → Outline → Select
+outlined c w g o = record {
+  columns = c.columns;
+  fill = o.fill;
+  query = record {
+    measurement = spelled o.measurement;
+    field = unwrap_or (option_map spelled o.field) [];
+    conditions = w.conditions;
+    from = o.span.from;
+    to = o.span.to;
+    interval = o.buckets.interval;
+    offset = o.buckets.offset;
+    group_tags = g.tags;
+  };
+}
+
+abbrev pub with_query : Lists → Lists → Lists → Outline → Lists → Lists
+with_query c w g o l = record l { queries = l.queries ++ outlined c w g o ∷ [] }
+
+-- ---- columns without their names
+
+abbrev pub counted : List Projection → Count
+counted [] = counts.None
+counted (c ∷ []) = counts.One
+counted (c ∷ d ∷ cs) = counts.More
+
+abbrev pub count_after : Count → Count
+count_after counts.None = counts.One
+count_after count = counts.More
+
+-- the first column is named `time`
+abbrev pub begins_with_time : List Projection → Bool
+begins_with_time [] = false
+begins_with_time (c ∷ cs) = bytes_eq c.name (codes "time")
+
+abbrev pub time_after : Count → Bool → Bool → Bool
+time_after counts.None new before = new
+time_after count new before = before
+
+-- the list in memory, unless it was given up, and the facts that need no names
+pub record IsColumns {A : Type 0} (list : Option (Vec Projection A)) (number : Count) (begins : Bool) (columns : List Projection) : Type 0 where
+  pub list_is : IfSome list (λ v. v.items ≡ columns)
+  pub number_is : number ≡ counted columns
+  pub begins_is : begins ≡ begins_with_time columns

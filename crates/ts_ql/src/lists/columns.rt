@@ -1,0 +1,170 @@
+//! Columns of a statement.
+ghost use Rattle.std.specs.Prelude.{◌≡◌, ◌≤◌, [], ◌∷◌, ◌++◌, length, bytes_eq, codes, IfOk, IfErr};
+ghost use Rattle.ts_ql.specs.Lists.{projection, count_after};
+ghost use Rattle.ts_ql.specs.Statements.{repeats};
+
+use crate::keywords::function_name;
+use crate::lists::shadow::Shadow;
+use crate::literal::{is_spelled_alike, text_spelled};
+use crate::query::Projection;
+use std::alloc::{AllocError, Allocator};
+use std::collections::BTreeSet;
+use std::marker::Model;
+use ts_core::Function;
+
+/// Column as written: a function, and a name if AS gives one.
+#[derive(Clone, Copy)]
+pub(crate) struct Column<'a> {
+    pub function: Function,
+    pub alias: Option<&'a str>,
+}
+
+/// Number of columns, as far as names can be the same.
+#[derive(Clone, Copy)]
+pub(crate) enum Count {
+    None,
+    One,
+    More,
+}
+
+/// Columns of a statement, in its order.
+#[derive(Drop)]
+pub(crate) struct Columns<A: Allocator> {
+    /// `None` after memory was refused.
+    columns: Option<Vec<Projection<A>, A>>,
+    count: Count,
+    /// True if the first column is named `time`.
+    begins_with_time: bool,
+    shadow: Shadow,
+}
+
+impl<A: Allocator> Model for Columns<A> {
+    ghost use Rattle.std.specs.Prelude.{List};
+    ghost use Rattle.ts_ql.specs.Lists.{IsColumns};
+    ghost use Rattle.ts_ql.specs.Selects.{Projection as ProjectionValue};
+
+    ghost Value = { List ProjectionValue };
+
+    ghost view = { λ c. c.shadow.lists.columns };
+
+    ghost invariant = { λ c. IsColumns c.columns c.count c.begins_with_time c.shadow.lists.columns };
+}
+
+/// Returns true if two columns have the same name, or one is named `time`.
+fn repeats<A: Allocator + Copy>(alloc: A, columns: &[Projection<A>]) -> Result<bool, AllocError>
+    ensures { IfOk result (λ found. found ≡ repeats columns.now) }
+{
+    let mut names = BTreeSet::new(alloc);
+    for column in columns {
+        let name = column.name();
+        if name == "time" || !names.insert(name)? {
+            return Ok(true);
+        }
+    }
+    Ok(false)
+}
+
+impl<'a> Column<'a> {
+    /// Returns true if the column is named `time`.
+    fn is_time(&self) -> bool
+        ensures { result ≡ bytes_eq (projection self.now).name (codes "time") }
+    {
+        match self.alias {
+            Some(alias) => is_spelled_alike(alias, "time"),
+            None => false,
+        }
+    }
+
+    /// Creates the column of a query.
+    fn projection<A: Allocator + Copy>(&self, alloc: A) -> Result<Projection<A>, AllocError>
+        ensures { IfOk result (λ column. column ≡ projection self.now) }
+    {
+        let name = match self.alias {
+            Some(alias) => text_spelled(alloc, alias)?,
+            None => String::from_str(alloc, function_name(self.function))?,
+        };
+        Ok(Projection::new(self.function, name))
+    }
+}
+
+impl Count {
+    /// Returns the number with another column.
+    fn next(self) -> Count
+        ensures { result ≡ count_after self }
+    {
+        match self {
+            Count::None => Count::One,
+            _ => Count::More,
+        }
+    }
+}
+
+/// Appends a column.
+fn push<A: Allocator + Copy>(
+    alloc: A,
+    columns: &mut Vec<Projection<A>, A>,
+    column: &Column<'_>,
+) -> Result<(), AllocError>
+    ensures { IfOk result (λ _. columns.new.items ≡ columns.old.items ++ projection column.now ∷ []) }
+{
+    columns.push(column.projection(alloc)?)?;
+    Ok(())
+}
+
+impl<A: Allocator + Copy> Columns<A> {
+    /// Creates an empty list.
+    pub fn new(alloc: A) -> Columns<A>
+        ensures { result ≡ [] }
+    {
+        Columns {
+            columns: Some(Vec::new(alloc)),
+            count: Count::None,
+            begins_with_time: false,
+            shadow: Shadow::new(),
+        }
+    }
+
+    /// Appends a column.
+    pub fn push(&mut self, alloc: A, column: &Column<'_>)
+        ensures { self.new ≡ self.old ++ projection column.now ∷ [] }
+    {
+        if let Count::None = self.count {
+            self.begins_with_time = column.is_time();
+        }
+        self.count = self.count.next();
+        self.shadow = Shadow::with_column(&self.shadow, column);
+        if let Some(columns) = &mut self.columns {
+            if push(alloc, columns, column).is_err() {
+                self.columns = None;
+            }
+        }
+    }
+
+    /// Returns true if two columns have the same name, or one is named `time`. Needs memory only for two columns.
+    pub fn repeat(&self, alloc: A) -> Result<bool, AllocError>
+        ensures value { IfOk result (λ found. found ≡ repeats self.now) }
+        ensures memory { IfErr result (λ _. 2 ≤ length self.now) }
+    {
+        if let Count::More = self.count {
+            return match &self.columns {
+                Some(columns) => repeats(alloc, columns.as_slice()),
+                None => Err(AllocError),
+            };
+        }
+        Ok(self.begins_with_time)
+    }
+
+    /// Returns the list. Fails if memory was refused.
+    pub fn into_vec(self) -> Result<Vec<Projection<A>, A>, AllocError>
+        ensures { IfOk result (λ columns. columns.items ≡ self) }
+    {
+        self.columns.ok_or(AllocError)
+    }
+
+    /// Returns the ghost of the list.
+    pub fn shadow(&self) -> &Shadow
+        ensures { result.now.lists.columns ≡ self.now }
+    {
+        &self.shadow
+    }
+}
