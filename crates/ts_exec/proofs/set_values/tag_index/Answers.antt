@@ -1,4 +1,4 @@
-use Rattle.std.proofs.Common.{rules, ◌≡◌, ◌∙◌, sym, string_bytes}
+use Rattle.std.proofs.Common.{rules, ◌∙◌, sym, string_bytes}
 use Rattle.std.proofs.lemmas.Fn.{always_returns_same}
 use Rattle.ts_core.specs.facts.Facts.{text_cmp}
 use Rattle.ts_exec.proofs.GroupValuesLemmas.{tag_index-search}

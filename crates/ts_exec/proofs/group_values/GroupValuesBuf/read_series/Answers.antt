@@ -1,6 +1,5 @@
-use Rattle.std.proofs.Common.{◌∙◌, ap, map, List, string_bytes}
+use Rattle.std.proofs.Common.{◌∙◌, ap, map, string_bytes}
 use Rattle.std.proofs.lemmas.List.{length-map}
-use Rattle.ts_core.specs.facts.Facts.{Text}
 use Rattle.ts_core.specs.facts.Tags.{value_among}
 use Rattle.ts_core.specs.text.Texts.{owned_pairs}
 use Rattle.ts_ql.specs.Selects.{texts}

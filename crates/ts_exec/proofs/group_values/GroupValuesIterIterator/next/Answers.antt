@@ -1,4 +1,4 @@
-use Rattle.std.proofs.Common.{rules, ◌≡◌, ◌∙◌, ◌<◌, sym, arith}
+use Rattle.std.proofs.Common.{rules, ◌∙◌, ◌<◌, sym, arith}
 use Rattle.ts_exec.specs.GroupValues.{seen_set}
 use Rattle.ts_exec.proofs.SetSteps.{some-next, no-next}
 use Rattle.ts_exec.proofs.group_values.GroupValuesIterIterator.next.Goals as goal
