@@ -4,7 +4,6 @@ use Rattle.ts_core.specs.facts.Facts.{Text}
 use Rattle.ts_core.specs.declared.text.fault_code.FaultCode.{FaultCode}
 use Rattle.ts_script.specs.RunFaults.{run_fault_code}
 use Rattle.tsdb.specs.declared.command_line.CliOutcome.TheVariants as cli_outcome
-use Rattle.ts_script.specs.declared.run_fault.RunFault.{RunFault}
 use Rattle.ts_script.specs.declared.run_fault.RunFault.TheVariants.{OutOfMemory, Reader, Writer, TooManyReads}
 use Rattle.tsdb.specs.declared.outcome.CallOutcome.{CallOutcome}
 use Rattle.tsdb.specs.declared.outcome.CallOutcome.TheVariants.{Answered, Stopped, NoScript, NoFault, NoText, NoSeed}
