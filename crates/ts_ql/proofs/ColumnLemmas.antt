@@ -1,12 +1,9 @@
 -- A second column of a statement comes after a comma where a FROM could be.
-use Rattle.std.proofs.Common.{◌≡◌, ◌⊎◌, inl, inr, ℕ, ◌+◌, ◌-◌, ◌≤◌, ℤ, pos, List, [], ◌∷◌, ◌++◌, length, Bool, true, false, eqb, ◌&&◌, ◌||◌, codes, Option, Some, None, Result, Ok, Err, arith, refl, sym, ap, ◌∙◌, subst, length-append, append_assoc}
-use Rattle.std.proofs.lemmas.Bool.{cond_both}
+use Rattle.std.proofs.Common.{◌≡◌, ◌⊎◌, inl, inr, ℕ, ◌+◌, ◌≤◌, ℤ, List, [], ◌∷◌, ◌++◌, length, Bool, true, false, ◌&&◌, ◌||◌, codes, Option, Some, None, Result, Ok, Err, arith, refl, sym, ap, ◌∙◌, subst, length-append, append_assoc}
 use Rattle.std.proofs.lemmas.List.{append-nil}
-use Rattle.std.specs.Prelude.{⊤, if◌then◌else◌, nat_lt, nat_le, ◌==◌, int_le, bytes_eq}
+use Rattle.std.specs.Prelude.{⊤, if◌then◌else◌, nat_le, ◌==◌, bytes_eq}
 use Rattle.ts_core.specs.facts.Facts.{Text}
-use Rattle.ts_core.specs.declared.queries.fill.Fill.TheVariants as fills
 use Rattle.ts_core.specs.declared.queries.value.Function.{Function}
-use Rattle.ts_core.specs.declared.aggregates.bucket.Buckets.{Buckets}
 use Rattle.ts_ql.specs.declared.filling.FillClause.{FillClause}
 use Rattle.ts_ql.specs.declared.moment.Moment.{Moment}
 use Rattle.ts_ql.specs.declared.moment.Range.{Range}
@@ -17,21 +14,21 @@ use Rattle.ts_ql.specs.declared.state.State.TheVariants as states
 use Rattle.ts_ql.specs.declared.token.Kind.{Kind}
 use Rattle.ts_ql.specs.declared.token.Kind.TheVariants as kinds
 use Rattle.ts_ql.specs.Builders.{BuilderState, meaning}
-use Rattle.ts_ql.specs.Dates.{timestamp_of}
-use Rattle.ts_ql.specs.GroupSteps.{Grouped, grouping_at, group_step, item_at, time_item, with_interval, with_offset, fill_at, fill_step, with_number, chosen}
-use Rattle.ts_ql.specs.Keywords.{function_called, is_time_column, named}
-use Rattle.ts_ql.specs.Literals.{is_word, literal, text_spelled}
-use Rattle.ts_ql.specs.MomentSteps.{moment_at, moment_step, based, later_by, earlier_by, narrowed}
-use Rattle.ts_ql.specs.QueryFaults.{Fault, unexpected, unsupported, TooManyStatements, OutOfRange}
+use Rattle.ts_ql.specs.GroupSteps.{Grouped, grouping_at, group_step, fill_at, fill_step}
+use Rattle.ts_ql.specs.Keywords.{function_called, named}
+use Rattle.ts_ql.specs.Literals.{is_word}
+use Rattle.ts_ql.specs.MomentSteps.{moment_at, moment_step, narrowed}
+use Rattle.ts_ql.specs.QueryFaults.{Fault, unexpected, unsupported, TooManyStatements}
 use Rattle.ts_ql.specs.Reading.{BuilderResult, narrowed_in, finish_time_at, finish_time_step, in_selection, in_filter, in_moment, in_groups, in_filling, clause_of, builder_at, builder_step, group_alone, fill_alone, clause_at, next_clause, is_end, may_end, Progress, Advance, start_progress, begun_at, begun, after_end, ended_with, ended, with_builder, clause_or, placed_at, after_finishing_time, step}
-use Rattle.ts_ql.specs.Selects.{Projection, Select, inserted_text, of_interval}
+use Rattle.ts_ql.specs.Selects.{Projection, Select}
 use Rattle.ts_ql.specs.SelectSteps.{Selected, select_at, select_step, with_function, with_call_field, with_default}
 use Rattle.ts_ql.specs.Statements.{statement_query}
 use Rattle.ts_ql.specs.Tokens.{Lexeme}
-use Rattle.ts_ql.specs.WhereSteps.{Filtered, where_at, where_step, term_at, after_term}
+use Rattle.ts_ql.specs.WhereSteps.{Filtered, where_at, where_step}
 use Rattle.ts_ql.proofs.GrammarLaws.{viable}
 use Rattle.ts_ql.proofs.Rests.{Sound, SoundAt}
 use Rattle.ts_ql.proofs.RunLemmas.{run, run_then, run-append_ok}
+use Rattle.ts_ql.proofs.StepLemmas.{Within, is_outside, where_within, moment_within, group_within, fill_within}
 
 -- ---- states
 
@@ -75,115 +72,20 @@ abbrev NoCall : {X : Type 0} → Result (State × X) Fault → Type 0
 NoCall (Ok p) = in_call p.0 ≡ 0
 NoCall (Err fault) = ⊤
 
-calls_if : {X : Type 0} (test : Bool) (one other : Result (State × X) Fault) → NoCall one → NoCall other → NoCall (if test then one else other)
-calls_if true one other a b = a
-calls_if false one other a b = b
+outside_calls : (p : State) → is_outside p ≡ true → in_call p ≡ 0
+outside_calls states.Function e = absurd cc
+outside_calls states.FunctionOpen e = absurd cc
+outside_calls states.Field e = absurd cc
+outside_calls states.FieldEnd e = absurd cc
+outside_calls states.FieldType e = absurd cc
+outside_calls states.FieldClose e = absurd cc
+outside_calls states.AfterColumn e = absurd cc
+outside_calls states.Alias e = absurd cc
+outside_calls p e = refl
 
-after_term_goes_on : (depth : ℕ) → in_call (after_term depth) ≡ 0
-after_term_goes_on depth = cond_both (eqb depth 0) states.AfterTerm states.NestedTerm (λ p. in_call p ≡ 0) (λ e. refl) (λ e. refl)
-
-term_calls : (t : Lexeme) (f : Filtered) → NoCall (term_at t f)
-term_calls t f = calls_if (is_time_column t.kind t.text) (Ok (states.TimeSign, f)) (Ok (states.TagEnd, record f { tag = text_spelled t.text })) refl refl
-
-where_calls : (p : State) (k : Kind) (t : Lexeme) (f : Filtered) → NoCall (where_at p k t f)
-where_calls states.Term kinds.LeftParen t f = calls_if (nat_lt f.depth 32) (Ok (states.Term, record f { depth = f.depth + 1 })) (Err (unsupported t)) refl tt
-where_calls states.Term kinds.Word t f = term_calls t f
-where_calls states.Term kinds.QuotedName t f = term_calls t f
-where_calls states.TagEnd kinds.DoubleColon t f = refl
-where_calls states.TagEnd kinds.Equals t f = refl
-where_calls states.TagEnd kinds.NotEqual t f = refl
-where_calls states.TagType kinds.Word t f = calls_if (is_word (codes "tag") t.text) (Ok (states.TagSign, f)) (Err (unexpected t)) refl tt
-where_calls states.TagSign kinds.Equals t f = refl
-where_calls states.TagSign kinds.NotEqual t f = refl
-where_calls states.TagValue kinds.StringLiteral t f = after_term_goes_on f.depth
-where_calls states.AfterTerm kinds.Keyword t f = calls_if (is_word (codes "and") t.text) (Ok (states.Term, f)) (Err (unexpected t)) refl tt
-where_calls states.NestedTerm kinds.Keyword t f = calls_if (is_word (codes "and") t.text) (Ok (states.Term, f)) (Err (unexpected t)) refl tt
-where_calls states.NestedTerm kinds.RightParen t f =
-    calls_if (nat_lt 0 f.depth) (Ok (after_term (f.depth - 1), record f { depth = f.depth - 1 })) (Err (unexpected t)) (after_term_goes_on (f.depth - 1)) tt
-where_calls p k t f = tt
-
-based_calls : (first : ℕ) (m : Moment) (o : Option ℤ) → NoCall (based first m o)
-based_calls first m None = tt
-based_calls first m (Some value) = refl
-
-later_calls : (t : Lexeme) (m : Moment) (o : Option ℤ) → NoCall (later_by t m o)
-later_calls t m None = tt
-later_calls t m (Some value) = refl
-
-earlier_calls : (t : Lexeme) (m : Moment) (o : Option ℤ) → NoCall (earlier_by t m o)
-earlier_calls t m None = tt
-earlier_calls t m (Some value) = refl
-
-moment_calls : (now : ℤ) (p : State) (k : Kind) (t : Lexeme) (m : Moment) → NoCall (moment_at now p k t m)
-moment_calls now states.TimeSign kinds.Equals t m = refl
-moment_calls now states.TimeSign kinds.Less t m = refl
-moment_calls now states.TimeSign kinds.LessOrEqual t m = refl
-moment_calls now states.TimeSign kinds.Greater t m = refl
-moment_calls now states.TimeSign kinds.GreaterOrEqual t m = refl
-moment_calls now states.Moment kinds.Minus t m = refl
-moment_calls now states.Moment kinds.Integer t m = based_calls t.start m (literal false t.text)
-moment_calls now states.Moment kinds.Duration t m = based_calls t.start m (literal false t.text)
-moment_calls now states.Moment kinds.StringLiteral t m = based_calls t.start m (timestamp_of t.text)
-moment_calls now states.Moment kinds.Word t m = calls_if (is_word (codes "now") t.text) (Ok (states.NowOpen, record m { first = t.start })) (Err (unexpected t)) refl tt
-moment_calls now states.MomentMinus kinds.Integer t m = based_calls m.first m (literal true t.text)
-moment_calls now states.MomentMinus kinds.Duration t m = based_calls m.first m (literal true t.text)
-moment_calls now states.NowOpen kinds.LeftParen t m = refl
-moment_calls now states.NowClose kinds.RightParen t m = refl
-moment_calls now states.AfterMoment kinds.Plus t m = refl
-moment_calls now states.AfterMoment kinds.Minus t m = refl
-moment_calls now states.MomentPlus kinds.Duration t m = later_calls t m (literal false t.text)
-moment_calls now states.MomentLess kinds.Duration t m = earlier_calls t m (literal false t.text)
-moment_calls now p k t m = tt
-
-time_item_calls : (t : Lexeme) (g : Grouped) (o : Option Buckets) → NoCall (time_item t g o)
-time_item_calls t g None = refl
-time_item_calls t g (Some b) = tt
-
-item_calls : (t : Lexeme) (g : Grouped) → NoCall (item_at t g)
-item_calls t g = calls_if (is_time_column t.kind t.text) (time_item t g g.buckets) (Ok (states.AfterTag, record g { tags = inserted_text (text_spelled t.text) g.tags })) (time_item_calls t g g.buckets) refl
-
-interval_calls : (t : Lexeme) (g : Grouped) (o : Option ℤ) → NoCall (with_interval t g o)
-interval_calls t g None = tt
-interval_calls t g (Some interval) = calls_if (int_le (pos 1) interval) (Ok (states.IntervalEnd, record g { buckets = of_interval interval })) (Err (OutOfRange t.start)) refl tt
-
-offset_calls : (first : ℕ) (g : Grouped) (o : Option ℤ) → NoCall (with_offset first g o)
-offset_calls first g None = tt
-offset_calls first g (Some offset) = refl
-
-group_calls : (p : State) (k : Kind) (t : Lexeme) (g : Grouped) → NoCall (grouping_at p k t g)
-group_calls states.GroupBy kinds.Keyword t g = calls_if (is_word (codes "by") t.text) (Ok (states.Item, g)) (Err (unexpected t)) refl tt
-group_calls states.Item kinds.Word t g = item_calls t g
-group_calls states.Item kinds.QuotedName t g = item_calls t g
-group_calls states.TimeOpen kinds.LeftParen t g = refl
-group_calls states.Interval kinds.Duration t g = interval_calls t g (literal false t.text)
-group_calls states.IntervalEnd kinds.Comma t g = refl
-group_calls states.IntervalEnd kinds.RightParen t g = refl
-group_calls states.Offset kinds.Minus t g = refl
-group_calls states.Offset kinds.Duration t g = offset_calls t.start g (literal false t.text)
-group_calls states.OffsetMinus kinds.Duration t g = offset_calls g.first g (literal true t.text)
-group_calls states.OffsetEnd kinds.RightParen t g = refl
-group_calls states.AfterTag kinds.DoubleColon t g = refl
-group_calls states.AfterTag kinds.Comma t g = refl
-group_calls states.GroupTagType kinds.Word t g = calls_if (is_word (codes "tag") t.text) (Ok (states.AfterItem, g)) (Err (unexpected t)) refl tt
-group_calls states.AfterItem kinds.Comma t g = refl
-group_calls p k t g = tt
-
-number_calls : (first : ℕ) (f : FillClause) (o : Option ℤ) → NoCall (with_number first f o)
-number_calls first f None = tt
-number_calls first f (Some n) = refl
-
-fill_calls : (p : State) (k : Kind) (t : Lexeme) (f : FillClause) → NoCall (fill_at p k t f)
-fill_calls states.FillOpen kinds.LeftParen t f = refl
-fill_calls states.FillOption kinds.Word t f =
-    calls_if (is_word (codes "null") t.text) (chosen fills.Null f)
-    (if is_word (codes "none") t.text then chosen fills.None f else if is_word (codes "previous") t.text then chosen fills.Previous f else Err (unexpected t)) refl
-    (calls_if (is_word (codes "none") t.text) (chosen fills.None f) (if is_word (codes "previous") t.text then chosen fills.Previous f else Err (unexpected t)) refl
-    (calls_if (is_word (codes "previous") t.text) (chosen fills.Previous f) (Err (unexpected t)) refl tt))
-fill_calls states.FillOption kinds.Minus t f = refl
-fill_calls states.FillOption kinds.Integer t f = number_calls t.start f (literal false t.text)
-fill_calls states.FillMinus kinds.Integer t f = number_calls f.first f (literal true t.text)
-fill_calls states.FillClose kinds.RightParen t f = refl
-fill_calls p k t f = tt
+no_call : {X : Type 0} (k : Kind) (r : Result (State × X) Fault) → Within k r → NoCall r
+no_call k (Ok p) w = outside_calls p.0 w.0
+no_call k (Err fault) w = tt
 
 -- ---- SELECT
 
@@ -265,10 +167,10 @@ filling_grows p t d (Err fault) e = tt
 builder_at_grows : (c : Clause) (now : ℤ) (p : State) (t : Lexeme) (d : BuilderState) → BuilderGrows p t d (builder_at c now p t d)
 unfolding select_step where_step moment_step group_step fill_step
 builder_at_grows clauses.Select now p t d = selection_grows p t d (select_at p t.kind t d.selection) (select_gains p t.kind t d.selection refl)
-builder_at_grows clauses.Where now p t d = filter_grows p t d (where_at p t.kind t d.filter) (where_calls p t.kind t d.filter)
-builder_at_grows clauses.Moment now p t d = timing_grows p t d (moment_at now p t.kind t d.moment) (moment_calls now p t.kind t d.moment)
-builder_at_grows clauses.Group now p t d = groups_grow p t d (grouping_at p t.kind t d.groups) (group_calls p t.kind t d.groups)
-builder_at_grows clauses.Fill now p t d = filling_grows p t d (fill_at p t.kind t d.filling) (fill_calls p t.kind t d.filling)
+builder_at_grows clauses.Where now p t d = filter_grows p t d (where_at p t.kind t d.filter) (no_call t.kind (where_at p t.kind t d.filter) (where_within p t.kind t d.filter))
+builder_at_grows clauses.Moment now p t d = timing_grows p t d (moment_at now p t.kind t d.moment) (no_call t.kind (moment_at now p t.kind t d.moment) (moment_within now p t.kind t d.moment))
+builder_at_grows clauses.Group now p t d = groups_grow p t d (grouping_at p t.kind t d.groups) (no_call t.kind (grouping_at p t.kind t d.groups) (group_within p t.kind t d.groups))
+builder_at_grows clauses.Fill now p t d = filling_grows p t d (fill_at p t.kind t d.filling) (no_call t.kind (fill_at p t.kind t d.filling) (fill_within p t.kind t d.filling))
 builder_at_grows clauses.None now p t d = tt
 
 builder_grows : (now : ℤ) (p : State) (t : Lexeme) (d : BuilderState) → BuilderGrows p t d (builder_step now p t d)

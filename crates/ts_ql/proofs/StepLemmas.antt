@@ -1,5 +1,5 @@
 -- The end of a text: it has been read once a step takes its end.
-use Rattle.std.proofs.Common.{◌≡◌, ℕ, ◌+◌, ◌-◌, ℤ, pos, Bool, true, false, eqb, ◌&&◌, ◌||◌, codes, refl, sym, subst, Option, Some, None, Result, Ok, Err}
+use Rattle.std.proofs.Common.{◌≡◌, ℕ, ◌+◌, ◌-◌, ℤ, pos, Bool, true, false, eqb, ◌&&◌, ◌||◌, codes, refl, sym, subst, ◌∙◌, Option, Some, None, Result, Ok, Err}
 use Rattle.std.proofs.lemmas.Bool.{cond_both, and_parts}
 use Rattle.std.specs.Prelude.{if◌then◌else◌, nat_lt, nat_le, int_le, bytes_eq}
 use Rattle.ts_core.specs.facts.Facts.{Text}
@@ -71,111 +71,146 @@ select_moves states.Measurement kinds.QuotedName t s = refl
 select_moves states.Measurement kinds.LeftParen t s = tt
 select_moves p k t s = tt
 
-after_term_goes_on : (depth : ℕ) → is_done (after_term depth) ≡ false
-after_term_goes_on depth = cond_both (eqb depth 0) states.AfterTerm states.NestedTerm (λ p. is_done p ≡ false) (λ e. refl) (λ e. refl)
+-- ---- outside of SELECT
 
-term_moves : (k : Kind) (t : Lexeme) (f : Filtered) → is_end_of_text k ≡ false → Moves k (term_at t f)
-term_moves k t f other = moves_if k (is_time_column t.kind t.text) (Ok (states.TimeSign, f)) (Ok (states.TagEnd, record f { tag = text_spelled t.text })) (sym other) (sym other)
+-- within a statement, behind its SELECT and FROM
+abbrev pub is_outside : State → Bool
+is_outside states.Statement = false
+is_outside states.Function = false
+is_outside states.FunctionOpen = false
+is_outside states.Field = false
+is_outside states.FieldEnd = false
+is_outside states.FieldType = false
+is_outside states.FieldClose = false
+is_outside states.AfterColumn = false
+is_outside states.Alias = false
+is_outside states.AfterAlias = false
+is_outside states.Measurement = false
+is_outside states.Done = false
+is_outside state = true
 
-where_moves : (p : State) (k : Kind) (t : Lexeme) (f : Filtered) → Moves k (where_at p k t f)
-where_moves states.Term kinds.LeftParen t f = moves_if kinds.LeftParen (nat_lt f.depth 32) (Ok (states.Term, record f { depth = f.depth + 1 })) (Err (unsupported t)) refl tt
-where_moves states.Term kinds.Word t f = term_moves kinds.Word t f refl
-where_moves states.Term kinds.QuotedName t f = term_moves kinds.QuotedName t f refl
-where_moves states.TagEnd kinds.DoubleColon t f = refl
-where_moves states.TagEnd kinds.Equals t f = refl
-where_moves states.TagEnd kinds.NotEqual t f = refl
-where_moves states.TagType kinds.Word t f = moves_if kinds.Word (is_word (codes "tag") t.text) (Ok (states.TagSign, f)) (Err (unexpected t)) refl tt
-where_moves states.TagSign kinds.Equals t f = refl
-where_moves states.TagSign kinds.NotEqual t f = refl
-where_moves states.TagValue kinds.StringLiteral t f = after_term_goes_on f.depth
-where_moves states.AfterTerm kinds.Keyword t f = moves_if kinds.Keyword (is_word (codes "and") t.text) (Ok (states.Term, f)) (Err (unexpected t)) refl tt
-where_moves states.NestedTerm kinds.Keyword t f = moves_if kinds.Keyword (is_word (codes "and") t.text) (Ok (states.Term, f)) (Err (unexpected t)) refl tt
-where_moves states.NestedTerm kinds.RightParen t f =
-    moves_if kinds.RightParen (nat_lt 0 f.depth) (Ok (after_term (f.depth - 1), record f { depth = f.depth - 1 })) (Err (unexpected t)) (after_term_goes_on (f.depth - 1)) tt
-where_moves p k t f = tt
+-- the next state is outside of SELECT, and the token isn't the end of the text
+abbrev pub Within : {X : Type 0} → Kind → Result (State × X) Fault → Type 0
+Within k (Ok p) = (is_outside p.0 ≡ true) × (is_end_of_text k ≡ false)
+Within k (Err fault) = Unit {0}
 
-based_moves : (k : Kind) (first : ℕ) (m : Moment) (o : Option ℤ) → is_end_of_text k ≡ false → Moves k (based first m o)
-based_moves k first m None other = tt
-based_moves k first m (Some value) other = sym other
+within_if : {X : Type 0} (k : Kind) (test : Bool) (one other : Result (State × X) Fault) → Within k one → Within k other → Within k (if test then one else other)
+within_if k true one other a b = a
+within_if k false one other a b = b
 
-later_moves : (t : Lexeme) (m : Moment) (o : Option ℤ) → Moves kinds.Duration (later_by t m o)
-later_moves t m None = tt
-later_moves t m (Some value) = refl
+outside_done : (p : State) → is_outside p ≡ true → is_done p ≡ false
+outside_done states.Done e = absurd (cc)
+outside_done p e = refl
 
-earlier_moves : (t : Lexeme) (m : Moment) (o : Option ℤ) → Moves kinds.Duration (earlier_by t m o)
-earlier_moves t m None = tt
-earlier_moves t m (Some value) = refl
+within_moves : {X : Type 0} (k : Kind) (r : Result (State × X) Fault) → Within k r → Moves k r
+within_moves k (Ok p) w = outside_done p.0 w.0 ∙ sym w.1
+within_moves k (Err fault) w = tt
 
-moment_moves : (now : ℤ) (p : State) (k : Kind) (t : Lexeme) (m : Moment) → Moves k (moment_at now p k t m)
-moment_moves now states.TimeSign kinds.Equals t m = refl
-moment_moves now states.TimeSign kinds.Less t m = refl
-moment_moves now states.TimeSign kinds.LessOrEqual t m = refl
-moment_moves now states.TimeSign kinds.Greater t m = refl
-moment_moves now states.TimeSign kinds.GreaterOrEqual t m = refl
-moment_moves now states.Moment kinds.Minus t m = refl
-moment_moves now states.Moment kinds.Integer t m = based_moves kinds.Integer t.start m (literal false t.text) refl
-moment_moves now states.Moment kinds.Duration t m = based_moves kinds.Duration t.start m (literal false t.text) refl
-moment_moves now states.Moment kinds.StringLiteral t m = based_moves kinds.StringLiteral t.start m (timestamp_of t.text) refl
-moment_moves now states.Moment kinds.Word t m = moves_if kinds.Word (is_word (codes "now") t.text) (Ok (states.NowOpen, record m { first = t.start })) (Err (unexpected t)) refl tt
-moment_moves now states.MomentMinus kinds.Integer t m = based_moves kinds.Integer m.first m (literal true t.text) refl
-moment_moves now states.MomentMinus kinds.Duration t m = based_moves kinds.Duration m.first m (literal true t.text) refl
-moment_moves now states.NowOpen kinds.LeftParen t m = refl
-moment_moves now states.NowClose kinds.RightParen t m = refl
-moment_moves now states.AfterMoment kinds.Plus t m = refl
-moment_moves now states.AfterMoment kinds.Minus t m = refl
-moment_moves now states.MomentPlus kinds.Duration t m = later_moves t m (literal false t.text)
-moment_moves now states.MomentLess kinds.Duration t m = earlier_moves t m (literal false t.text)
-moment_moves now p k t m = tt
+after_term_outside : (depth : ℕ) → is_outside (after_term depth) ≡ true
+after_term_outside depth = cond_both (eqb depth 0) states.AfterTerm states.NestedTerm (λ p. is_outside p ≡ true) (λ e. refl) (λ e. refl)
 
-time_item_moves : (k : Kind) (t : Lexeme) (g : Grouped) (o : Option Buckets) → is_end_of_text k ≡ false → Moves k (time_item t g o)
-time_item_moves k t g None other = sym other
-time_item_moves k t g (Some b) other = tt
+term_within : (k : Kind) (t : Lexeme) (f : Filtered) → is_end_of_text k ≡ false → Within k (term_at t f)
+term_within k t f other = within_if k (is_time_column t.kind t.text) (Ok (states.TimeSign, f)) (Ok (states.TagEnd, record f { tag = text_spelled t.text })) (refl, other) (refl, other)
 
-item_moves : (k : Kind) (t : Lexeme) (g : Grouped) → is_end_of_text k ≡ false → Moves k (item_at t g)
-item_moves k t g other = moves_if k (is_time_column t.kind t.text) (time_item t g g.buckets) (Ok (states.AfterTag, record g { tags = inserted_text (text_spelled t.text) g.tags })) (time_item_moves k t g g.buckets other) (sym other)
+pub where_within : (p : State) (k : Kind) (t : Lexeme) (f : Filtered) → Within k (where_at p k t f)
+where_within states.Term kinds.LeftParen t f = within_if kinds.LeftParen (nat_lt f.depth 32) (Ok (states.Term, record f { depth = f.depth + 1 })) (Err (unsupported t)) (refl, refl) tt
+where_within states.Term kinds.Word t f = term_within kinds.Word t f refl
+where_within states.Term kinds.QuotedName t f = term_within kinds.QuotedName t f refl
+where_within states.TagEnd kinds.DoubleColon t f = (refl, refl)
+where_within states.TagEnd kinds.Equals t f = (refl, refl)
+where_within states.TagEnd kinds.NotEqual t f = (refl, refl)
+where_within states.TagType kinds.Word t f = within_if kinds.Word (is_word (codes "tag") t.text) (Ok (states.TagSign, f)) (Err (unexpected t)) (refl, refl) tt
+where_within states.TagSign kinds.Equals t f = (refl, refl)
+where_within states.TagSign kinds.NotEqual t f = (refl, refl)
+where_within states.TagValue kinds.StringLiteral t f = (after_term_outside f.depth, refl)
+where_within states.AfterTerm kinds.Keyword t f = within_if kinds.Keyword (is_word (codes "and") t.text) (Ok (states.Term, f)) (Err (unexpected t)) (refl, refl) tt
+where_within states.NestedTerm kinds.Keyword t f = within_if kinds.Keyword (is_word (codes "and") t.text) (Ok (states.Term, f)) (Err (unexpected t)) (refl, refl) tt
+where_within states.NestedTerm kinds.RightParen t f =
+    within_if kinds.RightParen (nat_lt 0 f.depth) (Ok (after_term (f.depth - 1), record f { depth = f.depth - 1 })) (Err (unexpected t)) (after_term_outside (f.depth - 1), refl) tt
+where_within p k t f = tt
 
-interval_moves : (t : Lexeme) (g : Grouped) (o : Option ℤ) → Moves kinds.Duration (with_interval t g o)
-interval_moves t g None = tt
-interval_moves t g (Some interval) = moves_if kinds.Duration (int_le (pos 1) interval) (Ok (states.IntervalEnd, record g { buckets = of_interval interval })) (Err (OutOfRange t.start)) refl tt
+based_within : (k : Kind) (first : ℕ) (m : Moment) (o : Option ℤ) → is_end_of_text k ≡ false → Within k (based first m o)
+based_within k first m None other = tt
+based_within k first m (Some value) other = (refl, other)
 
-offset_moves : (first : ℕ) (g : Grouped) (o : Option ℤ) → Moves kinds.Duration (with_offset first g o)
-offset_moves first g None = tt
-offset_moves first g (Some offset) = refl
+later_within : (t : Lexeme) (m : Moment) (o : Option ℤ) → Within kinds.Duration (later_by t m o)
+later_within t m None = tt
+later_within t m (Some value) = (refl, refl)
 
-group_moves : (p : State) (k : Kind) (t : Lexeme) (g : Grouped) → Moves k (grouping_at p k t g)
-group_moves states.GroupBy kinds.Keyword t g = moves_if kinds.Keyword (is_word (codes "by") t.text) (Ok (states.Item, g)) (Err (unexpected t)) refl tt
-group_moves states.Item kinds.Word t g = item_moves kinds.Word t g refl
-group_moves states.Item kinds.QuotedName t g = item_moves kinds.QuotedName t g refl
-group_moves states.TimeOpen kinds.LeftParen t g = refl
-group_moves states.Interval kinds.Duration t g = interval_moves t g (literal false t.text)
-group_moves states.IntervalEnd kinds.Comma t g = refl
-group_moves states.IntervalEnd kinds.RightParen t g = refl
-group_moves states.Offset kinds.Minus t g = refl
-group_moves states.Offset kinds.Duration t g = offset_moves t.start g (literal false t.text)
-group_moves states.OffsetMinus kinds.Duration t g = offset_moves g.first g (literal true t.text)
-group_moves states.OffsetEnd kinds.RightParen t g = refl
-group_moves states.AfterTag kinds.DoubleColon t g = refl
-group_moves states.AfterTag kinds.Comma t g = refl
-group_moves states.GroupTagType kinds.Word t g = moves_if kinds.Word (is_word (codes "tag") t.text) (Ok (states.AfterItem, g)) (Err (unexpected t)) refl tt
-group_moves states.AfterItem kinds.Comma t g = refl
-group_moves p k t g = tt
+earlier_within : (t : Lexeme) (m : Moment) (o : Option ℤ) → Within kinds.Duration (earlier_by t m o)
+earlier_within t m None = tt
+earlier_within t m (Some value) = (refl, refl)
 
-number_moves : (first : ℕ) (f : FillClause) (o : Option ℤ) → Moves kinds.Integer (with_number first f o)
-number_moves first f None = tt
-number_moves first f (Some n) = refl
+pub moment_within : (now : ℤ) (p : State) (k : Kind) (t : Lexeme) (m : Moment) → Within k (moment_at now p k t m)
+moment_within now states.TimeSign kinds.Equals t m = (refl, refl)
+moment_within now states.TimeSign kinds.Less t m = (refl, refl)
+moment_within now states.TimeSign kinds.LessOrEqual t m = (refl, refl)
+moment_within now states.TimeSign kinds.Greater t m = (refl, refl)
+moment_within now states.TimeSign kinds.GreaterOrEqual t m = (refl, refl)
+moment_within now states.Moment kinds.Minus t m = (refl, refl)
+moment_within now states.Moment kinds.Integer t m = based_within kinds.Integer t.start m (literal false t.text) refl
+moment_within now states.Moment kinds.Duration t m = based_within kinds.Duration t.start m (literal false t.text) refl
+moment_within now states.Moment kinds.StringLiteral t m = based_within kinds.StringLiteral t.start m (timestamp_of t.text) refl
+moment_within now states.Moment kinds.Word t m = within_if kinds.Word (is_word (codes "now") t.text) (Ok (states.NowOpen, record m { first = t.start })) (Err (unexpected t)) (refl, refl) tt
+moment_within now states.MomentMinus kinds.Integer t m = based_within kinds.Integer m.first m (literal true t.text) refl
+moment_within now states.MomentMinus kinds.Duration t m = based_within kinds.Duration m.first m (literal true t.text) refl
+moment_within now states.NowOpen kinds.LeftParen t m = (refl, refl)
+moment_within now states.NowClose kinds.RightParen t m = (refl, refl)
+moment_within now states.AfterMoment kinds.Plus t m = (refl, refl)
+moment_within now states.AfterMoment kinds.Minus t m = (refl, refl)
+moment_within now states.MomentPlus kinds.Duration t m = later_within t m (literal false t.text)
+moment_within now states.MomentLess kinds.Duration t m = earlier_within t m (literal false t.text)
+moment_within now p k t m = tt
 
-fill_moves : (p : State) (k : Kind) (t : Lexeme) (f : FillClause) → Moves k (fill_at p k t f)
-fill_moves states.FillOpen kinds.LeftParen t f = refl
-fill_moves states.FillOption kinds.Word t f =
-    moves_if kinds.Word (is_word (codes "null") t.text) (chosen fills.Null f)
-    (if is_word (codes "none") t.text then chosen fills.None f else if is_word (codes "previous") t.text then chosen fills.Previous f else Err (unexpected t)) refl
-    (moves_if kinds.Word (is_word (codes "none") t.text) (chosen fills.None f) (if is_word (codes "previous") t.text then chosen fills.Previous f else Err (unexpected t)) refl
-    (moves_if kinds.Word (is_word (codes "previous") t.text) (chosen fills.Previous f) (Err (unexpected t)) refl tt))
-fill_moves states.FillOption kinds.Minus t f = refl
-fill_moves states.FillOption kinds.Integer t f = number_moves t.start f (literal false t.text)
-fill_moves states.FillMinus kinds.Integer t f = number_moves f.first f (literal true t.text)
-fill_moves states.FillClose kinds.RightParen t f = refl
-fill_moves p k t f = tt
+time_item_within : (k : Kind) (t : Lexeme) (g : Grouped) (o : Option Buckets) → is_end_of_text k ≡ false → Within k (time_item t g o)
+time_item_within k t g None other = (refl, other)
+time_item_within k t g (Some b) other = tt
+
+item_within : (k : Kind) (t : Lexeme) (g : Grouped) → is_end_of_text k ≡ false → Within k (item_at t g)
+item_within k t g other = within_if k (is_time_column t.kind t.text) (time_item t g g.buckets) (Ok (states.AfterTag, record g { tags = inserted_text (text_spelled t.text) g.tags })) (time_item_within k t g g.buckets other) (refl, other)
+
+interval_within : (t : Lexeme) (g : Grouped) (o : Option ℤ) → Within kinds.Duration (with_interval t g o)
+interval_within t g None = tt
+interval_within t g (Some interval) = within_if kinds.Duration (int_le (pos 1) interval) (Ok (states.IntervalEnd, record g { buckets = of_interval interval })) (Err (OutOfRange t.start)) (refl, refl) tt
+
+offset_within : (first : ℕ) (g : Grouped) (o : Option ℤ) → Within kinds.Duration (with_offset first g o)
+offset_within first g None = tt
+offset_within first g (Some offset) = (refl, refl)
+
+pub group_within : (p : State) (k : Kind) (t : Lexeme) (g : Grouped) → Within k (grouping_at p k t g)
+group_within states.GroupBy kinds.Keyword t g = within_if kinds.Keyword (is_word (codes "by") t.text) (Ok (states.Item, g)) (Err (unexpected t)) (refl, refl) tt
+group_within states.Item kinds.Word t g = item_within kinds.Word t g refl
+group_within states.Item kinds.QuotedName t g = item_within kinds.QuotedName t g refl
+group_within states.TimeOpen kinds.LeftParen t g = (refl, refl)
+group_within states.Interval kinds.Duration t g = interval_within t g (literal false t.text)
+group_within states.IntervalEnd kinds.Comma t g = (refl, refl)
+group_within states.IntervalEnd kinds.RightParen t g = (refl, refl)
+group_within states.Offset kinds.Minus t g = (refl, refl)
+group_within states.Offset kinds.Duration t g = offset_within t.start g (literal false t.text)
+group_within states.OffsetMinus kinds.Duration t g = offset_within g.first g (literal true t.text)
+group_within states.OffsetEnd kinds.RightParen t g = (refl, refl)
+group_within states.AfterTag kinds.DoubleColon t g = (refl, refl)
+group_within states.AfterTag kinds.Comma t g = (refl, refl)
+group_within states.GroupTagType kinds.Word t g = within_if kinds.Word (is_word (codes "tag") t.text) (Ok (states.AfterItem, g)) (Err (unexpected t)) (refl, refl) tt
+group_within states.AfterItem kinds.Comma t g = (refl, refl)
+group_within p k t g = tt
+
+number_within : (first : ℕ) (f : FillClause) (o : Option ℤ) → Within kinds.Integer (with_number first f o)
+number_within first f None = tt
+number_within first f (Some n) = (refl, refl)
+
+pub fill_within : (p : State) (k : Kind) (t : Lexeme) (f : FillClause) → Within k (fill_at p k t f)
+fill_within states.FillOpen kinds.LeftParen t f = (refl, refl)
+fill_within states.FillOption kinds.Word t f =
+    within_if kinds.Word (is_word (codes "null") t.text) (chosen fills.Null f)
+    (if is_word (codes "none") t.text then chosen fills.None f else if is_word (codes "previous") t.text then chosen fills.Previous f else Err (unexpected t)) (refl, refl)
+    (within_if kinds.Word (is_word (codes "none") t.text) (chosen fills.None f) (if is_word (codes "previous") t.text then chosen fills.Previous f else Err (unexpected t)) (refl, refl)
+    (within_if kinds.Word (is_word (codes "previous") t.text) (chosen fills.Previous f) (Err (unexpected t)) (refl, refl) tt))
+fill_within states.FillOption kinds.Minus t f = (refl, refl)
+fill_within states.FillOption kinds.Integer t f = number_within t.start f (literal false t.text)
+fill_within states.FillMinus kinds.Integer t f = number_within f.first f (literal true t.text)
+fill_within states.FillClose kinds.RightParen t f = (refl, refl)
+fill_within p k t f = tt
 
 selection_moves : (k : Kind) (d : BuilderState) (r : Result (State × Selected) Fault) → Moves k r → Moves k (in_selection d r)
 selection_moves k d (Ok p) m = m
@@ -200,10 +235,10 @@ filling_moves k d (Err fault) m = tt
 builder_at_moves : (c : Clause) (now : ℤ) (p : State) (t : Lexeme) (d : BuilderState) → Moves t.kind (builder_at c now p t d)
 unfolding select_step where_step moment_step group_step fill_step
 builder_at_moves clauses.Select now p t d = selection_moves t.kind d (select_at p t.kind t d.selection) (select_moves p t.kind t d.selection)
-builder_at_moves clauses.Where now p t d = filter_moves t.kind d (where_at p t.kind t d.filter) (where_moves p t.kind t d.filter)
-builder_at_moves clauses.Moment now p t d = in_moment_moves t.kind d (moment_at now p t.kind t d.moment) (moment_moves now p t.kind t d.moment)
-builder_at_moves clauses.Group now p t d = in_groups_moves t.kind d (grouping_at p t.kind t d.groups) (group_moves p t.kind t d.groups)
-builder_at_moves clauses.Fill now p t d = filling_moves t.kind d (fill_at p t.kind t d.filling) (fill_moves p t.kind t d.filling)
+builder_at_moves clauses.Where now p t d = filter_moves t.kind d (where_at p t.kind t d.filter) (within_moves t.kind (where_at p t.kind t d.filter) (where_within p t.kind t d.filter))
+builder_at_moves clauses.Moment now p t d = in_moment_moves t.kind d (moment_at now p t.kind t d.moment) (within_moves t.kind (moment_at now p t.kind t d.moment) (moment_within now p t.kind t d.moment))
+builder_at_moves clauses.Group now p t d = in_groups_moves t.kind d (grouping_at p t.kind t d.groups) (within_moves t.kind (grouping_at p t.kind t d.groups) (group_within p t.kind t d.groups))
+builder_at_moves clauses.Fill now p t d = filling_moves t.kind d (fill_at p t.kind t d.filling) (within_moves t.kind (fill_at p t.kind t d.filling) (fill_within p t.kind t d.filling))
 builder_at_moves clauses.None now p t d = tt
 
 builder_moves : (now : ℤ) (p : State) (t : Lexeme) (d : BuilderState) → Moves t.kind (builder_step now p t d)

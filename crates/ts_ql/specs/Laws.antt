@@ -109,8 +109,8 @@ pub record ReadsText {X : Type 0} (view : X → List Select) (now : ℤ) (text :
   -- a text with a first error is refused with it
   pub fault : (fault : Fault) → TextFault now text fault → Gives view result (Err fault)
 
--- A statement with a second column is complete before the first error: a comma stands where a FROM could be, and the end
--- of a statement after it.
+-- A statement has a second column, and no error before its end: a comma stands where a FROM could be, the end of a
+-- statement follows, and no error is before that.
 pub record HasSecondColumn (now : ℤ) (ts : List Lexeme) : Type 0 where
   pub before : List Lexeme
   pub comma : Lexeme

@@ -184,8 +184,9 @@ fn read<A: Allocator + Copy>(
 }
 
 /// Parses an InfluxQL text. Returns one query per statement, or the first error with its byte offset. Times are in
-/// nanoseconds of the Unix epoch; `now` is the value of `now()`. A text that is too long is refused before anything is
-/// allocated.
+/// nanoseconds of the Unix epoch; `now` is the value of `now()`. Runs out of memory only on a text without an error, or
+/// at the end of a statement whose columns' names it has to compare. A text that is too long is refused before anything
+/// is allocated.
 pub fn parse<A: Allocator + Copy>(
     alloc: A,
     text: &str,

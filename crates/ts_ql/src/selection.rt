@@ -1,7 +1,7 @@
 //! Parser of SELECT and FROM.
 ghost use Rattle.std.specs.Prelude.{◌≡◌};
 ghost use Rattle.ts_ql.specs.QueryFaults.{FindsWith};
-ghost use Rattle.ts_ql.specs.SelectSteps.{selected, select_step, with_column, with_default, with_call_field, empty_selection};
+ghost use Rattle.ts_ql.specs.SelectSteps.{selected, select_step, with_column, with_call_field, empty_selection};
 ghost use Rattle.ts_ql.specs.Lists.{column_name};
 ghost use Rattle.ts_ql.specs.Tokens.{lexeme};
 
