@@ -24,7 +24,7 @@ use Rattle.ts_core.specs.lists.Changes.{or_else}
 use Rattle.std.specs.Bool.{OnTrue, OnFalse}
 use Rattle.ts_cells.specs.Grids.{RollupSeries, rollup_series_of, cell_at, RowOf, held, cell_in, entries_of, RowsRise, cells_of_bucket, HasLost}
 use Rattle.ts_cells.specs.Expiry.{HasEmptyFront, LosesOne, RemovesOne, IsAbove}
-use Rattle.ts_cells.specs.FrozenCounts.{frozen_in, frozen_count}
+use Rattle.ts_cells.specs.FrozenCounts.{frozen_one, frozen_cell_count}
 use Rattle.ts_cells.specs.RowChanges.{NoWider}
 use Rattle.ts_cells.proofs.Searches.{find_below}
 use Rattle.ts_cells.proofs.FrozenLemmas.{frozen_removed}
@@ -182,12 +182,12 @@ removes low ls rows after part d s t inside l =
 
 -- and counts it no longer
 pub removes_frozen : {P : Type 0} (size : P → ℕ) (low : ℤ) (ls : List RollupSeries) (rows after : List (RowOf (PartsOf P))) (part : PartsOf P) → AllDistinct ls → RowsRise rows → RowsRise after → ((i : ℤ) (j : ℕ) → held (cells_of_bucket rows i) j ≢ None → j < length ls) → LosesOne low part rows after
-    → frozen_count size (from_entries {R = cell_cmp} (entries_of ls after)) + frozen_in size part ≡ frozen_count size (from_entries {R = cell_cmp} (entries_of ls rows))
+    → frozen_cell_count size (from_entries {R = cell_cmp} (entries_of ls after)) + frozen_one size part ≡ frozen_cell_count size (from_entries {R = cell_cmp} (entries_of ls rows))
 unfolding removes
 removes_frozen size low ls rows after part d s t inside l =
     let m : FinMap cell_cmp (PartsOf _) = from_entries {R = cell_cmp} (entries_of ls rows) in
     let is = removes low ls rows after part d s t inside l in
-    ap (λ (n : FinMap cell_cmp (PartsOf _)). frozen_count size n + frozen_in size part) is.3
+    ap (λ (n : FinMap cell_cmp (PartsOf _)). frozen_cell_count size n + frozen_one size part) is.3
     ∙ frozen_removed size m is.0 part (get_at ls rows l.index l.series d s (inside l.index l.series (is_held part l.was)) ∙ l.was)
 
 held_within : {P : Type 0} (cs : List (Option P)) (j : ℕ) → held cs j ≢ None → j < length cs

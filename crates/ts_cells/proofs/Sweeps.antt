@@ -4,7 +4,7 @@ use Rattle.ts_cells.specs.Grids.{RollupSeries, RowOf, held, cells_of_bucket, Row
 use Rattle.std.specs.FinMap.{FinMap}
 use Rattle.ts_core.specs.store.Cells.{cell_cmp}
 use Rattle.ts_core.specs.store.TwoParts.{PartsOf}
-use Rattle.ts_cells.specs.FrozenCounts.{has_frozen, frozen_in, frozen_count}
+use Rattle.ts_cells.specs.FrozenCounts.{has_frozen_facts, frozen_one, frozen_cell_count}
 use Rattle.ts_cells.specs.Expiry.{HasEmptyFront, LosesOne, Removes, LosesBelow}
 use Rattle.ts_cells.specs.RowChanges.{NoWider, IsSweptTo}
 use Rattle.ts_cells.proofs.GridMoves.{grid_kept}
@@ -74,7 +74,7 @@ module _ {P : Type 0} (low : ℤ) (before rows : List (RowOf P)) (n e : ℕ) (s 
 pub record IsCountedSweep {P : Type 0} (size : P → ℕ) (low : ℤ) (before : List (RowOf (PartsOf P))) (removed lost emptied : ℕ) (rows : List (RowOf (PartsOf P))) : Type 0 where
   pub swept : IsSwept low before removed emptied rows
   pub few : lost ≤ removed
-  pub counted : (ls : List RollupSeries) → IsGrid ls before → frozen_count size (grid_of ls rows).cells + lost ≡ frozen_count size (grid_of ls before).cells
+  pub counted : (ls : List RollupSeries) → IsGrid ls before → frozen_cell_count size (grid_of ls rows).cells + lost ≡ frozen_cell_count size (grid_of ls before).cells
 
 pub no_counted_sweep : {P : Type 0} (size : P → ℕ) (low : ℤ) (rows : List (RowOf (PartsOf P))) → RowsRise rows → IsCountedSweep size low rows 0 0 0 rows
 no_counted_sweep size low rows s = record { swept = no_sweep low rows s; few = omega arith; counted = λ ls g. omega arith }
@@ -85,10 +85,10 @@ one_at_most false = omega arith
 
 module _ {P : Type 0} (size : P → ℕ) (low : ℤ) (before rows after : List (RowOf (PartsOf P))) where
   -- one cell more
-  pub counted_more : (n lost e f : ℕ) → n + 1 ≤ 256 → IsCountedSweep size low before n lost e rows → IsSweptTo f rows after → (part : PartsOf P) → LosesOne low part rows after → IsCountedSweep size low before (n + 1) (lost + frozen_in size part) f after
+  pub counted_more : (n lost e f : ℕ) → n + 1 ≤ 256 → IsCountedSweep size low before n lost e rows → IsSweptTo f rows after → (part : PartsOf P) → LosesOne low part rows after → IsCountedSweep size low before (n + 1) (lost + frozen_one size part) f after
   counted_more n lost e f few s t part l = record {
     swept = swept_more low before rows after n e f few s.swept t part l;
-    few = let a = s.few in let b = one_at_most (has_frozen size part) in omega arith;
+    few = let a = s.few in let b = one_at_most (has_frozen_facts size part) in omega arith;
     counted = λ ls g.
         let h : IsGrid ls rows = s.swept.grid ls g in
         let gone = removes_frozen size low ls rows after part h.once s.swept.rising t.rising (inside_of (length ls) rows h.narrow) l in
@@ -103,13 +103,13 @@ module _ {P : Type 0} (size : P → ℕ) (low : ℤ) (before rows after : List (
     few = s.few;
     counted = λ ls g.
         let h : IsGrid ls rows = s.swept.grid ls g in
-        subst (λ (m : FinMap cell_cmp (PartsOf P)). frozen_count size m + lost ≡ frozen_count size (grid_of ls before).cells) (sym (grid_kept ls rows after h.once s.swept.rising t.rising same)) (s.counted ls g);
+        subst (λ (m : FinMap cell_cmp (PartsOf P)). frozen_cell_count size m + lost ≡ frozen_cell_count size (grid_of ls before).cells) (sym (grid_kept ls rows after h.once s.swept.rising t.rising same)) (s.counted ls g);
   }
 
 -- the empty rows go
 pub counted_out : {P : Type 0} (size : P → ℕ) (low : ℤ) (before rows : List (RowOf (PartsOf P))) (n lost e : ℕ) → IsCountedSweep size low before n lost e rows → (ls : List RollupSeries) → IsGrid ls before
-    → frozen_count size (grid_of ls (drop e rows)).cells + lost ≡ frozen_count size (grid_of ls before).cells
+    → frozen_cell_count size (grid_of ls (drop e rows)).cells + lost ≡ frozen_cell_count size (grid_of ls before).cells
 counted_out size low before rows n lost e s ls g =
     let h : IsGrid ls rows = s.swept.grid ls g in
-    subst (λ (m : FinMap cell_cmp (PartsOf _)). frozen_count size m + lost ≡ frozen_count size (grid_of ls before).cells)
+    subst (λ (m : FinMap cell_cmp (PartsOf _)). frozen_cell_count size m + lost ≡ frozen_cell_count size (grid_of ls before).cells)
     (sym (grid_kept ls rows (drop e rows) h.once s.swept.rising (rising_drop e rows s.swept.rising) (cells_drop e rows s.swept.rising s.swept.front))) (s.counted ls g)

@@ -16,19 +16,19 @@ use Rattle.ts_ql.specs.Literals.{text_spelled}
 use Rattle.ts_ql.specs.Selects.{Projection, Select, function_name, inserted_text}
 
 -- the text that a token spells
-abbrev pub spelled : Bor Text → Text
-spelled text = text_spelled text.now
+abbrev pub spelled_by : Bor Text → Text
+spelled_by text = text_spelled text.now
 
 -- a column is named by AS, or else by its function
 abbrev pub column_name : Function → Option (Bor Text) → Text
 column_name f None = function_name f
-column_name f (Some alias) = spelled alias
+column_name f (Some alias) = spelled_by alias
 
 abbrev pub projection : Column → Projection
 projection c = record { function = c.function; name = column_name c.function c.alias }
 
 abbrev pub condition : TagTest → Condition
-condition t = record { tag = spelled t.tag; value = spelled t.value; negated = t.negated }
+condition t = record { tag = spelled_by t.tag; value = spelled_by t.value; negated = t.negated }
 
 -- the columns, conditions and tags of a statement, or the queries of a text
 pub record Lists : Type 0 where
@@ -40,14 +40,14 @@ pub record Lists : Type 0 where
 abbrev pub no_lists : Lists
 no_lists = record { columns = []; conditions = []; tags = []; queries = [] }
 
-abbrev pub with_column : Column → Lists → Lists
-with_column c l = record l { columns = l.columns ++ projection c ∷ [] }
+abbrev pub column_appended : Column → Lists → Lists
+column_appended c l = record l { columns = l.columns ++ projection c ∷ [] }
 
-abbrev pub with_condition : TagTest → Lists → Lists
-with_condition t l = record l { conditions = l.conditions ++ condition t ∷ [] }
+abbrev pub condition_appended : TagTest → Lists → Lists
+condition_appended t l = record l { conditions = l.conditions ++ condition t ∷ [] }
 
-abbrev pub with_tag : Tag → Lists → Lists
-with_tag t l = record l { tags = inserted_text (spelled t.name) l.tags }
+abbrev pub tag_inserted : Tag → Lists → Lists
+tag_inserted t l = record l { tags = inserted_text (spelled_by t.name) l.tags }
 
 -- the query of a statement with these columns, conditions and tags
 abbrev pub outlined : Lists → Lists → Lists → Outline → Select
@@ -55,8 +55,8 @@ outlined c w g o = record {
   columns = c.columns;
   fill = o.fill;
   query = record {
-    measurement = spelled o.measurement;
-    field = unwrap_or (option_map spelled o.field) [];
+    measurement = spelled_by o.measurement;
+    field = unwrap_or (option_map spelled_by o.field) [];
     conditions = w.conditions;
     from = o.span.from;
     to = o.span.to;
@@ -66,8 +66,8 @@ outlined c w g o = record {
   };
 }
 
-abbrev pub with_query : Lists → Lists → Lists → Outline → Lists → Lists
-with_query c w g o l = record l { queries = l.queries ++ outlined c w g o ∷ [] }
+abbrev pub query_appended : Lists → Lists → Lists → Outline → Lists → Lists
+query_appended c w g o l = record l { queries = l.queries ++ outlined c w g o ∷ [] }
 
 -- ---- columns without their names
 

@@ -9,7 +9,7 @@ use Rattle.ts_ql.specs.declared.state.State.TheVariants as states
 use Rattle.ts_ql.specs.declared.selection.Selection.{Selection}
 use Rattle.ts_ql.specs.declared.token.Kind.{Kind}
 use Rattle.ts_ql.specs.declared.token.Kind.TheVariants as kinds
-use Rattle.ts_ql.specs.Lists.{spelled}
+use Rattle.ts_ql.specs.Lists.{spelled_by}
 use Rattle.ts_ql.specs.QueryFaults.{Fault, unsupported, unexpected}
 use Rattle.ts_ql.specs.Literals.{is_word}
 use Rattle.ts_ql.specs.Selects.{Projection, function_name}
@@ -27,8 +27,8 @@ abbrev pub selected : {A : Type 0} → Selection A → Selected
 selected s = record {
   columns = s.columns;
   function = s.function;
-  field = option_map spelled s.field;
-  measurement = spelled s.measurement;
+  field = option_map spelled_by s.field;
+  measurement = spelled_by s.measurement;
 }
 
 abbrev pub Selecting : Type 0

@@ -8,7 +8,7 @@ use Rattle.ts_ql.specs.declared.state.State.{State}
 use Rattle.ts_ql.specs.declared.state.State.TheVariants as states
 use Rattle.ts_ql.specs.declared.token.Kind.{Kind}
 use Rattle.ts_ql.specs.declared.token.Kind.TheVariants as kinds
-use Rattle.ts_ql.specs.Lists.{spelled}
+use Rattle.ts_ql.specs.Lists.{spelled_by}
 use Rattle.ts_ql.specs.QueryFaults.{Fault, unsupported, unexpected}
 use Rattle.ts_ql.specs.Literals.{is_word, text_spelled}
 use Rattle.ts_ql.specs.Tokens.{Lexeme}
@@ -24,7 +24,7 @@ pub record Filtered : Type 0 where
 abbrev pub filtered : {A : Type 0} → WhereClause A → Filtered
 filtered f = record {
   conditions = f.conditions;
-  tag = spelled f.tag;
+  tag = spelled_by f.tag;
   negated = f.negated;
   depth = f.depth;
 }

@@ -4,7 +4,7 @@ ghost use Rattle.std.specs.Option.{unwrap_or};
 ghost use Rattle.ts_core.specs.facts.Times.{least_time};
 ghost use Rattle.ts_ql.specs.BucketLimits.{IsLimited};
 ghost use Rattle.ts_ql.specs.QueryFaults.{Gives, FindsWith, option_as_fault};
-ghost use Rattle.ts_ql.specs.Lists.{spelled};
+ghost use Rattle.ts_ql.specs.Lists.{spelled_by};
 ghost use Rattle.ts_ql.specs.MomentSteps.{CanAddMore};
 ghost use Rattle.ts_ql.specs.Reading.{finish_time_step, builder_step};
 ghost use Rattle.ts_ql.specs.Tokens.{lexeme};
@@ -92,7 +92,7 @@ fn span_fault<'a>(start: usize, buckets: Buckets, span: &Span) -> Option<QlFault
 /// Returns the text of a field, or the empty one without any.
 #[tactic(auto, using(crate::proofs::LiteralLemmas::spelled_nothing))]
 fn field_text<A: Allocator + Copy>(alloc: A, field: Option<&str>) -> Result<String<A>, AllocError>
-    ensures { IfOk result (λ text. string_bytes text ≡ unwrap_or (option_map spelled field.entry) []) }
+    ensures { IfOk result (λ text. string_bytes text ≡ unwrap_or (option_map spelled_by field.entry) []) }
 {
     text_spelled(alloc, field.unwrap_or(""))
 }

@@ -7,7 +7,7 @@ ghost use Rattle.ts_core.specs.aggregates.Aggregates.{Aggregate, empty_aggregate
 ghost use Rattle.ts_core.specs.lists.Members.{AllDistinct};
 ghost use Rattle.ts_core.specs.facts.Tags.{tag_values};
 ghost use Rattle.ts_cells.specs.Expiry.{LosesBelow};
-ghost use Rattle.ts_cells.specs.FrozenCounts.{frozen_count};
+ghost use Rattle.ts_cells.specs.FrozenCounts.{frozen_cell_count};
 ghost use Rattle.ts_core.specs.lists.Numbered.{IsAt};
 ghost use Rattle.ts_cells.specs.Grids.{rollup_series_of, rollup_series_named, borrowed_texts, cell_at, cell_in};
 ghost use Rattle.ts_cells.specs.Walks.{entry_of, entries_within};
@@ -281,7 +281,7 @@ impl<A: Allocator + Copy> Rollup<A> {
 
     /// Returns the number of cells that have frozen facts.
     pub(crate) fn frozen_count(&self) -> u128
-        ensures { result ≡ frozen_count (λ (a : Aggregate). a.count) self.now.grid.cells }
+        ensures { result ≡ frozen_cell_count (λ (a : Aggregate). a.count) self.now.grid.cells }
     {
         self.cells.frozen_count()
     }

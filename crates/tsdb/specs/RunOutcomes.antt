@@ -24,9 +24,9 @@ status_of (NoScript cli_outcome.OutOfMemory) = 3
 status_of (Stopped OutOfMemory) = 3
 
 -- the fault that stopped the script, if the common table of faults has it
-abbrev pub fault_of : CallOutcome → Option FaultCode
-fault_of (Stopped fault) = run_fault_code fault
-fault_of outcome = None
+abbrev pub stop_fault : CallOutcome → Option FaultCode
+stop_fault (Stopped fault) = run_fault_code fault
+stop_fault outcome = None
 
 -- the line for standard error, if there is one and it is none of a fault; for a wrong command line, clap has already
 -- printed the error

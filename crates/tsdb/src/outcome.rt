@@ -1,7 +1,7 @@
 //! Exit status of the program, and its line on standard error.
 ghost use Rattle.std.specs.Prelude.{◌≡◌, None, Some, MatchOption};
 ghost use Rattle.std.specs.Process.{exit_status};
-ghost use Rattle.tsdb.specs.RunOutcomes.{status_of, fault_of, error_line};
+ghost use Rattle.tsdb.specs.RunOutcomes.{status_of, stop_fault, error_line};
 
 use crate::command_line::CliOutcome;
 use std::process::ExitCode;
@@ -51,7 +51,7 @@ impl CallOutcome {
 
     /// Returns the fault that stopped the script, if the common table of faults has it.
     pub fn fault(self) -> Option<FaultCode>
-        ensures { result ≡ fault_of self }
+        ensures { result ≡ stop_fault self }
     {
         match self {
             CallOutcome::Stopped(fault) => fault.code(),

@@ -1,7 +1,7 @@
 //! Ghost lists: they have size 0, and their methods do nothing at run time.
 ghost use Rattle.std.specs.Prelude.{◌≡◌};
 ghost use Rattle.std.specs.Borrow.{ftrue};
-ghost use Rattle.ts_ql.specs.Lists.{Lists, no_lists, with_column, with_condition, with_tag, with_query};
+ghost use Rattle.ts_ql.specs.Lists.{Lists, no_lists, column_appended, condition_appended, tag_inserted, query_appended};
 
 use crate::lists::columns::Column;
 use crate::lists::conditions::TagTest;
@@ -33,7 +33,7 @@ impl Shadow {
 
     /// Returns the lists with another column.
     pub fn with_column(_before: &Shadow, _column: &Column<'_>) -> Shadow
-        ensures { result.lists ≡ with_column _column.now _before.now.lists }
+        ensures { result.lists ≡ column_appended _column.now _before.now.lists }
     {
         Shadow {
             marker: PhantomData,
@@ -42,7 +42,7 @@ impl Shadow {
 
     /// Returns the lists with another condition.
     pub fn with_condition(_before: &Shadow, _test: &TagTest<'_>) -> Shadow
-        ensures { result.lists ≡ with_condition _test.now _before.now.lists }
+        ensures { result.lists ≡ condition_appended _test.now _before.now.lists }
     {
         Shadow {
             marker: PhantomData,
@@ -51,7 +51,7 @@ impl Shadow {
 
     /// Returns the lists with another tag.
     pub fn with_tag(_before: &Shadow, _tag: &Tag<'_>) -> Shadow
-        ensures { result.lists ≡ with_tag _tag.now _before.now.lists }
+        ensures { result.lists ≡ tag_inserted _tag.now _before.now.lists }
     {
         Shadow {
             marker: PhantomData,
@@ -66,7 +66,7 @@ impl Shadow {
         _tags: &Shadow,
         _outline: &Outline<'_>,
     ) -> Shadow
-        ensures { result.lists ≡ with_query _columns.now.lists _conditions.now.lists _tags.now.lists _outline.now _before.now.lists }
+        ensures { result.lists ≡ query_appended _columns.now.lists _conditions.now.lists _tags.now.lists _outline.now _before.now.lists }
     {
         Shadow {
             marker: PhantomData,

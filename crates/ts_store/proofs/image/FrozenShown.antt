@@ -18,7 +18,7 @@ use Rattle.ts_core.specs.store.StoreData.{CellMap}
 use Rattle.ts_core.proofs.lists.Comparisons.{lt_true}
 use Rattle.ts_core.proofs.aggregates.IndicesFit.{indices_fit}
 use Rattle.ts_core.proofs.lists.MembersLemmas.{Among-map}
-use Rattle.ts_cells.specs.FrozenCounts.{frozen_count}
+use Rattle.ts_cells.specs.FrozenCounts.{frozen_cell_count}
 use Rattle.ts_cells.specs.Walks.{CellWithPart, entry_of, entries_within}
 use Rattle.ts_store.specs.store.PossibleCells.{IsBucketIndex, HasPossibleCells, HavePossibleCells}
 use Rattle.ts_store.specs.store.ColumnStates.{StoreContent}
@@ -26,7 +26,7 @@ use Rattle.ts_store.specs.read.LiveCells.{rollup_at}
 use Rattle.ts_store.specs.rollup.Rollups.{RollupState, new_rollup, AreRollups, cells_of}
 use Rattle.ts_store.proofs.rollup.RollupsGrow.{rollups-length}
 use Rattle.ts_cells.proofs.FrozenLemmas.{count_split}
-use Rattle.ts_store.specs.image.FrozenLeft.{has_frozen, frozen_cell, frozen_left, HasNearCells}
+use Rattle.ts_store.specs.image.FrozenLeft.{holds_frozen, frozen_cell, frozen_left, HasNearCells}
 use Rattle.ts_store.specs.image.SavedContent.{FrozenCell, frozen_from}
 
 -- ---- indices
@@ -52,7 +52,7 @@ frozen_entry e = record { cell = e.0; frozen = e.1.frozen }
 left_frozen : (ks : List (CellWithPart CellParts)) → frozen_left ks ≡ map frozen_entry (filter is_frozen (map entry_of ks))
 left_frozen [] = refl
 left_frozen (k ∷ ks) =
-    elim (has_frozen k) as (λ b. map frozen_cell (cond b (k ∷ filter has_frozen ks) (filter has_frozen ks)) ≡ map frozen_entry (cond b (entry_of k ∷ filter is_frozen (map entry_of ks)) (filter is_frozen (map entry_of ks)))) [
+    elim (holds_frozen k) as (λ b. map frozen_cell (cond b (k ∷ filter holds_frozen ks) (filter holds_frozen ks)) ≡ map frozen_entry (cond b (entry_of k ∷ filter is_frozen (map entry_of ks)) (filter is_frozen (map entry_of ks)))) [
       | true ↦ ap (λ (xs : List FrozenCell). frozen_cell k ∷ xs) (left_frozen ks)
       | false ↦ left_frozen ks
     ]
@@ -115,7 +115,7 @@ above_start z fits = omega (arith, ints)
 
 -- the cells of a walk below a low index, and those from it on, are all that have frozen facts
 pub facts_counted : (held : StoreContent) (r : Rule) (n : ℕ) (s : RollupState) (from low : ℤ) (ks : List (CellWithPart CellParts)) → HasNearCells held r n → from ≤ℤ negsuc (2 ^ 64) → s ≡ get_or held.rollups n s → map entry_of ks ≡ entries_within from low s.grid.cells
-    → length (frozen_from low (rollup_at held.rollups n).grid.cells) + length (frozen_left ks) ≡ frozen_count (λ (a : Aggregate). a.count) s.grid.cells
+    → length (frozen_from low (rollup_at held.rollups n).grid.cells) + length (frozen_left ks) ≡ frozen_cell_count (λ (a : Aggregate). a.count) s.grid.cells
 facts_counted held r n s from low ks near wide read entries =
     let is : s ≡ rollup_at held.rollups n = read ∙ get_or_default held.rollups n s new_rollup near.there in
     let m : CellMap = (rollup_at held.rollups n).grid.cells in
@@ -130,7 +130,7 @@ facts_counted held r n s from low ks near wide read entries =
     ∙ length-map (filter (λ (e : Cell × CellParts). not (on e) && is_frozen e) es) frozen_entry in
     let those : length (frozen_from low m) ≡ length (filter (λ (e : Cell × CellParts). on e && is_frozen e) es) = length-map (filter (λ (e : Cell × CellParts). on e && is_frozen e) es) frozen_entry in
     let all = count_split on is_frozen es in
-    let same = ap (λ (t : RollupState). frozen_count (λ (a : Aggregate). a.count) t.grid.cells) is in
+    let same = ap (λ (t : RollupState). frozen_cell_count (λ (a : Aggregate). a.count) t.grid.cells) is in
     omega arith
 
 -- ---- of a store

@@ -10,14 +10,14 @@ use Rattle.ts_store.specs.read.LiveCells.{rollup_at}
 use Rattle.ts_store.specs.image.SavedContent.{FrozenCell}
 
 -- the cell has frozen facts
-abbrev pub has_frozen : CellWithPart CellParts → Bool
-has_frozen k = nat_lt 0 k.part.frozen.count
+abbrev pub holds_frozen : CellWithPart CellParts → Bool
+holds_frozen k = nat_lt 0 k.part.frozen.count
 
 abbrev pub frozen_cell : CellWithPart CellParts → FrozenCell
 frozen_cell k = record { cell = k.cell; frozen = k.part.frozen }
 
 abbrev pub frozen_left : List (CellWithPart CellParts) → List FrozenCell
-frozen_left ks = map frozen_cell (filter has_frozen ks)
+frozen_left ks = map frozen_cell (filter holds_frozen ks)
 
 -- the indices of the cells of the rule with this index fit 64 bits
 pub record HasNearCells (held : StoreContent) (r : Rule) (n : ℕ) : Type 0 where

@@ -3,7 +3,7 @@ use Rattle.std.specs.List.{slice_get}
 use Rattle.std.proofs.lemmas.Option.{slice_get-get_or}
 use Rattle.ts_core.specs.store.TwoParts.{PartsOf}
 use Rattle.ts_cells.specs.CellChanges.{parts_after}
-use Rattle.ts_cells.specs.FrozenCounts.{frozen_in, frozen_at}
+use Rattle.ts_cells.specs.FrozenCounts.{frozen_one, frozen_at}
 use Rattle.ts_cells.specs.Grids.{RowOf, held}
 use Rattle.ts_cells.specs.Rows.{slot_of, by_series}
 use Rattle.ts_cells.proofs.RowLemmas.{length-by_series, held_at, none_held, none_put, part_put}
@@ -55,7 +55,7 @@ returns-then-slot-len-clause-first g c =
     let here : held (by_series parts slots) series ≡ Some was =
     held_at parts slots series c.self.invariant.few ∙ ap (slice_get parts) (sym c.find_slot-slot.ensures) ∙ slice_get-get_or parts c.find_slot-slot.result was within ∙ ap Some (sym c.index_mut.ensures.value) in
     subst (λ o. frozen_at size o + cond c.apply.result 1 0 ≡ frozen_at size (option_map f o)) (sym here ∙ ap (λ (s : RowOf (PartsOf g.row.P.Denot)). held s.1 series) c.self.view_is)
-    (c.apply.ensures.first ∙ ap (frozen_in size) c.apply.ensures.parts)
+    (c.apply.ensures.first ∙ ap (frozen_one size) c.apply.ensures.parts)
 
 pub returns-else-slot-len-clause-first : goal.returns-else-slot-len-clause-first
 returns-else-slot-len-clause-first g c =

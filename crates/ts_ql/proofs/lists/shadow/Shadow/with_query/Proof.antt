@@ -15,7 +15,7 @@ use denote.Signature.{plain, types_at, named_lft}
 use denote.Triple.Entry.{alive}
 use denote.Triple.Walked.{Stays, walk_of, stay_none_ref, Goes-none_ref, says, ends_at}
 use Rattle.ts_ql.specs.declared.lists.shadow.Shadow.{Shadow}
-use Rattle.ts_ql.specs.Lists.{with_query}
+use Rattle.ts_ql.specs.Lists.{query_appended}
 use Rattle.ts_ql.specs.contracts.lists.shadow.Shadow.{the_row as R}
 use Rattle.ts_ql.specs.contracts.lists.queries.Outline as outline
 use Rattle.ts_ql.specs.contracts.lists.shadow.Shadow.with_query as f
@@ -38,7 +38,7 @@ with_query_spec 𝓤 𝓛 𝓜 𝓡 wired =
     f.Key.name code.function (code.unfolded 𝓤 𝓛.H 𝓜 𝓡 wired)
     (λ κs. (shr_vals, (shr_vals, (shr_vals, (shr_vals, (shr_vals, tt)))))) (λ κs. ((λ x vs w. w.0), ((λ x vs w. w.0), ((λ x vs w. w.0), ((λ x vs w. w.0), ((λ x vs w. w.0), tt))))))
     (λ κs qs bounds a g _.
-    let shadow : Shadow = record { marker = record {}; lists = with_query a.1.0.now.lists a.1.1.0.now.lists a.1.1.1.0.now.lists a.1.1.1.1.0.now a.0.now.lists } in
+    let shadow : Shadow = record { marker = record {}; lists = query_appended a.1.0.now.lists a.1.1.0.now.lists a.1.1.1.0.now.lists a.1.1.1.1.0.now a.0.now.lists } in
     let y : W.Ghost = ((κs, qs, bounds, a, (shr_vals a.0, (shr_vals a.1.0, (shr_vals a.1.1.0, (shr_vals a.1.1.1.0, (shr_vals a.1.1.1.1.0, tt)))))), g) in
     qed 𝓛 ((raw (alive 𝓛 f.signature κs qs) ⊛ ‵ (owns (types_at f.signature.params κs) a y.0.4)) ∷ raw ((c κs a).requires g) ∷ []) ∵
     split ! $ keep ! (0 ∷ 1 ∷ []) $
