@@ -7,7 +7,7 @@ mod means;
 mod partial;
 mod remainder;
 
-pub use aggregate::{Agg, Extremes, MAX_COUNT};
+pub use aggregate::{Agg, Extremes, MAX_COUNT, times};
 pub use bucket::{Bucket, Buckets, bucket_index, first_index, index_of};
 pub use fold::{aggregate_points, fold_points};
 pub use means::{Frac, mean};

@@ -15,12 +15,7 @@ use crate::rule_reading::RuleParts;
 use crate::series_checks::{is_name, is_time};
 use std::alloc::Allocator;
 use std::cmp::Ordering;
-
-fn times(count: u64, value: &i64) -> i128
-    ensures { result ≡ pos count *ℤ value.now }
-{
-    i128::from(count) * i128::from(*value)
-}
+use ts_core::times;
 
 fn are_spread(count: u64, sum: &i128, extremes: &ExtremesParts) -> bool
     ensures { IsTrue result ↔ IsSpread count sum.now (extremes_of_parts extremes.now) }
@@ -28,7 +23,7 @@ fn are_spread(count: u64, sum: &i128, extremes: &ExtremesParts) -> bool
     if count == 0 {
         return false;
     }
-    times(count, &extremes.min) <= *sum && *sum <= times(count, &extremes.max)
+    times(count, extremes.min) <= *sum && *sum <= times(count, extremes.max)
 }
 
 fn is_between(low: &i64, high: &i64, value: &i64) -> bool

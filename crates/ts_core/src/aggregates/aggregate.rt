@@ -112,8 +112,8 @@ impl Extremes {
     }
 }
 
-fn times(count: u64, value: i64) -> i128
-    requires { count ≤ 2 ^ 62 }
+/// Returns the sum of `count` times the value.
+pub fn times(count: u64, value: i64) -> i128
     ensures { result ≡ pos count *ℤ value }
 {
     i128::from(count) * i128::from(value)
