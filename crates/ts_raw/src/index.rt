@@ -27,7 +27,7 @@ pub use series_id::SeriesId;
 use std::alloc::{AllocError, Allocator};
 use std::hash::RandomState;
 use std::marker::Model;
-use tagged::{insert_in_order, tagged_columns};
+use tagged::{sort_and_dedup, tagged_columns};
 use ts_core::{FieldName, Key, KeyRef};
 
 /// Limit of the number of registered series.
@@ -234,7 +234,7 @@ impl<A: Allocator + Copy> Index<A> {
                     tag,
                     value,
                 )?;
-                insert_in_order(&mut found);
+                sort_and_dedup(&mut found);
                 Ok(found)
             }
             None => Ok(Vec::new(alloc)),

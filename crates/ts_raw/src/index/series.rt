@@ -1,8 +1,6 @@
 //! Hash table of series, by their keys.
-ghost use Rattle.std.specs.Prelude.{◌≡◌, ◌≤◌, ◌<◌, ◌↔◌, [], ℕ, length, IfSome, IfNone, IfOk, Err, IsTrue, string_bytes};
-ghost use Rattle.std.specs.Bool.{OnTrue};
+ghost use Rattle.std.specs.Prelude.{◌≡◌, ◌≤◌, ◌<◌, ◌↔◌, [], length, IfSome, IfNone, IfOk, Err};
 ghost use Rattle.ts_core.specs.lists.Members.{Among, AllDistinct};
-ghost use Rattle.ts_core.specs.text.Texts.{owned_pairs, borrowed_pairs};
 ghost use Rattle.ts_raw.specs.Registering.{IsRegistered};
 ghost use Rattle.ts_raw.specs.TagChains.{AreAmongTagged, IsHashed};
 ghost use Rattle.ts_core.specs.lists.Numbered.{IsAt};
@@ -40,37 +38,6 @@ impl<A: Allocator> Model for SeriesTable<A> {
     ghost view = { λ t. t.keys.items };
 
     ghost invariant = { λ t. IsSeriesTable t.seed t.keys.items t.chains t.tags };
-}
-
-/// Returns true if a tag has this key and this value.
-fn is_tag<A: Allocator>(tag: &(String<A>, String<A>), key: &str, value: &str) -> bool
-    ensures { IsTrue result ↔ ((string_bytes tag.now.0 ≡ key.now) × (string_bytes tag.now.1 ≡ value.now)) }
-{
-    tag.0.as_str() == key && tag.1.as_str() == value
-}
-
-/// Returns true if the owned tags equal the borrowed ones, in the same order.
-fn are_same<A: Allocator>(tags: &[(String<A>, String<A>)], others: &[(&str, &str)]) -> bool
-    ensures { OnTrue result (owned_pairs tags.now ≡ borrowed_pairs others.now) }
-{
-    match (tags.split_first(), others.split_first()) {
-        (None, None) => true,
-        (Some((tag, tags)), Some((other, others))) => {
-            if is_tag(tag, other.0, other.1) {
-                are_same(tags, others)
-            } else {
-                false
-            }
-        }
-        _ => false,
-    }
-}
-
-/// Returns true if an owned key equals a borrowed one.
-fn is_same<A: Allocator + Copy>(key: &Key<A>, other: &KeyRef<'_>) -> bool
-    ensures { OnTrue result (key.now ≡ other.now) }
-{
-    key.measurement() == other.measurement() && are_same(key.tags(), other.tags())
 }
 
 /// Looks up the series of a key by its hash.
@@ -153,7 +120,7 @@ impl<A: Allocator + Copy> SeriesTable<A> {
     {
         let number = *self.followers.get(self.last as usize)?;
         let other = self.keys.get(number as usize)?;
-        if is_same(other, key) {
+        if other.compare(key) == Ordering::Equal {
             Some(SeriesId { number })
         } else {
             None

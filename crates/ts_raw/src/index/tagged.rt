@@ -53,7 +53,7 @@ pub(crate) fn tagged_columns<A: Allocator + Copy>(
 }
 
 /// Sorts columns into creation order, each once.
-pub(crate) fn insert_in_order<A: Allocator>(columns: &mut Vec<ColumnId, A>)
+pub(crate) fn sort_and_dedup<A: Allocator>(columns: &mut Vec<ColumnId, A>)
     ensures rise { IsRisingList columns.new.items }
     ensures same { (n : ℕ) → Among n columns.old.items ↔ Among n columns.new.items }
 {

@@ -3,7 +3,7 @@ use Rattle.std.proofs.lemmas.List.Kept.{Contains-dedup_nat, Contains-from_dedup,
 use Rattle.std.proofs.lemmas.List.Sorted.{Contains-permutation, IsPermutation-sym}
 use Rattle.std.proofs.lemmas.Map.Keys.{IsStrictlyIncreasing-dedup}
 use Rattle.ts_raw.proofs.RisingLemmas.{rising_from_pairs, among_contains, contains_among}
-use Rattle.ts_raw.proofs.index.tagged.insert_in_order.Goals as goal
+use Rattle.ts_raw.proofs.index.tagged.sort_and_dedup.Goals as goal
 
 pub returns-clause-rise : goal.returns-clause-rise
 returns-clause-rise g c =
