@@ -1,5 +1,5 @@
 //! Index of the cells of a bucket: maps rollup series to positions in `Row::parts`, with 8 bytes per cell.
-ghost use Rattle.std.specs.Prelude.{◌≡◌, ◌≢◌, ◌≤◌, ◌<◌, ◌+◌, ℕ, ◌==◌, [], length, max, OnOk, OnErr, if◌then◌else◌, MatchResult};
+ghost use Rattle.std.specs.Prelude.{◌≡◌, ◌≤◌, ◌<◌, ◌+◌, ℕ, ◌==◌, [], length, max, OnOk, OnErr, if◌then◌else◌, MatchResult};
 ghost use Rattle.std.specs.declared.cmp.Ordering.{Ordering};
 ghost use Rattle.std.specs.Ordering.{nat_cmp};
 ghost use Rattle.std.specs.List.{HoldsAt};

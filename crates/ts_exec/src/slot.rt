@@ -1,5 +1,5 @@
 //! Slot of the group table: a group that may be empty.
-ghost use Rattle.std.specs.Prelude.{◌≡◌, ◌<◌, length, None, Some, OnOk, OnErr, option_map};
+ghost use Rattle.std.specs.Prelude.{◌≡◌, ◌<◌, length, None, Some, OnOk, option_map};
 ghost use Rattle.ts_core.specs.queries.Answers.{group_cmp};
 ghost use Rattle.ts_store.specs.read.ViewResults.{points_at};
 ghost use Rattle.ts_exec.specs.RowParts.{with_part, with_point_parts};

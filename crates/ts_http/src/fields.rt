@@ -2,8 +2,8 @@
 ghost use Rattle.std.specs.Prelude.{◌≡◌, length, map, false, IsTrue};
 ghost use Rattle.std.specs.List.{AllByRecursion, list_any};
 ghost use Rattle.std.specs.Str.Parse.{digits_value};
-ghost use Rattle.httparse.specs.Spans.{IsHeaderWithin, IsWithin, header_bytes, span_bytes};
-ghost use Rattle.ts_http.specs.Requests.{same_ignoring_case, is_field_named, has_field, is_coded, is_short_number, lengths_of, body_refused, refused, body_length};
+ghost use Rattle.httparse.specs.Spans.{IsHeaderWithin, header_bytes};
+ghost use Rattle.ts_http.specs.Requests.{same_ignoring_case, is_field_named, has_field, is_coded, is_short_number, lengths_of, body_refused, refused};
 ghost use Rattle.ts_http.specs.FieldValues.{LengthsAre, IsBodyAnswer};
 
 use crate::refusal::Refusal;

@@ -1,12 +1,11 @@
 //! `/maintain`: steps of a retention run.
-ghost use Rattle.std.specs.Prelude.{◌≡◌, OnOk, Option, true, false};
+ghost use Rattle.std.specs.Prelude.{◌≡◌, Option, true, false};
 ghost use Rattle.ts_core.specs.store.History.{Begin};
 ghost use Rattle.ts_core.specs.store.StoreData.{GoesOn};
 ghost use Rattle.ts_core.specs.moves.StoreMoves.{run_begun};
 ghost use Rattle.ts_http.specs.Maintaining.{steps_parameter, steps_of_parameter, progress_text};
 ghost use Rattle.ts_http.specs.MaintainSteps.{run_opened, HasStepped};
 ghost use Rattle.ts_http.specs.OutcomeReplies.{IsValueOr, MaintainsAs};
-ghost use Rattle.ts_reply.specs.OutcomeViews.{given_text};
 
 use crate::fields::{is_short_number, number_of};
 use crate::outcome::RequestOutcome;

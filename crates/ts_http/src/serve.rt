@@ -1,11 +1,10 @@
 //! Serves one request: reads it whole, executes it, and sends the reply.
 ghost use Rattle.std.specs.Prelude.{◌≡◌, ◌≤◌, length, map, drop, false, true};
 ghost use Rattle.std.specs.List.{AllByRecursion};
-ghost use Rattle.httparse.specs.Spans.{IsHeaderWithin, IsRequestWithin, header_bytes, span_bytes};
-ghost use Rattle.ts_core.specs.io.Devices.{EachReadCounts, one_if_err};
-ghost use Rattle.ts_http.specs.Heads.{head_limit};
-ghost use Rattle.ts_http.specs.Requests.{path_of, target_query, route_of, method_of, is_allowed, body_limit, refused, body_length};
-ghost use Rattle.ts_http.specs.OutcomeReplies.{ActsAs, reply_of};
+ghost use Rattle.httparse.specs.Spans.{IsHeaderWithin, header_bytes, span_bytes};
+ghost use Rattle.ts_core.specs.io.Devices.{EachReadCounts};
+ghost use Rattle.ts_http.specs.Requests.{path_of, target_query, route_of, method_of, is_allowed, body_limit, refused};
+ghost use Rattle.ts_http.specs.OutcomeReplies.{ActsAs};
 ghost use Rattle.ts_http.specs.ServeSteps.{IsLengthAnswer, IsActedOn, IsSent};
 ghost use Rattle.ts_core.specs.text.FaultTexts.{IsAppended};
 ghost use Rattle.ts_http.specs.Served.{io_fault_code, io_fault_text, IsServed};

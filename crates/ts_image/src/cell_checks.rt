@@ -1,5 +1,5 @@
 //! Tests the cells of an image for contradictions. Does not allocate.
-ghost use Rattle.std.specs.Prelude.{◌≡◌, true, ◌↔◌, pos, ◌*ℤ◌, ◌≤ℤ◌, map, IsTrue};
+ghost use Rattle.std.specs.Prelude.{◌≡◌, true, ◌↔◌, pos, ◌≤ℤ◌, map, IsTrue};
 ghost use Rattle.std.specs.Ordering.{is_lt};
 ghost use Rattle.std.specs.List.{AllByRecursion};
 ghost use Rattle.ts_core.specs.aggregates.Aggregates.{IsSpread};

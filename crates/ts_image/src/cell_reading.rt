@@ -1,5 +1,5 @@
 //! Reads marks, and cells with their frozen parts, from an image. They are tested later.
-ghost use Rattle.std.specs.Prelude.{◌≡◌, map, length};
+ghost use Rattle.std.specs.Prelude.{map};
 ghost use Rattle.std.specs.Int.{w64};
 ghost use Rattle.ts_core.specs.io.ReadingAhead.{EndIsEnd};
 ghost use Rattle.ts_core.specs.facts.Facts.{Text};

@@ -1,10 +1,10 @@
 //! Tests if an image has more points and cell counts than accepted facts. Each function subtracts from the number that
 //! is left, so no sum overflows; `None` means that there are too many. Does not allocate.
-ghost use Rattle.std.specs.Prelude.{◌≡◌, ◌+◌, ◌≤◌, ◌↔◌, map, string_bytes, length, IsSome, IfSome};
+ghost use Rattle.std.specs.Prelude.{map, length};
 ghost use Rattle.std.specs.List.{sum_by};
-ghost use Rattle.ts_image.specs.Images.{ImageColumn, ImageCell};
+ghost use Rattle.ts_image.specs.Images.{ImageColumn};
 ghost use Rattle.ts_image.specs.ImageTests.{points_of_series, points_in_all, count_frozen};
-ghost use Rattle.ts_image.specs.SeriesParts.{column_of_parts, series_of_parts, all_series_of};
+ghost use Rattle.ts_image.specs.SeriesParts.{column_of_parts, series_of_parts};
 ghost use Rattle.ts_image.specs.CellParts.{cell_of_parts};
 ghost use Rattle.ts_image.specs.TestParts.{points_if, IsSubtracted};
 

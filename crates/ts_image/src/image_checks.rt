@@ -1,16 +1,12 @@
 //! Tests an image for contradictions, except for its settings, which are tested when they are created. Does not
 //! allocate.
-ghost use Rattle.std.specs.Prelude.{◌↔◌, map, IsTrue};
+ghost use Rattle.std.specs.Prelude.{◌↔◌, IsTrue};
 ghost use Rattle.std.specs.List.{AllByRecursion};
-ghost use Rattle.ts_core.specs.facts.Facts.{series_cmp};
 ghost use Rattle.ts_image.specs.Images.{ImageSeries};
-ghost use Rattle.ts_image.specs.ImageTests.{AreImageSettings, IsImageSeries, AreLows, CellsAre, IsPossible, points_in_all};
-ghost use Rattle.ts_store.specs.image.SavedContent.{AreRising};
-ghost use Rattle.ts_image.specs.RuleParts.{rules_of_parts, settings_of_parts};
-ghost use Rattle.ts_image.specs.SeriesParts.{all_series_of};
-ghost use Rattle.ts_image.specs.CellParts.{marks_of_parts, all_cells_of};
+ghost use Rattle.ts_image.specs.ImageTests.{AreImageSettings, IsPossible};
+ghost use Rattle.ts_image.specs.RuleParts.{settings_of_parts};
 ghost use Rattle.ts_image.specs.ImageReading.{image_of};
-ghost use Rattle.ts_image.specs.TestParts.{HasLongInterval, AreCountedAll, IsSmall, AreSeriesPossible, AreRulesPossible};
+ghost use Rattle.ts_image.specs.TestParts.{HasLongInterval, IsSmall, AreSeriesPossible, AreRulesPossible};
 
 use crate::count_checks::subtract_series;
 use crate::image_reading::ImageParts;

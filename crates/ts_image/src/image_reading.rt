@@ -1,5 +1,5 @@
 //! Reads an image up to its form. It is tested for contradictions later.
-ghost use Rattle.std.specs.Prelude.{◌≡◌, ◌≤◌, ◌^◌};
+ghost use Rattle.std.specs.Prelude.{◌≤◌, ◌^◌};
 ghost use Rattle.ts_core.specs.io.ReadingAhead.{EndIsEnd};
 ghost use Rattle.ts_image.specs.Images.{image};
 ghost use Rattle.ts_image.specs.FieldReading.{ReadsField};

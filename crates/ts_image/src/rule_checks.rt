@@ -1,9 +1,8 @@
 //! Tests low indices, cells and counts of each rule of an image for contradictions. Does not allocate.
 ghost use Rattle.std.specs.Prelude.{◌≡◌, ◌+ℤ◌, ◌^◌, ◌≤◌, ◌↔◌, pos, ◌≤ℤ◌, map, IsTrue, unsigned_abs};
 ghost use Rattle.std.specs.List.{AllByRecursion};
-ghost use Rattle.ts_core.specs.facts.Times.{IsTime};
 ghost use Rattle.ts_core.specs.store.Marks.{index_of};
-ghost use Rattle.ts_image.specs.ImageTests.{rule_in, ahead_of_mark, IsLow, AreLows, AreImageCells, CellsAre, count_frozen, points_of_measurement};
+ghost use Rattle.ts_image.specs.ImageTests.{rule_in, ahead_of_mark, IsLow, AreLows, AreImageCells, CellsAre};
 ghost use Rattle.ts_image.specs.RuleParts.{rule_from_parts};
 ghost use Rattle.ts_image.specs.SeriesParts.{series_of_parts};
 ghost use Rattle.ts_image.specs.CellParts.{cells_of_parts};

@@ -1,8 +1,8 @@
 //! Tests series, columns and points of an image for contradictions. Does not allocate.
-ghost use Rattle.std.specs.Prelude.{◌≡◌, true, ◌≢◌, ◌⊎◌, ◌↔◌, ◌≤ℤ◌, [], map, IsTrue, length};
+ghost use Rattle.std.specs.Prelude.{◌≡◌, true, ◌↔◌, map, IsTrue};
 ghost use Rattle.std.specs.Ordering.{int_cmp, is_lt};
 ghost use Rattle.std.specs.List.{AllByRecursion};
-ghost use Rattle.ts_core.specs.facts.Facts.{Text, Series, text_cmp, series_cmp};
+ghost use Rattle.ts_core.specs.facts.Facts.{Series, text_cmp, series_cmp};
 ghost use Rattle.ts_core.specs.facts.Times.{IsTime};
 ghost use Rattle.ts_image.specs.Images.{ImageColumn, ImageSeries};
 ghost use Rattle.ts_image.specs.ImageTests.{IsKeyName, IsImagePoint, IsImageColumn, IsImageSeriesKey, IsImageSeries};

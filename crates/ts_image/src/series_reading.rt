@@ -1,5 +1,4 @@
 //! Reads series with their columns from an image. They are tested later.
-ghost use Rattle.std.specs.Prelude.{string_bytes};
 ghost use Rattle.std.specs.Int.{w8, w32, w64};
 ghost use Rattle.ts_core.specs.io.ReadingAhead.{EndIsEnd};
 ghost use Rattle.ts_image.specs.Formats.{text, also, times, list_of};

@@ -1,6 +1,6 @@
 //! A column stored as a sorted vector.
-ghost use Rattle.std.specs.Prelude.{◌≡◌, ◌<◌, ◌≤◌, ◌≤ℤ◌, pos, ℤ, length, filter, vec_len, vec_capacity, drop, int_lt};
-ghost use Rattle.std.specs.Ordering.{int_cmp, int_eq};
+ghost use Rattle.std.specs.Prelude.{◌≡◌, ◌<◌, ◌≤◌, length, filter, vec_len, vec_capacity, drop};
+ghost use Rattle.std.specs.Ordering.{int_cmp};
 ghost use Rattle.std.specs.FinMap as map;
 ghost use Rattle.std.specs.FinMap.{put, find};
 ghost use Rattle.std.specs.List.Sorted.{IsSearchInRange};

@@ -1,5 +1,5 @@
 //! Writes replies. Statements without rows go through JSON values; series and rows are written as text directly.
-ghost use Rattle.std.specs.Prelude.{◌≡◌, ◌+◌, ◌<◌, ◌^◌, ◌∷◌, ◌++◌, true, false, length, map, nat_lt, IfOk, OnOk, string_bytes};
+ghost use Rattle.std.specs.Prelude.{◌≡◌, ◌+◌, ◌<◌, ◌^◌, ◌∷◌, ◌++◌, true, length, map, nat_lt, IfOk, OnOk, string_bytes};
 ghost use Rattle.serde_json.specs.Written.{comma_if};
 ghost use Rattle.ts_reply.specs.AppendedData.{AppendsData, AppendsItems, IsArray};
 ghost use Rattle.ts_reply.specs.Replies.{AreEach, IsSeriesData, IsResultData, AreResults, TellsOutcomes};

@@ -1,7 +1,7 @@
 //! The commands of a script, and their parser.
 ghost use Rattle.std.specs.Prelude.{◌≡◌, length, MatchOption, drop, true, false, nat_eq};
 ghost use Rattle.std.specs.List.{starts_with};
-ghost use Rattle.ts_script.specs.Commands.{is_blank, is_comment, is_skipped, word, after_word, count_from, at_of, precision_from, epoch_from, command_of, count_between};
+ghost use Rattle.ts_script.specs.Commands.{is_blank, is_skipped, word, after_word, count_from, at_of, precision_from, epoch_from, command_of, count_between};
 ghost use Rattle.ts_core.specs.facts.TimeUnits.{precision_of};
 ghost use Rattle.ts_reply.specs.Epochs.{epoch_of};
 ghost use Rattle.ts_script.specs.Moments.{moment_of};

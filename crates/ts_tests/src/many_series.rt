@@ -1,6 +1,6 @@
 //! Queries over 100,000 series: an index narrows their columns by a tag, or each column is visited. The answers are the
 //! same.
-ghost use Rattle.std.specs.Prelude.{◌≡◌, [], map, length, replicate, pos};
+ghost use Rattle.std.specs.Prelude.{[], map, length, replicate, pos};
 ghost use Rattle.ts_core.specs.aggregates.Aggregates.{empty_aggregate};
 ghost use Rattle.ts_core.specs.store.TwoParts.{both_parts};
 ghost use Rattle.ts_store.specs.store.ColumnStates.{with_points};

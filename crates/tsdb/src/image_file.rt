@@ -1,6 +1,6 @@
 //! The file of a store's image: locked while it is served, loaded before the first request, and saved so that a crash
 //! leaves the old image or the new one.
-ghost use Rattle.std.specs.Prelude.{◌≡◌, IfOk, IfSome};
+ghost use Rattle.std.specs.Prelude.{IfOk, IfSome};
 ghost use Rattle.tsdb.specs.Services.{IsFromImage};
 
 use std::alloc::{AllocError, Global};

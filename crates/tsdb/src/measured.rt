@@ -1,5 +1,4 @@
 //! A reader that measures the image that passes through it.
-ghost use Rattle.std.specs.Io.{ReadsAtMost};
 
 use std::io;
 use std::io::Read;

@@ -1,6 +1,6 @@
 //! The commands of the program with their arguments and help, as clap reads them.
 ghost use Rattle.std.specs.Prelude.{◌≡◌, IfOk, true};
-ghost use Rattle.clap.specs.Words.{app_of, rule_of};
+ghost use Rattle.clap.specs.Words.{app_of};
 ghost use Rattle.tsdb.specs.CommandLines.{program_app, replay_app, faults_app, inspect_app, serve_app, IsCommand, IsArgument, port_rule, requests_rule, settings_rule, image_argument_rule, lines_rule};
 
 use clap::{Arg, ArgAction, Command, value_parser};

@@ -1,5 +1,5 @@
 //! `tsdb serve`: a store that is loaded from its image or has the settings of a file, and the requests of a port.
-ghost use Rattle.std.specs.Prelude.{◌≡◌, ◌⊎◌, IfOk, IfSome};
+ghost use Rattle.std.specs.Prelude.{◌⊎◌, IfOk, IfSome};
 ghost use Rattle.std.specs.Process.{exit_status};
 ghost use Rattle.ts_core.specs.facts.Facts.{Text};
 ghost use Rattle.ts_script.specs.Opening.{IsNew};

@@ -1,5 +1,5 @@
 //! Columns by a tag of their series.
-ghost use Rattle.std.specs.Prelude.{◌≡◌, ◌↔◌, ℕ, IfSome, IfNone, IfOk};
+ghost use Rattle.std.specs.Prelude.{◌↔◌, ℕ, IfSome, IfNone, IfOk};
 ghost use Rattle.ts_core.specs.lists.Members.{Among, AllDistinct};
 ghost use Rattle.ts_raw.specs.Tagged.{IsRisingList, IsTaggedAt, AreTaggedAt};
 

@@ -1,7 +1,6 @@
 //! Series, columns and cells of a store under construction.
-ghost use Rattle.std.specs.Prelude.{◌≡◌, ◌≤◌, ◌<◌, ◌++◌, ◌∷◌, [], ◌^◌, pos, ◌≤ℤ◌, length, map, None, set, IfOk, OnOk, OnErr, List};
+ghost use Rattle.std.specs.Prelude.{◌≡◌, ◌<◌, ◌++◌, ◌∷◌, [], length, map, None, set, IfOk, OnOk, OnErr, List};
 ghost use Rattle.std.specs.FinMap as finmap;
-ghost use Rattle.std.specs.List.{AllByRecursion};
 ghost use Rattle.ts_core.specs.aggregates.Aggregates.{empty_aggregate};
 ghost use Rattle.ts_core.specs.facts.Facts.{Series};
 ghost use Rattle.ts_core.specs.lists.Members.{Among};

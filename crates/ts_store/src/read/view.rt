@@ -1,6 +1,5 @@
 //! Read access for the executor.
 ghost use Rattle.std.specs.Prelude.{◌≡◌, ◌<◌, length, map};
-ghost use Rattle.std.specs.Iterator.{YieldsFirst, item_count};
 ghost use Rattle.ts_core.specs.facts.Facts.{is_of};
 ghost use Rattle.ts_core.specs.store.Views.{ViewState};
 ghost use Rattle.ts_core.specs.store.StoreStates.{rule_of};

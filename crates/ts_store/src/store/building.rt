@@ -1,5 +1,5 @@
 //! Creates a store from parts that were read elsewhere: series, columns with their points, and frozen parts of cells.
-ghost use Rattle.std.specs.Prelude.{◌≡◌, ◌<◌, [], length, map, None, IfOk, OnOk, OnErr};
+ghost use Rattle.std.specs.Prelude.{◌≡◌, ◌<◌, length, map, None, IfOk, OnOk, OnErr};
 ghost use Rattle.std.specs.FinMap as finmap;
 ghost use Rattle.ts_core.specs.facts.Facts.{Series};
 ghost use Rattle.ts_core.specs.lists.Members.{Among};
