@@ -6,7 +6,7 @@ begin_progress() {
   local crate below
   progress_began=$SECONDS all_lines=0 proved_lines=0
   crates=()
-  declare -gA lines_of=() below_of=() is_proved=()
+  declare -gA lines_of=() below_of=() way_of=() is_proved=()
   while IFS=: read -r crate below; do
     crates+=("${crate%% *}")
     below_of[${crate%% *}]=$(grep -ow 'ts_[a-z_]*' <<<"$below" | paste -sd ' ' || true)
@@ -15,6 +15,19 @@ begin_progress() {
   for crate in "${crates[@]}"; do
     lines_of[$crate]=$(find "$1/crates/$crate/src" -name '*.rt' -exec cat {} + | wc -l)
     all_lines=$((all_lines + lines_of[$crate]))
+  done
+  measure_ways
+}
+
+# Notes each crate's way: the lines of the longest chain of crates that begins with it, each below the next.
+measure_ways() {
+  local index crate below
+  for ((index = ${#crates[@]} - 1; index >= 0; index--)); do
+    crate=${crates[index]}
+    way_of[$crate]=$((${way_of[$crate]:-0} + lines_of[$crate]))
+    for below in ${below_of[$crate]}; do
+      [ "${way_of[$below]:-0}" -ge "${way_of[$crate]}" ] || way_of[$below]=${way_of[$crate]}
+    done
   done
 }
 
