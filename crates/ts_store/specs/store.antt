@@ -8,3 +8,4 @@ pub mod ColumnStates
 pub mod CellCounts
 pub mod SizedStores
 pub mod PossibleCells
+pub mod SoundStores

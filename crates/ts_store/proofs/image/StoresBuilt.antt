@@ -18,7 +18,8 @@ use Rattle.ts_store.specs.image.BuildingParts.{built_of, IsInOrder, FillsCells}
 use Rattle.ts_store.specs.store.CellCounts.{HoldFew, live_count}
 use Rattle.ts_store.specs.store.ColumnStates.{StoreContent}
 use Rattle.ts_store.specs.write.LinesPut.{OfEachRule, PutsCells}
-use Rattle.ts_store.specs.retain.OpenRuns.{Run, run_of, unflagged, waiting_in, data_of_parts, IsWithin, IsSoundStore}
+use Rattle.ts_store.specs.retain.OpenRuns.{Run, run_of, unflagged, waiting_in, data_of_parts, IsWithin}
+use Rattle.ts_store.specs.store.SoundStores.{IsSoundStore}
 use Rattle.ts_store.specs.rollup.Rollups.{RollupState, AreRollups, cells_of}
 use Rattle.ts_store.specs.store.SizedStores.{IsSizedRule}
 use Rattle.ts_store.proofs.retain.RollupMoves.{rollups_with}

@@ -25,7 +25,8 @@ use Rattle.ts_core.specs.lists.Numbered.{IsAt}
 use Rattle.ts_cells.specs.Walks.{CellWithPart, entry_of, entries_within}
 use Rattle.ts_store.specs.store.CellCounts.{HoldsFew, HoldFew, frozen_count}
 use Rattle.ts_store.specs.store.ColumnStates.{StoreContent}
-use Rattle.ts_store.specs.retain.OpenRuns.{Run, IsSoundStore, data_of_parts}
+use Rattle.ts_store.specs.retain.OpenRuns.{Run, data_of_parts}
+use Rattle.ts_store.specs.store.SoundStores.{IsSoundStore}
 use Rattle.ts_store.specs.read.LiveCells.{walked_cell, walked_cells, rollup_at, cells_of_rule, IsWhole, AreWhole, IsRuled}
 use Rattle.ts_store.specs.rollup.Rollups.{RollupState, new_rollup, cells_of}
 use Rattle.ts_store.specs.read.ViewResults.{SeenCell, with_parts, cells_within, view_cells_at, no_rule}

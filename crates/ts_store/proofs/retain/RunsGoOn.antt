@@ -21,7 +21,8 @@ use Rattle.ts_core.proofs.lists.NumberedLemmas.{at_among}
 use Rattle.ts_store.specs.store.CellCounts.{HoldFew}
 use Rattle.ts_store.specs.store.ColumnStates.{StoreContent}
 use Rattle.std.specs.Option.{is_some}
-use Rattle.ts_store.specs.retain.OpenRuns.{Run, run_over, waiting_in, IsWithin, TakesFirst, data_of_parts, IsSoundStore}
+use Rattle.ts_store.specs.retain.OpenRuns.{Run, run_over, waiting_in, IsWithin, TakesFirst, data_of_parts}
+use Rattle.ts_store.specs.store.SoundStores.{IsSoundStore}
 use Rattle.ts_store.proofs.retain.WaitingColumns.{same_waiting, within_more, all_wait}
 use Rattle.ts_store.specs.rollup.Rollups.{RollupState, AreRollups, cells_of}
 use Rattle.ts_store.specs.read.ViewResults.{no_points}

@@ -32,7 +32,8 @@ use Rattle.ts_core.proofs.moves.MovesStand.{key_there}
 use Rattle.ts_store.specs.store.CellCounts.{HoldsFew, HoldFew}
 use Rattle.ts_store.specs.store.PossibleCells.{HasPossibleCells, HavePossibleCells}
 use Rattle.ts_store.specs.store.ColumnStates.{StoreContent}
-use Rattle.ts_store.specs.retain.OpenRuns.{Run, data_of_parts, IsSoundStore}
+use Rattle.ts_store.specs.retain.OpenRuns.{Run, data_of_parts}
+use Rattle.ts_store.specs.store.SoundStores.{IsSoundStore}
 use Rattle.ts_store.specs.rollup.Rollups.{RollupState, HaveRollupSeries, AreRollups, cells_of}
 use Rattle.ts_store.specs.rules.RuleRollups.{IsRollupOf, with_rollup}
 use Rattle.ts_store.specs.rules.RulesChanged.{RuleComes, AddsRule}

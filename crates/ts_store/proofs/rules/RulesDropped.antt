@@ -13,7 +13,8 @@ use Rattle.ts_core.proofs.moves.RulesMove.{rule_goes, lives_kept, left_dropped, 
 use Rattle.ts_store.specs.store.CellCounts.{HoldFew}
 use Rattle.ts_store.specs.store.PossibleCells.{HavePossibleCells}
 use Rattle.ts_store.specs.store.ColumnStates.{StoreContent}
-use Rattle.ts_store.specs.retain.OpenRuns.{Run, data_of_parts, IsSoundStore}
+use Rattle.ts_store.specs.retain.OpenRuns.{Run, data_of_parts}
+use Rattle.ts_store.specs.store.SoundStores.{IsSoundStore}
 use Rattle.ts_store.specs.rollup.Rollups.{RollupState, AreRollups, cells_of}
 use Rattle.ts_store.specs.rules.RuleRollups.{without_rollup}
 use Rattle.ts_store.specs.rules.RulesChanged.{RuleGoes, DropsRule}

@@ -42,7 +42,8 @@ use Rattle.ts_store.specs.write.Registered.{new_columns, with_columns}
 use Rattle.ts_store.specs.declared.write.fault.WriteFault.{WriteFault}
 use Rattle.ts_store.specs.declared.write.fault.WriteFault.TheVariants.{BelowRawMark, TooManySeries, TooManyFacts}
 use Rattle.ts_store.specs.write.Refusals.{is_registered, is_too_many, write_fault}
-use Rattle.ts_store.specs.retain.OpenRuns.{Run, waiting_in, IsWithin, data_of_parts, IsSoundStore}
+use Rattle.ts_store.specs.retain.OpenRuns.{Run, waiting_in, IsWithin, data_of_parts}
+use Rattle.ts_store.specs.store.SoundStores.{IsSoundStore}
 use Rattle.ts_store.specs.store.CellCounts.{HoldFew}
 use Rattle.ts_store.specs.store.SizedStores.{IsSized}
 use Rattle.ts_store.specs.store.PossibleCells.{HavePossibleCells}

@@ -1,5 +1,4 @@
--- An open retention run, with its range of columns and those in it that are passed; and the invariant of a store. (Own
--- rules.)
+-- An open retention run, with its range of columns and those in it that are passed. (Own rules.)
 use Rattle.std.specs.Prelude.{◌≡◌, ◌<◌, ◌≤◌, ℕ, List, [], ◌∷◌, length, map, take, drop, get_or, Bool, true, false, if◌then◌else◌, Option, Some, None, IfSome, IfNone, refl}
 use Rattle.std.specs.Option.{is_some}
 use Rattle.std.specs.Coded.{Coded, code_by, coded×, coded_ℕ, coded_bool, coded_list}
@@ -8,12 +7,9 @@ use Rattle.ts_core.specs.lists.Numbered.{IsAt}
 use Rattle.ts_core.specs.settings.Settings.{Settings}
 use Rattle.ts_core.specs.store.Marks.{Marks}
 use Rattle.ts_core.specs.store.StoreStates.{ColumnPoints, column_of}
-use Rattle.ts_core.specs.store.StoreData.{StoreData, AreLive}
+use Rattle.ts_core.specs.store.StoreData.{StoreData}
 use Rattle.ts_store.specs.store.ColumnStates.{StoreContent}
-use Rattle.ts_store.specs.store.CellCounts.{HoldFew}
-use Rattle.ts_store.specs.rollup.Rollups.{AreRollups, cells_of}
-use Rattle.ts_store.specs.store.PossibleCells.{HavePossibleCells}
-use Rattle.ts_store.specs.store.SizedStores.{IsSized}
+use Rattle.ts_store.specs.rollup.Rollups.{cells_of}
 
 -- An open run: the index of the column that it moves next, the number of columns when it began, and a flag per column.
 -- The flag is true if the column is passed, that is, counts as moved already. A column without a flag isn't passed.
@@ -76,12 +72,3 @@ data_of_parts settings marks n held run = record {
   accepted = n;
   cells = cells_of held.rollups;
 }
-
--- the invariant of a store with these parts
-pub record IsSoundStore (k : StoreData) (held : StoreContent) (run : Option Run) : Type 0 where
-  pub rollups : AreRollups k.settings.rules (map column_of held.columns) held.rollups
-  pub few : IsWithin run held.columns
-  pub counts : HoldFew k.accepted k.columns k.settings.rules k.cells
-  pub live : AreLive k.columns k.settings.rules k.cells
-  pub possible : HavePossibleCells k.settings.rules k.cells
-  pub sized : IsSized k

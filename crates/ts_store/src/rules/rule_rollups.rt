@@ -52,6 +52,7 @@ impl<A: Allocator + Copy> ColumnFacts<A> {
         ensures { IfOk result (IsRollupOf self.now rule.now low.now) }
     {
         let alloc = self.allocator();
+        // Copied, since `slice::from_ref` asks for the size of a rule, which depends on the allocator's.
         let rules = vec_of(alloc, rule.try_clone(alloc)?)?;
         let mut rollups = vec_of(alloc, rollup_over(alloc, rule, &self.index)?)?;
         let columns = self.columns.as_slice();

@@ -6,7 +6,8 @@ use Rattle.ts_core.specs.store.StoreStates.{StandsFor}
 use Rattle.ts_core.specs.store.StoreData.{StoreData, state_of}
 use Rattle.ts_core.proofs.moves.StoreNew.{new_stands_for}
 use Rattle.ts_store.specs.store.Inventories.{inventory_of}
-use Rattle.ts_store.specs.retain.OpenRuns.{Run, IsSoundStore, data_of_parts}
+use Rattle.ts_store.specs.retain.OpenRuns.{Run, data_of_parts}
+use Rattle.ts_store.specs.store.SoundStores.{IsSoundStore}
 use Rattle.ts_store.specs.rollup.Rollups.{new_rollup}
 use Rattle.ts_store.proofs.store.InventoriesKept.{inventory_new}
 use Rattle.ts_store.proofs.store.Stands.{held_new, data_new, kept_new}

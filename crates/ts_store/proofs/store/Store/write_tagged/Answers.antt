@@ -9,7 +9,8 @@ use Rattle.ts_line.specs.Names.{AreKeys}
 use Rattle.ts_line.specs.Parts.{LinePart, Parts, fact_of, field_text, line_facts}
 use Rattle.ts_store.specs.write.LinesInColumns.{PutsLine, GrowsForLine}
 use Rattle.ts_store.specs.write.LinesPut.{Accepts, Leaves}
-use Rattle.ts_store.specs.retain.OpenRuns.{IsSoundStore, data_of_parts}
+use Rattle.ts_store.specs.retain.OpenRuns.{data_of_parts}
+use Rattle.ts_store.specs.store.SoundStores.{IsSoundStore}
 use Rattle.ts_store.specs.write.Refusals.{write_fault}
 use Rattle.ts_store.specs.write.LivePuts.{StayLive}
 use Rattle.ts_store.specs.rollup.Rollups.{AreRollups, cells_of}

@@ -2,7 +2,8 @@ use Rattle.std.proofs.Common.{◌≡◌, ◌∙◌, ℤ, List, length, Option, a
 use Rattle.ts_core.specs.settings.Settings.{Rule}
 use Rattle.ts_store.specs.image.Building.{Built, IsBuildable, IsBuiltFrom}
 use Rattle.ts_store.specs.image.BuildingParts.{built_of, FillsCells}
-use Rattle.ts_store.specs.retain.OpenRuns.{Run, run_of, data_of_parts, IsSoundStore}
+use Rattle.ts_store.specs.retain.OpenRuns.{Run, run_of, data_of_parts}
+use Rattle.ts_store.specs.store.SoundStores.{IsSoundStore}
 use Rattle.ts_store.proofs.image.StoresBuilt.{lows-length, kept_built, built_from}
 use Rattle.ts_store.proofs.store.building.StoreBuilder.finish.Goals as goal
 
