@@ -1,4 +1,5 @@
-"""The servers that bench/peer measures: `tsdb serve`, InfluxDB and VictoriaMetrics, each with an empty store in a folder of its own."""
+"""The servers that bench/peer measures: `tsdb serve`, InfluxDB and VictoriaMetrics, each with an empty store in a
+folder of its own."""
 import http.client
 import os
 import signal
@@ -46,7 +47,9 @@ class Peer:
         pass
 
     def start(self):
-        self.process = subprocess.Popen(self.call(), stdin=subprocess.DEVNULL, stdout=subprocess.DEVNULL, stderr=subprocess.DEVNULL)
+        self.process = subprocess.Popen(
+            self.call(), stdin=subprocess.DEVNULL, stdout=subprocess.DEVNULL, stderr=subprocess.DEVNULL
+        )
         self.pid = self.process.pid
         for _ in range(3000):
             try:
@@ -119,7 +122,12 @@ class Victoria(Peer):
     speaks = 'MetricsQL'
 
     def call(self):
-        return ['victoria-metrics', f'-storageDataPath={self.folder}', f'-httpListenAddr=127.0.0.1:{self.port}', '-retentionPeriod=100y']
+        return [
+            'victoria-metrics',
+            f'-storageDataPath={self.folder}',
+            f'-httpListenAddr=127.0.0.1:{self.port}',
+            '-retentionPeriod=100y',
+        ]
 
     def is_asked_first(self):
         ask(self, 'GET', '/health')
@@ -151,8 +159,11 @@ def seconds(server):
 
 
 def lines_of(kind, count, unit=1):
-    """Returns the lines that bench/make writes, without their command, with times in units of some nanoseconds, counted from BEGIN."""
-    made = subprocess.run([os.path.join(HERE, 'make'), kind, str(count)], capture_output=True, check=True, text=True).stdout
+    """Returns the lines that bench/make writes, without their command, with times in units of some nanoseconds, counted
+    from BEGIN."""
+    made = subprocess.run(
+        [os.path.join(HERE, 'make'), kind, str(count)], capture_output=True, check=True, text=True
+    ).stdout
     lines = (line.removeprefix('write ').rpartition(' ') for line in made.splitlines())
     return [f'{fields} {10**9 * BEGIN + unit * int(time)}'.encode() for fields, _, time in lines]
 

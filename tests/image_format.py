@@ -57,7 +57,16 @@ def read(data):
 
         cells.append(r.list_of(r.number('Q'), cell))
     assert r.at == len(data)
-    return {'raw': raw, 'rules': rules, 'mark': mark, 'lows': lows, 'runs': runs, 'accepted': accepted, 'series': all_series, 'cells': cells}
+    return {
+        'raw': raw,
+        'rules': rules,
+        'mark': mark,
+        'lows': lows,
+        'runs': runs,
+        'accepted': accepted,
+        'series': all_series,
+        'cells': cells,
+    }
 
 
 def number(form, value):

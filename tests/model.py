@@ -1,5 +1,7 @@
-"""A plain model of `tsdb`, written from docs/DEFINITIONS.md and docs/GUIDE.md and not from the code; tests/soak compares
-the two. It keeps each fact ever accepted, and computes each answer from all of them. Retention only moves marks here."""
+"""A plain model of `tsdb`, written from docs/DEFINITIONS.md and docs/GUIDE.md and not from the code; tests/soak
+compares
+the two. It keeps each fact ever accepted, and computes each answer from all of them. Retention only moves marks
+here."""
 import datetime
 import itertools
 import json
@@ -8,7 +10,16 @@ from fractions import Fraction
 from typing import NamedTuple
 
 LEAST, GREATEST = -9223372036854775806, 9223372036854775806
-UNITS = {'ns': 1, 'n': 1, 'u': 10**3, 'µ': 10**3, 'ms': 10**6, 's': 10**9, 'm': 60 * 10**9, 'h': 3600 * 10**9}
+UNITS = {
+    'ns': 1,
+    'n': 1,
+    'u': 10**3,
+    'µ': 10**3,
+    'ms': 10**6,
+    's': 10**9,
+    'm': 60 * 10**9,
+    'h': 3600 * 10**9,
+}
 MOST_BUCKETS, MOST_RULE_BUCKETS, CELLS_OF_A_STEP = 10_000, 1_000_000, 256
 
 

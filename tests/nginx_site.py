@@ -1,4 +1,5 @@
-"""Starts nginx with a configuration of examples/ and asks it by http.client. tests/dashboard and tests/front use it."""
+"""Starts nginx with a configuration of examples/ and asks it by http.client. tests/dashboard and tests/front use it, and
+proxied.py for the tests of stores behind nginx."""
 import http.client
 import os
 import shutil
@@ -27,10 +28,10 @@ class Nginx:
         self.port = free_port()
         with open(configuration, encoding='utf8') as file:
             text = file.read()
-        for old, new in {listens: str(self.port), **replacements}.items():
+        for old, new in {listens: self.port, **replacements}.items():
             if old not in text:
                 sys.exit(f'{configuration} lacks {old}')
-            text = text.replace(old, str(new))
+            text = self.replaced(text, old, str(new))
         self.write('site.conf', text)
         temporary = ''.join(f'{kind}_temp_path {self.path(kind)};' for kind in KINDS)
         self.write(
@@ -44,20 +45,29 @@ class Nginx:
         )
         self.wait_until_it_listens()
 
+    def replaced(self, text, old, new):
+        return text.replace(old, new)
+
     def path(self, name):
         return os.path.join(self.folder.name, name)
 
     def write(self, name, text):
+        os.makedirs(os.path.dirname(self.path(name)), exist_ok=True)
         with open(self.path(name), 'w', encoding='utf8') as file:
             file.write(text)
 
+    def listens(self):
+        try:
+            self.ask('GET', '/no-such-path')
+            return True
+        except OSError:
+            return False
+
     def wait_until_it_listens(self):
         for _ in range(200):
-            try:
-                self.ask('GET', '/no-such-path')
+            if self.listens():
                 return
-            except OSError:
-                time.sleep(0.05)
+            time.sleep(0.05)
         with open(self.path('errors'), encoding='utf8') as file:
             sys.exit('nginx does not listen: ' + file.read())
 

@@ -1,9 +1,13 @@
 #!/usr/bin/env -S python3 -B
-"""Cuts scripts and requests, with their answers, out of the files of tests/ and the pages; README.md says how these are written.
+"""Cuts scripts and requests, with their answers, out of the files of tests/ and the pages; README.md says how these are
+written.
     tests/scripts.py ROOM FILE..
-A script at line L of FILE gives ROOM/FILE:L.tsdb, which tsdb reads, and ROOM/FILE:L.out, which it should print; `:` stands for `/` in FILE.
-Requests at line L give ROOM/FILE:L.1.request, ROOM/FILE:L.2.request .. and ROOM/FILE:L.out with the replies. An empty ROOM/FILE:L.http marks
-them; ROOM/FILE:L.tsdb has the settings and the moment of the server, if any, and ROOM/FILE:L.N.at the moment from request N on."""
+A script at line L of FILE gives ROOM/FILE:L.tsdb, which tsdb reads, and ROOM/FILE:L.out, which it should print; `:`
+stands for `/` in FILE.
+Requests at line L give ROOM/FILE:L.1.request, ROOM/FILE:L.2.request .. and ROOM/FILE:L.out with the replies. An empty
+ROOM/FILE:L.http marks
+them; ROOM/FILE:L.tsdb has the settings and the moment of the server, if any, and ROOM/FILE:L.N.at the moment from
+request N on."""
 import os
 import re
 import sys

@@ -1,4 +1,5 @@
-"""Starts `tsdb serve` on a free port and sends it requests, a connection each. The scripts of tests/ and bench/ use it."""
+"""Starts `tsdb serve` on a free port and sends it requests, a connection each. The scripts of tests/ and bench/ use
+it."""
 import itertools
 import os
 import random
@@ -18,7 +19,8 @@ PORTS = itertools.cycle(random.sample(range(10000, 32000), 22000))
 
 
 def free_port():
-    """Returns a port that nobody listens on. It isn't returned again soon, and connections don't take it by themselves."""
+    """Returns a port that nobody listens on. It isn't returned again soon, and connections don't take it by
+    themselves."""
     for port in PORTS:
         with socket.socket() as probe:
             # a process that another thread is just starting may hold the probe for a moment
@@ -31,11 +33,14 @@ def free_port():
 
 
 class Server:
-    """A running `tsdb serve` that ends after a number of connections, 0 for no end. A moment sets its clock (devices.c).
+    """A running `tsdb serve` that ends after a number of connections, 0 for no end. A moment sets its clock
+    (devices.c).
 
     Its image is a new file, or the one with this name."""
 
-    def __init__(self, program, requests=0, settings=OPEN_SETTINGS, moment=None, image=None, restore_signals=True, **variables):
+    def __init__(
+        self, program, requests=0, settings=OPEN_SETTINGS, moment=None, image=None, restore_signals=True, **variables
+    ):
         self.folder = tempfile.TemporaryDirectory()
         self.port = free_port()
         self.moment = self.path('moment')

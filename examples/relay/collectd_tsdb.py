@@ -11,7 +11,8 @@
     </Plugin>
 
 Gauges are multiplied by Scale and rounded; counters are whole already. A plugin is a measurement, with the tags host,
-type, instance and type_instance. Lines that no server took are kept, up to 10,000, and sent again with the next ones."""
+type, instance and type_instance. Lines that no server took are kept, up to 10,000, and sent again with the next
+ones."""
 import time
 import urllib.error
 import urllib.request
