@@ -1,7 +1,8 @@
-# How far a run over all crates is, for ./tsdb and ./check, which read this file. A crate counts by the lines of its sources:
-# its proof takes 2 to 6 processor minutes per thousand of them, and its wrong bodies about as long again.
+# How far a run over all crates is, for ./tsdb and ./check, which read this file. A crate counts by the lines of its
+# sources: its proof takes 2 to 6 processor minutes per thousand of them, and its wrong bodies about as long again.
 
-# Reads the crates of a repository, lowest first, and starts the clock. With a crate's name, only that one and those below it.
+# Reads the crates of a repository, lowest first, and starts the clock. With a crate's name, only that one and those
+# below it.
 begin_progress() {
   local crate below
   progress_began=$SECONDS all_lines=0 proved_lines=0
@@ -53,7 +54,8 @@ jobs_here() {
   echo $((held < 1 ? 1 : held < processors ? held : processors))
 }
 
-# Prints at most N crates that aren't proved and stand on proved ones: `ready_crates N RUNNING..`, without those that are running.
+# Prints at most N crates that aren't proved and stand on proved ones: `ready_crates N RUNNING..`, without those that
+# are running.
 ready_crates() {
   local crate below room=$1
   shift
@@ -72,8 +74,9 @@ minutes_so_far() {
   echo "$(((SECONDS - progress_began + 30) / 60)) minutes"
 }
 
-# Notes that a crate is proved, and reports 'NAME: proved CRATE, 3 of 15: M minutes so far, about N to come' on standard error; there
-# is no estimate before a tenth of the lines. `report_proved NAME CRATE [TIMES] [WORD]`: all work takes TIMES as long as the proofs.
+# Notes that a crate is proved, and reports 'NAME: proved CRATE, 3 of 15: M minutes so far, about N to come' on standard
+# error; there is no estimate before a tenth of the lines. `report_proved NAME CRATE [TIMES] [WORD]`: all work takes
+# TIMES as long as the proofs.
 report_proved() {
   local all=$((all_lines * ${3:-1})) estimate=
   is_proved[$2]=1 proved_lines=$((proved_lines + lines_of[$2]))
@@ -83,8 +86,8 @@ report_proved() {
   echo "$1: proved $2, ${#is_proved[@]} of ${#crates[@]}: $(minutes_so_far) so far$estimate" >&2
 }
 
-# Copies the output of `rt ci`, and reports after each crate how far it is. The gate says nothing of single wrong bodies while it tries them
-# beside the proofs, so what is to come is at most the time of both.
+# Copies the output of `rt ci`, and reports after each crate how far it is. The gate says nothing of single wrong bodies
+# while it tries them beside the proofs, so what is to come is at most the time of both.
 follow_gate() {
   local line crate
   while IFS= read -r line; do
