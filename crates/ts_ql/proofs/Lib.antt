@@ -2,6 +2,7 @@
 pub mod TextLaws
 pub mod MemoryLaws
 pub mod ColumnLemmas
+pub mod ColumnReadingLemmas
 pub mod GrammarLaws
 pub mod MachineAnswers
 pub mod MachineLeads

@@ -151,8 +151,8 @@ impl<'a, A: Allocator + Copy> StatementBuilder<'a, A> {
         let fill = self.filling.fill;
         let selection = self.selection;
         let filter = self.filter;
-        let measurement = text_spelled(alloc, selection.measurement)?;
-        let field = field_text(alloc, selection.field)?;
+        let measurement = text_spelled(alloc, selection.call.measurement)?;
+        let field = field_text(alloc, selection.call.field)?;
         let columns = selection.columns.into_vec()?;
         let conditions = filter.conditions.into_vec()?;
         let tags = self.groups.into_tags().into_vec(alloc)?;

@@ -1,6 +1,6 @@
 //! Columns of a statement.
 ghost use Rattle.std.specs.Prelude.{◌≡◌, ◌≤◌, [], ◌∷◌, ◌++◌, length, bytes_eq, codes, IfOk, IfErr};
-ghost use Rattle.ts_ql.specs.Lists.{projection, count_after};
+ghost use Rattle.ts_ql.specs.Lists.{spelled_by, projection, count_after};
 ghost use Rattle.ts_ql.specs.Statements.{repeats};
 
 use crate::keywords::function_name;
@@ -65,14 +65,29 @@ fn repeats<A: Allocator + Copy>(alloc: A, columns: &[Projection<A>]) -> Result<b
 }
 
 impl<'a> Column<'a> {
-    /// Returns true if the column is named `time`.
-    fn is_time(&self) -> bool
-        ensures { result ≡ bytes_eq (projection self.now).name (codes "time") }
+    /// Returns the name as written: the alias, or else the function's name.
+    #[tactic(auto, using(crate::proofs::LiteralLemmas::spelled_function))]
+    fn written_name(&self) -> &'a str
+        ensures { spelled_by result ≡ (projection self.now).name }
     {
         match self.alias {
-            Some(alias) => is_spelled_alike(alias, "time"),
-            None => false,
+            Some(alias) => alias,
+            None => function_name(self.function),
         }
+    }
+
+    /// Returns true if the column is named `time`.
+    pub fn is_time(&self) -> bool
+        ensures { result ≡ bytes_eq (projection self.now).name (codes "time") }
+    {
+        is_spelled_alike(self.written_name(), "time")
+    }
+
+    /// Returns true if another column has this one's name.
+    pub fn is_named_as(&self, other: &Column<'_>) -> bool
+        ensures { result ≡ bytes_eq (projection self.now).name (projection other.now).name }
+    {
+        is_spelled_alike(self.written_name(), other.written_name())
     }
 
     /// Creates the column of a query.
