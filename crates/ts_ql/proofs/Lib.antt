@@ -1,8 +1,7 @@
 -- The meaning of a text by the grammar: the theorems, then their lemmas.
 pub mod TextLaws
-pub mod MemoryLaws
 pub mod ColumnLemmas
-pub mod ColumnReadingLemmas
+pub mod SelectsLemmas
 pub mod GrammarLaws
 pub mod MachineAnswers
 pub mod MachineLeads

@@ -1,7 +1,7 @@
-use Rattle.std.proofs.Common.{arith, sym, ap, ◌∙◌}
+use Rattle.std.proofs.Common.{sym, ap, ◌∙◌}
 use Rattle.ts_ql.specs.Lists.{projection}
 use Rattle.ts_ql.specs.Statements.{has_column}
-use Rattle.ts_ql.proofs.ColumnReadingLemmas.{named_here, named_later}
+use Rattle.ts_ql.proofs.ColumnLemmas.{named_here, named_later}
 use Rattle.ts_ql.proofs.lists.column_reader.ColumnReader.has_column.Goals as goal
 
 pub returns-then-is_named_as : goal.returns-then-is_named_as

@@ -1,7 +1,7 @@
-use Rattle.std.proofs.Common.{◌≡◌, ◌<◌, ◌≤◌, [], length, Ok, Err, Some, None, arith, sym, ◌∙◌, ap, refl}
+use Rattle.std.proofs.Common.{◌≡◌, [], Ok, Err, arith, sym, ◌∙◌}
 use Rattle.ts_ql.specs.declared.token.Kind.TheVariants as kinds
 use Rattle.ts_ql.specs.Tokens.{lexeme}
-use Rattle.ts_ql.proofs.ColumnReadingLemmas.{leaves, none_left, not_end, LeavesAt}
+use Rattle.ts_ql.proofs.ColumnLemmas.{leaves, none_left, not_end}
 use Rattle.ts_ql.proofs.lists.column_reader.ColumnReader.next.Goals as goal
 
 pub returns-clause-value : goal.returns-clause-value

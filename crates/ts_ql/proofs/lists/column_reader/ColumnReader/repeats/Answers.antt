@@ -1,7 +1,7 @@
 use Rattle.std.proofs.Common.{sym, ap, ◌∙◌}
 use Rattle.ts_ql.specs.Lists.{projection}
 use Rattle.ts_ql.specs.Statements.{repeats}
-use Rattle.ts_ql.proofs.ColumnReadingLemmas.{repeats_time, repeats_named, repeats_later}
+use Rattle.ts_ql.proofs.ColumnLemmas.{repeats_time, repeats_named, repeats_later}
 use Rattle.ts_ql.proofs.lists.column_reader.ColumnReader.repeats.Goals.{then-is_time-via-then-is_time, then-is_time-via-else-is_time+then-has_column}
 use Rattle.ts_ql.proofs.lists.column_reader.ColumnReader.repeats.Goals as goal
 
