@@ -1,4 +1,4 @@
--- One token of the columns of a statement, read once more.
+-- The columns of a statement, read once more from its text: what one token leaves, and names that repeat.
 use Rattle.std.proofs.Common.{◌≡◌, ℕ, zero, suc, List, [], ◌∷◌, ◌++◌, Bool, true, false, ◌||◌, codes, Option, Some, None, Result, Ok, Err, refl, sym, ◌∙◌, subst, append_assoc}
 use Rattle.std.proofs.lemmas.List.{append-nil, append_cancel_left}
 use Rattle.std.specs.Prelude.{⊤, if◌then◌else◌, bytes_eq}
@@ -17,78 +17,101 @@ use Rattle.ts_ql.specs.Lexing.{token_at}
 use Rattle.ts_ql.specs.Lists.{projection}
 use Rattle.ts_ql.specs.Literals.{is_word}
 use Rattle.ts_ql.specs.QueryFaults.{unexpected, unsupported}
+use Rattle.ts_ql.specs.Reading.{is_outside}
 use Rattle.ts_ql.specs.Selects.{Projection}
 use Rattle.ts_ql.specs.SelectSteps.{Selected, selected_with, Selecting, with_function, with_call_field, with_default, select_at, select_step, with_ended, FindsColumn}
 use Rattle.ts_ql.specs.Statements.{has_column, repeats}
 use Rattle.ts_ql.specs.Tokens.{Lexeme}
 
--- ---- a token adds at most one column
+-- ---- one token of SELECT or FROM
 
-abbrev Extends : List Projection → Selecting → Type 0
-Extends columns (Ok q) = (more : List Projection) × (q.1.columns ≡ columns ++ more)
-Extends columns (Err fault) = ⊤
+-- SELECT or FROM is being read
+abbrev pub is_selecting : State → Bool
+is_selecting states.Function = true
+is_selecting states.FunctionOpen = true
+is_selecting states.Field = true
+is_selecting states.FieldEnd = true
+is_selecting states.FieldType = true
+is_selecting states.FieldClose = true
+is_selecting states.AfterColumn = true
+is_selecting states.Alias = true
+is_selecting states.AfterAlias = true
+is_selecting states.Measurement = true
+is_selecting state = false
 
-same : (columns : List Projection) → (more : List Projection) × (columns ≡ columns ++ more)
+-- these columns, and perhaps more, are all columns
+abbrev Begins : List Projection → List Projection → Type 0
+Begins columns all = (more : List Projection) × (all ≡ columns ++ more)
+
+-- A token before the measurement leads to a state of SELECT or FROM, and adds columns or none. The measurement leads out
+-- of them, and leaves the columns.
+abbrev pub Picks : Bool → List Projection → Selecting → Type 0
+Picks false columns (Ok q) = (is_selecting q.0 ≡ true) × Begins columns q.1.columns
+Picks true columns (Ok q) = (is_outside q.0 ≡ true) × (q.1.columns ≡ columns)
+Picks from columns (Err fault) = ⊤
+
+picks_if : (columns : List Projection) (test : Bool) (one other : Selecting) → Picks false columns one → Picks false columns other → Picks false columns (if test then one else other)
+picks_if columns true one other a b = a
+picks_if columns false one other a b = b
+
+same : (columns : List Projection) → Begins columns columns
 same columns = ([], sym (append-nil columns))
 
-extends_if : (columns : List Projection) (test : Bool) (one other : Selecting) → Extends columns one → Extends columns other → Extends columns (if test then one else other)
-extends_if columns true one other a b = a
-extends_if columns false one other a b = b
+function_picks : (t : Lexeme) (s : Selected) (o : Option Function) → Picks false s.columns (with_function t s o)
+function_picks t s None = tt
+function_picks t s (Some f) = (refl, same s.columns)
 
-function_extends : (t : Lexeme) (s : Selected) (o : Option Function) → Extends s.columns (with_function t s o)
-function_extends t s None = tt
-function_extends t s (Some f) = same s.columns
+field_picks : (t : Lexeme) (s : Selected) (o : Option Text) → Picks false s.columns (with_call_field t s o)
+field_picks t s None = (refl, same s.columns)
+field_picks t s (Some field) = picks_if s.columns (bytes_eq field (named t)) (Ok (states.FieldEnd, s)) (Err (unsupported t)) (refl, same s.columns) tt
 
-field_extends : (t : Lexeme) (s : Selected) (o : Option Text) → Extends s.columns (with_call_field t s o)
-field_extends t s None = same s.columns
-field_extends t s (Some field) = extends_if s.columns (bytes_eq field (named t)) (Ok (states.FieldEnd, s)) (Err (unsupported t)) (same s.columns) tt
-
-select_extends : (p : State) (k : Kind) (t : Lexeme) (s : Selected) → Extends s.columns (select_at p k t s)
-select_extends states.Function kinds.Word t s = function_extends t s (function_called t.text)
-select_extends states.Function kinds.QuotedName t s = tt
-select_extends states.FunctionOpen kinds.LeftParen t s = same s.columns
-select_extends states.Field kinds.Word t s = field_extends t s s.field
-select_extends states.Field kinds.QuotedName t s = field_extends t s s.field
-select_extends states.FieldEnd kinds.RightParen t s = same s.columns
-select_extends states.FieldEnd kinds.DoubleColon t s = same s.columns
-select_extends states.FieldType kinds.Word t s =
-    extends_if s.columns (is_word (codes "field") t.text || is_word (codes "integer") t.text) (Ok (states.FieldClose, s)) (Err (unexpected t)) (same s.columns) tt
-select_extends states.FieldClose kinds.RightParen t s = same s.columns
-select_extends states.AfterColumn kinds.Comma t s = (_, refl)
-select_extends states.AfterColumn kinds.Keyword t s =
-    extends_if s.columns (is_word (codes "from") t.text) (Ok (states.Measurement, with_default s)) (if is_word (codes "as") t.text then Ok (states.Alias, s) else Err (unexpected t)) (_, refl)
-    (extends_if s.columns (is_word (codes "as") t.text) (Ok (states.Alias, s)) (Err (unexpected t)) (same s.columns) tt)
-select_extends states.Alias kinds.Word t s = (_, refl)
-select_extends states.Alias kinds.QuotedName t s = (_, refl)
-select_extends states.AfterAlias kinds.Comma t s = same s.columns
-select_extends states.AfterAlias kinds.Keyword t s = extends_if s.columns (is_word (codes "from") t.text) (Ok (states.Measurement, s)) (Err (unexpected t)) (same s.columns) tt
-select_extends states.Measurement kinds.Word t s = same s.columns
-select_extends states.Measurement kinds.QuotedName t s = same s.columns
-select_extends states.Measurement kinds.LeftParen t s = tt
-select_extends p k t s = tt
+pub select_picks : (p : State) (k : Kind) (t : Lexeme) (s : Selected) → Picks (has_from p) s.columns (select_at p k t s)
+select_picks states.Function kinds.Word t s = function_picks t s (function_called t.text)
+select_picks states.Function kinds.QuotedName t s = tt
+select_picks states.FunctionOpen kinds.LeftParen t s = (refl, same s.columns)
+select_picks states.Field kinds.Word t s = field_picks t s s.field
+select_picks states.Field kinds.QuotedName t s = field_picks t s s.field
+select_picks states.FieldEnd kinds.RightParen t s = (refl, same s.columns)
+select_picks states.FieldEnd kinds.DoubleColon t s = (refl, same s.columns)
+select_picks states.FieldType kinds.Word t s =
+    picks_if s.columns (is_word (codes "field") t.text || is_word (codes "integer") t.text) (Ok (states.FieldClose, s)) (Err (unexpected t)) (refl, same s.columns) tt
+select_picks states.FieldClose kinds.RightParen t s = (refl, same s.columns)
+select_picks states.AfterColumn kinds.Comma t s = (refl, (_, refl))
+select_picks states.AfterColumn kinds.Keyword t s =
+    picks_if s.columns (is_word (codes "from") t.text) (Ok (states.Measurement, with_default s)) (if is_word (codes "as") t.text then Ok (states.Alias, s) else Err (unexpected t)) (refl, (_, refl))
+    (picks_if s.columns (is_word (codes "as") t.text) (Ok (states.Alias, s)) (Err (unexpected t)) (refl, same s.columns) tt)
+select_picks states.Alias kinds.Word t s = (refl, (_, refl))
+select_picks states.Alias kinds.QuotedName t s = (refl, (_, refl))
+select_picks states.AfterAlias kinds.Comma t s = (refl, same s.columns)
+select_picks states.AfterAlias kinds.Keyword t s = picks_if s.columns (is_word (codes "from") t.text) (Ok (states.Measurement, s)) (Err (unexpected t)) (refl, same s.columns) tt
+select_picks states.Measurement kinds.Word t s = (refl, refl)
+select_picks states.Measurement kinds.QuotedName t s = (refl, refl)
+select_picks states.Measurement kinds.LeftParen t s = tt
+select_picks p k t s = tt
 
 -- ---- the columns so far come first
-
-abbrev Begins : List Projection → List Projection → Type 0
-Begins columns all = (rest : List Projection) × (all ≡ columns ++ rest)
 
 begins_on : (columns more all : List Projection) → Begins (columns ++ more) all → Begins columns all
 begins_on columns more all (rest, e) = (more ++ rest, e ∙ append_assoc columns more rest)
 
 then_begins : (rest : ℕ → State → Selected → Type 0) (columns all : List Projection) (t : Lexeme) (r : Selecting) → ((at : ℕ) (q : State) (s : Selected) → rest at q s → Begins s.columns all)
-    → Extends columns r → SelectsThen rest t r → Begins columns all
-then_begins rest columns all t (Ok q) later more w = begins_on columns more.0 all (rw (sym more.1) (later t.end q.0 q.1 w))
-then_begins rest columns all t (Err fault) later more w = absurd w
+    → Picks false columns r → SelectsThen rest t r → Begins columns all
+then_begins rest columns all t (Ok q) later picks w = let (more, e) = picks.1 in begins_on columns more all (rw (sym e) (later t.end q.0 q.1 w))
+then_begins rest columns all t (Err fault) later picks w = absurd w
 
 if_begins : (b : Bool) (n : ℕ) (text : Text) (all : List Projection) (t : Lexeme) (p : State) (s : Selected)
-    → ((at : ℕ) (q : State) (s : Selected) → SelectsWithin n text all at q s → Begins s.columns all) → SelectsIf b (SelectsWithin n text all) all t p s → Begins s.columns all
+    → ((at : ℕ) (q : State) (s : Selected) → SelectsWithin n text all at q s → Begins s.columns all) → Picks b s.columns (select_step p t s)
+    → SelectsIf b (SelectsWithin n text all) all t p s → Begins s.columns all
+if_begins true n text all t p s later picks w = ([], sym w ∙ sym (append-nil s.columns))
+if_begins false n text all t p s later picks w = then_begins (SelectsWithin n text all) s.columns all t (select_step p t s) later picks w
+
+step_picks : (p : State) (t : Lexeme) (s : Selected) → Picks (has_from p) s.columns (select_step p t s)
 unfolding select_step
-if_begins true n text all t p s later w = ([], sym w ∙ sym (append-nil s.columns))
-if_begins false n text all t p s later w = then_begins (SelectsWithin n text all) s.columns all t (select_at p t.kind t s) later (select_extends p t.kind t s) w
+step_picks p t s = select_picks p t.kind t s
 
 begins : (n : ℕ) (text : Text) (all : List Projection) (at : ℕ) (p : State) (s : Selected) → SelectsWithin n text all at p s → Begins s.columns all
 begins zero text all at p s w = absurd w
-begins (suc n) text all at p s w = if_begins (has_from p) n text all (token_at text at) p s (begins n text all) w
+begins (suc n) text all at p s w = if_begins (has_from p) n text all (token_at text at) p s (begins n text all) (step_picks p (token_at text at) s) w
 
 -- ---- one token
 

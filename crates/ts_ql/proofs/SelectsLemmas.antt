@@ -1,10 +1,9 @@
 -- The columns of a statement are those that its text selects, from its SELECT on and after each of its tokens.
-use Rattle.std.proofs.Common.{◌≡◌, ℕ, suc, ◌+◌, ℤ, List, [], ◌∷◌, drop, Bool, true, false, ◌&&◌, ◌||◌, codes, Option, Some, None, Result, Ok, Err, refl, sym, ap, ◌∙◌, subst}
+use Rattle.std.proofs.Common.{◌≡◌, ℕ, suc, ◌+◌, ℤ, List, [], ◌∷◌, drop, Bool, true, false, ◌&&◌, codes, Option, Some, None, Result, Ok, Err, refl, sym, ap, ◌∙◌, subst}
 use Rattle.std.proofs.lemmas.Bool.{cond_both}
 use Rattle.std.proofs.lemmas.List.{drop-drop}
-use Rattle.std.specs.Prelude.{⊤, if◌then◌else◌, nat_le, ◌==◌, bytes_eq}
+use Rattle.std.specs.Prelude.{⊤, if◌then◌else◌, nat_le, ◌==◌}
 use Rattle.ts_core.specs.facts.Facts.{Text}
-use Rattle.ts_core.specs.declared.queries.value.Function.{Function}
 use Rattle.ts_ql.specs.declared.bytes.Class.{Class}
 use Rattle.ts_ql.specs.declared.bytes.Class.TheVariants.{Space}
 use Rattle.ts_ql.specs.declared.filling.FillClause.{FillClause}
@@ -19,17 +18,17 @@ use Rattle.ts_ql.specs.declared.token.Kind.TheVariants as kinds
 use Rattle.ts_ql.specs.Builders.{BuilderState, empty_builder, meaning}
 use Rattle.ts_ql.specs.ColumnReading.{has_from, Selects, HasColumns}
 use Rattle.ts_ql.specs.GroupSteps.{Grouped, grouping_at, group_step, fill_at, fill_step}
-use Rattle.ts_ql.specs.Keywords.{function_called, named}
 use Rattle.ts_ql.specs.Lexing.{is_in, run_end, end_of_run, shape_at, shaped, token_at}
 use Rattle.ts_ql.specs.Literals.{is_word}
 use Rattle.ts_ql.specs.MomentSteps.{moment_at, moment_step, narrowed}
-use Rattle.ts_ql.specs.QueryFaults.{Fault, unexpected, unsupported, TooManyStatements}
+use Rattle.ts_ql.specs.QueryFaults.{Fault, unexpected, TooManyStatements}
 use Rattle.ts_ql.specs.Reading.{BuilderResult, narrowed_in, finish_time_at, finish_time_step, in_selection, in_filter, in_moment, in_groups, in_filling, clause_of, builder_at, builder_step, group_alone, fill_alone, clause_at, next_clause, is_end, may_end, Progress, Advance, start_progress, begun_at, begun, after_end, ended_with, ended, with_builder, clause_or, placed_at, after_finishing_time, step, is_outside, HasColumnsOf}
 use Rattle.ts_ql.specs.Selects.{Projection, Select}
-use Rattle.ts_ql.specs.SelectSteps.{Selected, select_at, select_step, with_function, with_call_field, with_default, empty_selection}
+use Rattle.ts_ql.specs.SelectSteps.{Selected, select_at, select_step, empty_selection}
 use Rattle.ts_ql.specs.Statements.{statement_query}
 use Rattle.ts_ql.specs.Tokens.{Lexeme}
 use Rattle.ts_ql.specs.WhereSteps.{Filtered, where_at, where_step}
+use Rattle.ts_ql.proofs.ColumnLemmas.{is_selecting, Picks, select_picks}
 use Rattle.ts_ql.proofs.MachineAnswers.{answers}
 use Rattle.ts_ql.proofs.Rests.{Sound, SoundAt}
 use Rattle.ts_ql.proofs.Steps.{Answer}
@@ -57,141 +56,55 @@ token_twice text at = ap (λ (x : ℕ). shaped text x (shape_at text x)) (end_tw
 abbrev pub SelectsOn : State → Text → ℕ → Progress → Type 0
 SelectsOn p text at s = (columns : List Projection) → Selects text columns at p s.builder.selection → HasColumns text s.start columns
 
--- behind its FROM the statement has its columns
-abbrev pub SelectsAt : State → Text → ℕ → Progress → Type 0
-SelectsAt states.Statement text at s = ⊤
-SelectsAt states.Function text at s = SelectsOn states.Function text at s
-SelectsAt states.FunctionOpen text at s = SelectsOn states.FunctionOpen text at s
-SelectsAt states.Field text at s = SelectsOn states.Field text at s
-SelectsAt states.FieldEnd text at s = SelectsOn states.FieldEnd text at s
-SelectsAt states.FieldType text at s = SelectsOn states.FieldType text at s
-SelectsAt states.FieldClose text at s = SelectsOn states.FieldClose text at s
-SelectsAt states.AfterColumn text at s = SelectsOn states.AfterColumn text at s
-SelectsAt states.Alias text at s = SelectsOn states.Alias text at s
-SelectsAt states.AfterAlias text at s = SelectsOn states.AfterAlias text at s
-SelectsAt states.Measurement text at s = SelectsOn states.Measurement text at s
-SelectsAt states.Done text at s = ⊤
-SelectsAt state text at s = HasColumns text s.start s.builder.selection.columns
+-- in SELECT or FROM, the columns that the text selects are those of the statement; behind FROM, it has them
+abbrev SelectsBy : Bool → Bool → State → Text → ℕ → Progress → Type 0
+SelectsBy true outside p text at s = SelectsOn p text at s
+SelectsBy false true p text at s = HasColumns text s.start s.builder.selection.columns
+SelectsBy false false p text at s = ⊤
+
+abbrev SelectsAt : State → Text → ℕ → Progress → Type 0
+SelectsAt p text at s = SelectsBy (is_selecting p) (is_outside p) p text at s
 
 -- at this offset of the text, the columns of the current statement are those that its text selects
 abbrev pub SelectsSo : Text → ℕ → Progress → Type 0
 SelectsSo text at s = SelectsAt s.state text at s
 
--- SELECT or FROM is being read
-abbrev is_selecting : State → Bool
-is_selecting states.Function = true
-is_selecting states.FunctionOpen = true
-is_selecting states.Field = true
-is_selecting states.FieldEnd = true
-is_selecting states.FieldType = true
-is_selecting states.FieldClose = true
-is_selecting states.AfterColumn = true
-is_selecting states.Alias = true
-is_selecting states.AfterAlias = true
-is_selecting states.Measurement = true
-is_selecting state = false
-
 selecting_on : (p : State) (text : Text) (at : ℕ) (s : Progress) → is_selecting p ≡ true → SelectsAt p text at s → SelectsOn p text at s
-selecting_on states.Function text at s e h = h
-selecting_on states.FunctionOpen text at s e h = h
-selecting_on states.Field text at s e h = h
-selecting_on states.FieldEnd text at s e h = h
-selecting_on states.FieldType text at s e h = h
-selecting_on states.FieldClose text at s e h = h
-selecting_on states.AfterColumn text at s e h = h
-selecting_on states.Alias text at s e h = h
-selecting_on states.AfterAlias text at s e h = h
-selecting_on states.Measurement text at s e h = h
-selecting_on p text at s e h = absurd cc
+selecting_on p text at s e h = subst (λ (b : Bool). SelectsBy b (is_outside p) p text at s) e h
 
 on_selecting : (p : State) (text : Text) (at : ℕ) (s : Progress) → is_selecting p ≡ true → SelectsOn p text at s → SelectsAt p text at s
-on_selecting states.Function text at s e h = h
-on_selecting states.FunctionOpen text at s e h = h
-on_selecting states.Field text at s e h = h
-on_selecting states.FieldEnd text at s e h = h
-on_selecting states.FieldType text at s e h = h
-on_selecting states.FieldClose text at s e h = h
-on_selecting states.AfterColumn text at s e h = h
-on_selecting states.Alias text at s e h = h
-on_selecting states.AfterAlias text at s e h = h
-on_selecting states.Measurement text at s e h = h
-on_selecting p text at s e h = absurd cc
+on_selecting p text at s e h = subst (λ (b : Bool). SelectsBy b (is_outside p) p text at s) (sym e) h
+
+has_by : (b c : Bool) (p : State) (text : Text) (at : ℕ) (s : Progress) → b ≡ false → c ≡ true → SelectsBy b c p text at s → HasColumns text s.start s.builder.selection.columns
+has_by true c p text at s e f h = absurd cc
+has_by false true p text at s e f h = h
+has_by false false p text at s e f h = absurd cc
+
+by_has : (b c : Bool) (p : State) (text : Text) (at : ℕ) (s : Progress) → b ≡ false → c ≡ true → HasColumns text s.start s.builder.selection.columns → SelectsBy b c p text at s
+by_has true c p text at s e f h = absurd cc
+by_has false true p text at s e f h = h
+by_has false false p text at s e f h = tt
+
+not_selecting : (p : State) → is_outside p ≡ true → is_selecting p ≡ false
+not_selecting states.Function e = absurd cc
+not_selecting states.FunctionOpen e = absurd cc
+not_selecting states.Field e = absurd cc
+not_selecting states.FieldEnd e = absurd cc
+not_selecting states.FieldType e = absurd cc
+not_selecting states.FieldClose e = absurd cc
+not_selecting states.AfterColumn e = absurd cc
+not_selecting states.Alias e = absurd cc
+not_selecting states.AfterAlias e = absurd cc
+not_selecting states.Measurement e = absurd cc
+not_selecting p e = refl
 
 outside_has : (p : State) (text : Text) (at : ℕ) (s : Progress) → is_outside p ≡ true → SelectsAt p text at s → HasColumns text s.start s.builder.selection.columns
-outside_has states.Statement text at s e h = absurd cc
-outside_has states.Function text at s e h = absurd cc
-outside_has states.FunctionOpen text at s e h = absurd cc
-outside_has states.Field text at s e h = absurd cc
-outside_has states.FieldEnd text at s e h = absurd cc
-outside_has states.FieldType text at s e h = absurd cc
-outside_has states.FieldClose text at s e h = absurd cc
-outside_has states.AfterColumn text at s e h = absurd cc
-outside_has states.Alias text at s e h = absurd cc
-outside_has states.AfterAlias text at s e h = absurd cc
-outside_has states.Measurement text at s e h = absurd cc
-outside_has states.Done text at s e h = absurd cc
-outside_has p text at s e h = h
+outside_has p text at s e h = has_by (is_selecting p) (is_outside p) p text at s (not_selecting p e) e h
 
 has_outside : (p : State) (text : Text) (at : ℕ) (s : Progress) → is_outside p ≡ true → HasColumns text s.start s.builder.selection.columns → SelectsAt p text at s
-has_outside states.Statement text at s e h = absurd cc
-has_outside states.Function text at s e h = absurd cc
-has_outside states.FunctionOpen text at s e h = absurd cc
-has_outside states.Field text at s e h = absurd cc
-has_outside states.FieldEnd text at s e h = absurd cc
-has_outside states.FieldType text at s e h = absurd cc
-has_outside states.FieldClose text at s e h = absurd cc
-has_outside states.AfterColumn text at s e h = absurd cc
-has_outside states.Alias text at s e h = absurd cc
-has_outside states.AfterAlias text at s e h = absurd cc
-has_outside states.Measurement text at s e h = absurd cc
-has_outside states.Done text at s e h = absurd cc
-has_outside p text at s e h = h
+has_outside p text at s e h = by_has (is_selecting p) (is_outside p) p text at s (not_selecting p e) e h
 
 -- ---- SELECT
-
--- a token before the measurement leads to a state of SELECT or FROM; the measurement leads out of them, and leaves the columns
-abbrev Picks : Bool → List Projection → Result (State × Selected) Fault → Type 0
-Picks false columns (Ok q) = is_selecting q.0 ≡ true
-Picks true columns (Ok q) = (is_outside q.0 ≡ true) × (q.1.columns ≡ columns)
-Picks from columns (Err fault) = ⊤
-
-picks_if : (columns : List Projection) (test : Bool) (one other : Result (State × Selected) Fault) → Picks false columns one → Picks false columns other
-    → Picks false columns (if test then one else other)
-picks_if columns true one other a b = a
-picks_if columns false one other a b = b
-
-function_picks : (t : Lexeme) (s : Selected) (o : Option Function) → Picks false s.columns (with_function t s o)
-function_picks t s None = tt
-function_picks t s (Some f) = refl
-
-field_picks : (t : Lexeme) (s : Selected) (o : Option Text) → Picks false s.columns (with_call_field t s o)
-field_picks t s None = refl
-field_picks t s (Some field) = picks_if s.columns (bytes_eq field (named t)) (Ok (states.FieldEnd, s)) (Err (unsupported t)) refl tt
-
-select_picks : (p : State) (k : Kind) (t : Lexeme) (s : Selected) → Picks (has_from p) s.columns (select_at p k t s)
-select_picks states.Function kinds.Word t s = function_picks t s (function_called t.text)
-select_picks states.Function kinds.QuotedName t s = tt
-select_picks states.FunctionOpen kinds.LeftParen t s = refl
-select_picks states.Field kinds.Word t s = field_picks t s s.field
-select_picks states.Field kinds.QuotedName t s = field_picks t s s.field
-select_picks states.FieldEnd kinds.RightParen t s = refl
-select_picks states.FieldEnd kinds.DoubleColon t s = refl
-select_picks states.FieldType kinds.Word t s =
-    picks_if s.columns (is_word (codes "field") t.text || is_word (codes "integer") t.text) (Ok (states.FieldClose, s)) (Err (unexpected t)) refl tt
-select_picks states.FieldClose kinds.RightParen t s = refl
-select_picks states.AfterColumn kinds.Comma t s = refl
-select_picks states.AfterColumn kinds.Keyword t s =
-    picks_if s.columns (is_word (codes "from") t.text) (Ok (states.Measurement, with_default s)) (if is_word (codes "as") t.text then Ok (states.Alias, s) else Err (unexpected t)) refl
-    (picks_if s.columns (is_word (codes "as") t.text) (Ok (states.Alias, s)) (Err (unexpected t)) refl tt)
-select_picks states.Alias kinds.Word t s = refl
-select_picks states.Alias kinds.QuotedName t s = refl
-select_picks states.AfterAlias kinds.Comma t s = refl
-select_picks states.AfterAlias kinds.Keyword t s =
-    picks_if s.columns (is_word (codes "from") t.text) (Ok (states.Measurement, s)) (Err (unexpected t)) refl tt
-select_picks states.Measurement kinds.Word t s = (refl, refl)
-select_picks states.Measurement kinds.QuotedName t s = (refl, refl)
-select_picks states.Measurement kinds.LeftParen t s = tt
-select_picks p k t s = tt
 
 -- what is selected after a token before the measurement is selected from that token on
 selects_before : (text : Text) (columns : List Projection) (at : ℕ) (p : State) (s : Selected) (q : State × Selected) → has_from p ≡ false → select_step p (token_at text at) s ≡ Ok q
@@ -211,7 +124,7 @@ selection_keeps : (text : Text) (at : ℕ) (p : State) (s : Progress) (r : Resul
     → select_step p (token_at text at) s.builder.selection ≡ r → Picks from s.builder.selection.columns r → SelectsOn p text at s
     → BuilderKeeps text (token_at text at).end s (in_selection s.builder r)
 selection_keeps text at p s (Ok q) false before e picks h =
-    on_selecting q.0 text (token_at text at).end (record s { state = q.0; builder = record s.builder { selection = q.1 } }) picks
+    on_selecting q.0 text (token_at text at).end (record s { state = q.0; builder = record s.builder { selection = q.1 } }) picks.0
     (λ columns selects. h columns (selects_before text columns at p s.builder.selection q before e selects))
 selection_keeps text at p s (Ok q) true behind e picks h =
     has_outside q.0 text (token_at text at).end (record s { state = q.0; builder = record s.builder { selection = q.1 } }) picks.0

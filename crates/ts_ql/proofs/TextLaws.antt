@@ -1,13 +1,13 @@
 -- The machine's reading of a text: the queries that it means by the grammar, or its first fault.
 use Rattle.std.proofs.Common.{◌≡◌, ◌⊎◌, inl, inr, ℕ, ℤ, ◌<◌, ◌≤◌, List, length, nat_lt, Bool, true, false, Result, Ok, Err, refl, sym, ap, ◌∙◌, subst}
 use Rattle.std.proofs.lemmas.Bool.{ltb-false}
-use Rattle.std.specs.Prelude.{IsOk}
+use Rattle.std.specs.Prelude.{IsOk, IsErrAnd}
 use Rattle.ts_core.specs.facts.Facts.{Text}
 use Rattle.ts_ql.specs.declared.fault.QlFault.{QlFault}
 use Rattle.ts_ql.specs.declared.fault.ParseError.{ParseError}
 use Rattle.ts_ql.specs.declared.fault.ParseError.TheVariants as errors
 use Rattle.ts_ql.specs.QueryFaults.{Fault, Syntax, as_fault, Gives}
-use Rattle.ts_ql.specs.Laws.{Says, SaysUnless, IsFaultIf, TextSays, TextFault, Tells, ReadsText, IsDecided}
+use Rattle.ts_ql.specs.Laws.{Says, SaysUnless, IsFaultIf, TextSays, TextFault, Tells, IsRefusal, ReadsText, IsDecided}
 use Rattle.ts_ql.specs.Reading.{queries_of}
 use Rattle.ts_ql.specs.Selects.{Select}
 use Rattle.ts_ql.specs.Tokenizing.{tokens_of}
@@ -92,12 +92,17 @@ tells {X} view now text (Err (errors.Fault f)) memory e = text_fault now text (a
 gives_as : {X : Type 0} (view : X → List Select) (r : Result X ParseError) (a b : Result (List Select) Fault) → a ≡ b → Gives view r a → Gives view r b
 gives_as {X} view r a b e w = subst (λ (said : Result (List Select) Fault). Gives view r said) e w
 
+refuses : {X : Type 0} (view : X → List Select) (r : Result X ParseError) (said : Result (List Select) Fault) (f : Fault) → said ≡ Err f → (r ≡ Err errors.OutOfMemory → IsOk said) → Gives view r said → IsErrAnd r (IsRefusal f)
+refuses {X} view (Ok x) said f faulty memory e = absurd cc
+refuses {X} view (Err errors.OutOfMemory) said f faulty memory e = absurd (let ok = rw faulty at memory refl in cc)
+refuses {X} view (Err (errors.Fault g)) said f faulty memory e = cc
+
 pub reads_text : {X : Type 0} (view : X → List Select) (now : ℤ) (text : Text) (r : Result X ParseError) → (r ≡ Err errors.OutOfMemory → IsOk (queries_of now text)) → Gives view r (queries_of now text)
     → ReadsText view now text r
 reads_text {X} view now text r memory e = record {
   tells = tells view now text r memory e;
   queries = λ queries said. gives_as view r (queries_of now text) (Ok queries) (said_as now text queries said) e;
-  fault = λ f faulty. gives_as view r (queries_of now text) (Err f) (faulty_as now text f faulty) e;
+  fault = λ f faulty. refuses view r (queries_of now text) f (faulty_as now text f faulty) memory e;
 }
 
 not_memory : {X : Type 0} (f : QlFault) (r : Result X ParseError) → r ≡ Err (errors.Fault f) → r ≡ Err errors.OutOfMemory → ⊥

@@ -1,6 +1,6 @@
 -- The queries that the tokens of a text mean, or their first error.
 -- (InfluxData 1.8, InfluxQL reference: queries. Own rule: the tokens before the first error begin some valid text.)
-use Rattle.std.specs.Prelude.{◌≡◌, ◌⊎◌, ◌≤◌, ℕ, ◌+◌, ℤ, List, [], ◌∷◌, ◌++◌, length, drop, map, nat_lt, Bool, true, false, Some, None, Result, Ok, Err, ⊤}
+use Rattle.std.specs.Prelude.{◌≡◌, ◌⊎◌, ◌≤◌, ℕ, ◌+◌, ℤ, List, [], ◌∷◌, ◌++◌, length, drop, map, nat_lt, Bool, true, false, Some, None, Result, Ok, Err, IsErrAnd, ⊤}
 use Rattle.std.specs.Str.Parse.{AllDigits, digits_value}
 use Rattle.ts_core.specs.facts.Facts.{Text}
 use Rattle.ts_core.specs.facts.Durations.{Term, AreTerms, spelled, total}
@@ -100,13 +100,18 @@ Tells view now text (Err e) = Explained now text e
 
 -- ---- the laws
 
--- a call returned, seen through `view`, the meaning of the text, unless it ran out of memory
+-- the call returned this error
+abbrev pub IsRefusal : Fault → ParseError → Type 0
+IsRefusal fault errors.OutOfMemory = ⊥
+IsRefusal fault (errors.Fault e) = as_fault e ≡ fault
+
+-- a call returned, seen through `view`, the meaning of the text, or ran out of memory on a text that means queries
 pub record ReadsText {X : Type 0} (view : X → List Select) (now : ℤ) (text : Text) (result : Result X ParseError) : Type 0 where
   pub tells : Tells view now text result
-  -- a text that means queries is parsed as these
+  -- a text that means queries is parsed as these, unless the call ran out of memory
   pub queries : (queries : List Select) → TextSays now text queries → Gives view result (Ok queries)
-  -- a text with a first error is refused with it
-  pub fault : (fault : Fault) → TextFault now text fault → Gives view result (Err fault)
+  -- a text with a first error is refused with it, also without memory
+  pub fault : (fault : Fault) → TextFault now text fault → IsErrAnd result (IsRefusal fault)
 
 -- each text means queries or has a first error, and exactly one of these
 pub record IsDecided (now : ℤ) (text : Text) : Type 0 where

@@ -100,9 +100,10 @@ impl<'a> SelectCall<'a> {
     {
         match token.kind {
             Kind::Comma => Ok((State::Function, Some(self.column(None)))),
-            Kind::Keyword if is_word(token.text, "from") => Ok(
-                (State::Measurement, Some(self.column(None))),
-            ),
+            Kind::Keyword if is_word(token.text, "from") => Ok((
+                State::Measurement,
+                Some(self.column(None)),
+            )),
             Kind::Keyword if is_word(token.text, "as") => Ok((State::Alias, None)),
             _ => Err(token.unexpected()),
         }
