@@ -1,7 +1,5 @@
 -- The meaning of a text by the grammar: the theorems, then their lemmas.
 pub mod TextLaws
-pub mod MemoryLaws
-pub mod ColumnLemmas
 pub mod GrammarLaws
 pub mod MachineAnswers
 pub mod MachineLeads
@@ -23,6 +21,9 @@ pub mod RunLemmas
 pub mod KeywordLemmas
 pub mod TokenEnds
 pub mod ReadingLemmas
+-- Columns of a statement, read once more from its text.
+pub mod ColumnLemmas
+pub mod SelectsLemmas
 -- Values of literals, and ends of durations.
 pub mod DurationEnds
 pub mod MagnitudeLaws

@@ -13,9 +13,12 @@ use Rattle.ts_core.specs.facts.Durations.{in_64_bits}
 use Rattle.ts_core.specs.facts.Facts.{Text}
 use Rattle.ts_ql.proofs.LexingLemmas.{next_byte}
 use Rattle.ts_ql.specs.Literals.{units_added_up, escape, characters_spelled, spelled_chars, text_spelled}
+use Rattle.ts_core.specs.declared.queries.value.Function.{Function}
+use Rattle.ts_core.specs.declared.queries.value.Function.TheVariants as functions
 use Rattle.ts_core.specs.declared.facts.time_unit.TimeUnit.{TimeUnit}
 use Rattle.ts_core.specs.facts.TimeUnits.{unit_begun}
 use Rattle.ts_core.proofs.facts.DurationSteps.{unit_counts}
+use Rattle.ts_ql.specs.Selects.{function_name}
 use Rattle.ts_ql.specs.DurationUnits.{nanoseconds_of_unit, begun_nanoseconds}
 
 -- ---- numbers
@@ -77,6 +80,16 @@ spelled_nothing = refl
 pub spelled_time : text_spelled (codes "time") ≡ codes "time"
 unfolding text_spelled chars encode_utf8
 spelled_time = refl
+
+pub spelled_function : (f : Function) → text_spelled (function_name f) ≡ function_name f
+unfolding text_spelled chars encode_utf8
+spelled_function functions.Count = refl
+spelled_function functions.Sum = refl
+spelled_function functions.Min = refl
+spelled_function functions.Max = refl
+spelled_function functions.First = refl
+spelled_function functions.Last = refl
+spelled_function functions.Mean = refl
 
 -- these bytes, then the text with its escapes resolved
 abbrev pub spelled_on : Text → Bool → Text → Text

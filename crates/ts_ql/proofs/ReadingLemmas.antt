@@ -2,13 +2,11 @@
 use Rattle.std.proofs.Common.{◌≡◌, ℕ, suc, ◌+◌, ◌-◌, ◌<◌, ◌≤◌, false, length, ℤ, List, Result, Ok, Err, arith, refl, sym, ap, ◌∙◌}
 use Rattle.std.proofs.lemmas.Bool.{le-ltb, lt-ltb, ne_eqb}
 use Rattle.ts_core.specs.facts.Facts.{Text}
-use Rattle.ts_ql.specs.declared.fault.ParseError.{ParseError}
-use Rattle.ts_ql.specs.declared.fault.ParseError.TheVariants as errors
 use Rattle.ts_ql.specs.declared.state.State.{State}
 use Rattle.ts_ql.specs.declared.state.State.TheVariants as states
 use Rattle.ts_ql.specs.declared.token.Kind.{Kind}
 use Rattle.ts_ql.specs.declared.token.Kind.TheVariants as kinds
-use Rattle.ts_ql.specs.QueryFaults.{Fault, Syntax, unexpected, IsFailure}
+use Rattle.ts_ql.specs.QueryFaults.{Fault, Syntax, unexpected}
 use Rattle.ts_ql.specs.Lexing.{token_at}
 use Rattle.ts_ql.specs.Reading.{Progress, Advance, start_progress, begun_at, step, is_done, goes_on, read_on, queries_of}
 use Rattle.ts_ql.specs.Selects.{Select}
@@ -33,10 +31,9 @@ read_on_step most i now text s at lt = let more : most - i ≡ suc (most - (i + 
 abbrev with_rest : ℕ → ℕ → ℤ → Text → ℕ → Advance → Result (List Select) Fault
 with_rest most i now text at after = goes_on (read_on (most - (i + 1)) now text) (token_at text at) after
 
-pub read_failed : (most i : ℕ) (now : ℤ) (text : Text) (s : Progress) (at : ℕ) (e : ParseError) (said : Result (List Select) Fault) → i < most
-    → read_on (most - i) now text s at ≡ said → IsFailure e (step now (token_at text at) s) → IsFailure e said
-read_failed most i now text s at errors.OutOfMemory said lt reads fails = tt
-read_failed most i now text s at (errors.Fault f) said lt reads fails = sym reads ∙ (read_on_step most i now text s at lt ∙ ap (with_rest most i now text at) fails)
+pub read_failed : (most i : ℕ) (now : ℤ) (text : Text) (s : Progress) (at : ℕ) (f : Fault) (said : Result (List Select) Fault) → i < most
+    → read_on (most - i) now text s at ≡ said → step now (token_at text at) s ≡ Err f → said ≡ Err f
+read_failed most i now text s at f said lt reads fails = sym reads ∙ (read_on_step most i now text s at lt ∙ ap (with_rest most i now text at) fails)
 
 pub read_done : (most i : ℕ) (now : ℤ) (text : Text) (s : Progress) (at : ℕ) (after : Progress) (said : Result (List Select) Fault) → i < most
     → read_on (most - i) now text s at ≡ said → step now (token_at text at) s ≡ Ok after → after.state ≡ states.Done → said ≡ Ok after.queries

@@ -20,7 +20,7 @@ use Rattle.ts_ql.specs.Literals.{is_word, literal, text_spelled}
 use Rattle.ts_ql.specs.MomentSteps.{moment_at, moment_step, based, later_by, earlier_by}
 use Rattle.ts_ql.specs.declared.state.Clause.{Clause}
 use Rattle.ts_ql.specs.declared.state.Clause.TheVariants as clauses
-use Rattle.ts_ql.specs.Reading.{BuilderResult, finish_time_step, in_selection, in_filter, in_moment, in_groups, in_filling, clause_of, builder_at, builder_step, group_alone, fill_alone, clause_at, next_clause, is_end, may_end, Progress, Advance, begun_at, begun, after_end, ended_with, ended, with_builder, clause_or, continued, placed_at, after_finishing_time, step, is_done}
+use Rattle.ts_ql.specs.Reading.{BuilderResult, finish_time_step, in_selection, in_filter, in_moment, in_groups, in_filling, clause_of, builder_at, builder_step, group_alone, fill_alone, clause_at, next_clause, is_end, may_end, Progress, Advance, begun_at, begun, after_end, ended_with, ended, with_builder, clause_or, continued, placed_at, after_finishing_time, step, is_done, is_outside}
 use Rattle.ts_ql.specs.Selects.{Select, inserted_text, of_interval}
 use Rattle.ts_ql.specs.SelectSteps.{Selected, select_at, select_step, with_function, with_call_field, with_default}
 use Rattle.ts_ql.specs.Statements.{statement_query}
@@ -72,22 +72,6 @@ select_moves states.Measurement kinds.LeftParen t s = tt
 select_moves p k t s = tt
 
 -- ---- outside of SELECT
-
--- within a statement, behind its SELECT and FROM
-abbrev pub is_outside : State → Bool
-is_outside states.Statement = false
-is_outside states.Function = false
-is_outside states.FunctionOpen = false
-is_outside states.Field = false
-is_outside states.FieldEnd = false
-is_outside states.FieldType = false
-is_outside states.FieldClose = false
-is_outside states.AfterColumn = false
-is_outside states.Alias = false
-is_outside states.AfterAlias = false
-is_outside states.Measurement = false
-is_outside states.Done = false
-is_outside state = true
 
 -- the next state is outside of SELECT, and the token isn't the end of the text
 abbrev pub Within : {X : Type 0} → Kind → Result (State × X) Fault → Type 0

@@ -1,12 +1,13 @@
 -- The machine's reading of a text: the queries that it means by the grammar, or its first fault.
 use Rattle.std.proofs.Common.{◌≡◌, ◌⊎◌, inl, inr, ℕ, ℤ, ◌<◌, ◌≤◌, List, length, nat_lt, Bool, true, false, Result, Ok, Err, refl, sym, ap, ◌∙◌, subst}
 use Rattle.std.proofs.lemmas.Bool.{ltb-false}
+use Rattle.std.specs.Prelude.{IsOk, IsErrAnd}
 use Rattle.ts_core.specs.facts.Facts.{Text}
 use Rattle.ts_ql.specs.declared.fault.QlFault.{QlFault}
 use Rattle.ts_ql.specs.declared.fault.ParseError.{ParseError}
 use Rattle.ts_ql.specs.declared.fault.ParseError.TheVariants as errors
 use Rattle.ts_ql.specs.QueryFaults.{Fault, Syntax, as_fault, Gives}
-use Rattle.ts_ql.specs.Laws.{Says, SaysUnless, IsFaultIf, TextSays, TextFault, Tells, ReadsText, IsDecided}
+use Rattle.ts_ql.specs.Laws.{Says, SaysUnless, IsFaultIf, TextSays, TextFault, Tells, IsRefusal, ReadsText, IsDecided}
 use Rattle.ts_ql.specs.Reading.{queries_of}
 use Rattle.ts_ql.specs.Selects.{Select}
 use Rattle.ts_ql.specs.Tokenizing.{tokens_of}
@@ -28,7 +29,7 @@ text_says_by now text queries e false is =
     let w = reads_ok now text queries (short (length text) is) e in
     subst (λ (qs : List Select). Says now (tokens_of text) qs) (w.2) (says now w.0 (tokens_of text) w.1 w.3)
 
-pub text_says : (now : ℤ) (text : Text) (queries : List Select) → queries_of now text ≡ Ok queries → TextSays now text queries
+text_says : (now : ℤ) (text : Text) (queries : List Select) → queries_of now text ≡ Ok queries → TextSays now text queries
 text_says now text queries e = text_says_by now text queries e (nat_lt 65536 (length text)) refl
 
 text_fault_by : (now : ℤ) (text : Text) (f : Fault) → queries_of now text ≡ Err f → (b : Bool) → nat_lt 65536 (length text) ≡ b → IsFaultIf b now text f
@@ -79,20 +80,29 @@ decided now text = record {
 
 -- ---- the same for the result of a call
 
-tells : {X : Type 0} (view : X → List Select) (now : ℤ) (text : Text) (r : Result X ParseError) → (r ≡ Err errors.OutOfMemory → length text ≤ 65536) → Gives view r (queries_of now text) → Tells view now text r
-tells {X} view now text (Ok x) short e = text_says now text (view x) e
-tells {X} view now text (Err errors.OutOfMemory) short e = short refl
-tells {X} view now text (Err (errors.Fault f)) short e = text_fault now text (as_fault f) e
+ok_says : (now : ℤ) (text : Text) (r : Result (List Select) Fault) → queries_of now text ≡ r → IsOk r → (queries : List Select) × TextSays now text queries
+ok_says now text (Ok queries) e ok = (queries, text_says now text queries e)
+ok_says now text (Err f) e ok = absurd cc
+
+tells : {X : Type 0} (view : X → List Select) (now : ℤ) (text : Text) (r : Result X ParseError) → (r ≡ Err errors.OutOfMemory → IsOk (queries_of now text)) → Gives view r (queries_of now text) → Tells view now text r
+tells {X} view now text (Ok x) memory e = text_says now text (view x) e
+tells {X} view now text (Err errors.OutOfMemory) memory e = ok_says now text (queries_of now text) refl (memory refl)
+tells {X} view now text (Err (errors.Fault f)) memory e = text_fault now text (as_fault f) e
 
 gives_as : {X : Type 0} (view : X → List Select) (r : Result X ParseError) (a b : Result (List Select) Fault) → a ≡ b → Gives view r a → Gives view r b
 gives_as {X} view r a b e w = subst (λ (said : Result (List Select) Fault). Gives view r said) e w
 
-pub reads_text : {X : Type 0} (view : X → List Select) (now : ℤ) (text : Text) (r : Result X ParseError) → (r ≡ Err errors.OutOfMemory → length text ≤ 65536) → Gives view r (queries_of now text)
+refuses : {X : Type 0} (view : X → List Select) (r : Result X ParseError) (said : Result (List Select) Fault) (f : Fault) → said ≡ Err f → (r ≡ Err errors.OutOfMemory → IsOk said) → Gives view r said → IsErrAnd r (IsRefusal f)
+refuses {X} view (Ok x) said f faulty memory e = absurd cc
+refuses {X} view (Err errors.OutOfMemory) said f faulty memory e = absurd (let ok = rw faulty at memory refl in cc)
+refuses {X} view (Err (errors.Fault g)) said f faulty memory e = cc
+
+pub reads_text : {X : Type 0} (view : X → List Select) (now : ℤ) (text : Text) (r : Result X ParseError) → (r ≡ Err errors.OutOfMemory → IsOk (queries_of now text)) → Gives view r (queries_of now text)
     → ReadsText view now text r
-reads_text {X} view now text r short e = record {
-  tells = tells view now text r short e;
+reads_text {X} view now text r memory e = record {
+  tells = tells view now text r memory e;
   queries = λ queries said. gives_as view r (queries_of now text) (Ok queries) (said_as now text queries said) e;
-  fault = λ f faulty. gives_as view r (queries_of now text) (Err f) (faulty_as now text f faulty) e;
+  fault = λ f faulty. refuses view r (queries_of now text) f (faulty_as now text f faulty) memory e;
 }
 
 not_memory : {X : Type 0} (f : QlFault) (r : Result X ParseError) → r ≡ Err (errors.Fault f) → r ≡ Err errors.OutOfMemory → ⊥

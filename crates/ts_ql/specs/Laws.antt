@@ -1,14 +1,13 @@
 -- The queries that the tokens of a text mean, or their first error.
 -- (InfluxData 1.8, InfluxQL reference: queries. Own rule: the tokens before the first error begin some valid text.)
-use Rattle.std.specs.Prelude.{◌≡◌, ◌⊎◌, ◌≤◌, ℕ, ◌+◌, ℤ, List, [], ◌∷◌, ◌++◌, length, drop, map, nat_lt, Bool, true, false, Some, None, Result, Ok, Err, ⊤, codes}
+use Rattle.std.specs.Prelude.{◌≡◌, ◌⊎◌, ◌≤◌, ℕ, ◌+◌, ℤ, List, [], ◌∷◌, ◌++◌, length, drop, map, nat_lt, Bool, true, false, Some, None, Result, Ok, Err, IsErrAnd, ⊤}
 use Rattle.std.specs.Str.Parse.{AllDigits, digits_value}
 use Rattle.ts_core.specs.facts.Facts.{Text}
 use Rattle.ts_core.specs.facts.Durations.{Term, AreTerms, spelled, total}
 use Rattle.ts_ql.specs.declared.fault.ParseError.{ParseError}
 use Rattle.ts_ql.specs.declared.fault.ParseError.TheVariants as errors
 use Rattle.ts_ql.specs.QueryFaults.{Fault, Syntax, as_fault, unexpected, Gives}
-use Rattle.ts_ql.specs.Grammar.{Item, Any, This, Examine, Is, Keyword, Of, Script}
-use Rattle.ts_ql.specs.declared.token.Kind.TheVariants as kinds
+use Rattle.ts_ql.specs.Grammar.{Item, Any, This, Examine, Is, Script}
 use Rattle.ts_ql.specs.Lexing.{duration_end}
 use Rattle.ts_ql.specs.Literals.{magnitude}
 use Rattle.ts_ql.specs.Meanings.{script_queries}
@@ -88,47 +87,31 @@ TextSays now text queries = SaysUnless (nat_lt 65536 (length text)) now text que
 abbrev pub TextFault : ℤ → Text → Fault → Type 0
 TextFault now text fault = IsFaultIf (nat_lt 65536 (length text)) now text fault
 
--- the first error of the text; or out of memory, which only a text that isn't too long can have
+-- the first error of the text; or out of memory, which only a text that means queries can have
 abbrev pub Explained : ℤ → Text → ParseError → Type 0
-Explained now text errors.OutOfMemory = length text ≤ 65536
+Explained now text errors.OutOfMemory = (queries : List Select) × TextSays now text queries
 Explained now text (errors.Fault fault) = TextFault now text (as_fault fault)
 
 -- a call returned, seen through `view`, the queries of the text or its first error; or it ran out of memory on a text
--- that isn't too long
+-- that means queries
 abbrev pub Tells : {X : Type 0} → (X → List Select) → ℤ → Text → Result X ParseError → Type 0
 Tells view now text (Ok x) = TextSays now text (view x)
 Tells view now text (Err e) = Explained now text e
 
 -- ---- the laws
 
--- a call returned, seen through `view`, the meaning of the text, unless it ran out of memory
+-- the call returned this error
+abbrev pub IsRefusal : Fault → ParseError → Type 0
+IsRefusal fault errors.OutOfMemory = ⊥
+IsRefusal fault (errors.Fault e) = as_fault e ≡ fault
+
+-- a call returned, seen through `view`, the meaning of the text, or ran out of memory on a text that means queries
 pub record ReadsText {X : Type 0} (view : X → List Select) (now : ℤ) (text : Text) (result : Result X ParseError) : Type 0 where
   pub tells : Tells view now text result
-  -- a text that means queries is parsed as these
+  -- a text that means queries is parsed as these, unless the call ran out of memory
   pub queries : (queries : List Select) → TextSays now text queries → Gives view result (Ok queries)
-  -- a text with a first error is refused with it
-  pub fault : (fault : Fault) → TextFault now text fault → Gives view result (Err fault)
-
--- A statement has a second column, and no error before its end: a comma stands where a FROM could be, the end of a
--- statement follows, and no error is before that.
-pub record HasSecondColumn (now : ℤ) (ts : List Lexeme) : Type 0 where
-  pub before : List Lexeme
-  pub comma : Lexeme
-  pub middle : List Lexeme
-  pub end : Lexeme
-  pub behind : List Lexeme
-  pub parts : ts ≡ before ++ comma ∷ (middle ++ end ∷ behind)
-  pub is_comma : Is (Of kinds.Comma) comma
-  pub is_end : Is (Of kinds.Semicolon) end ⊎ Is (Of kinds.End) end
-  pub no_error : MayBecome now (before ++ comma ∷ middle)
-  pub from : Lexeme
-  pub is_from : Is (Keyword (codes "from")) from
-  pub ends_column : MayBecome now (before ++ from ∷ [])
-
--- A call may run out of memory on this text: it has no error, or the names of columns have to be compared before its
--- first error is known.
-abbrev pub NeedsMemory : ℤ → Text → Type 0
-NeedsMemory now text = ((queries : List Select) × TextSays now text queries) ⊎ HasSecondColumn now (tokens_of text)
+  -- a text with a first error is refused with it, also without memory
+  pub fault : (fault : Fault) → TextFault now text fault → IsErrAnd result (IsRefusal fault)
 
 -- each text means queries or has a first error, and exactly one of these
 pub record IsDecided (now : ℤ) (text : Text) : Type 0 where

@@ -23,6 +23,7 @@ pub mod Counting
 pub mod Shapes
 pub mod Lists
 pub mod SelectSteps
+pub mod ColumnReading
 pub mod MomentSteps
 pub mod WhereSteps
 pub mod GroupSteps

@@ -1,14 +1,12 @@
 -- Lists of statements, and the columns, conditions and tags in them, as written.
 -- (InfluxData 1.8, InfluxQL: the basic SELECT statement, AS; the WHERE clause, tags; the GROUP BY clause.)
-use Rattle.std.specs.Prelude.{◌≡◌, List, [], ◌∷◌, ◌++◌, Bool, false, Option, Some, None, IfSome, option_map, codes, bytes_eq, Vec}
+use Rattle.std.specs.Prelude.{List, [], ◌∷◌, ◌++◌, Option, Some, None, option_map}
 use Rattle.std.specs.Borrow.{Bor}
 use Rattle.std.specs.Option.{unwrap_or}
 use Rattle.ts_core.specs.declared.queries.value.Function.{Function}
 use Rattle.ts_core.specs.facts.Facts.{Text}
 use Rattle.ts_core.specs.queries.Queries.{Condition}
 use Rattle.ts_ql.specs.declared.lists.columns.Column.{Column}
-use Rattle.ts_ql.specs.declared.lists.columns.Count.{Count}
-use Rattle.ts_ql.specs.declared.lists.columns.Count.TheVariants as counts
 use Rattle.ts_ql.specs.declared.lists.conditions.TagTest.{TagTest}
 use Rattle.ts_ql.specs.declared.lists.queries.Outline.{Outline}
 use Rattle.ts_ql.specs.declared.lists.tags.Tag.{Tag}
@@ -68,29 +66,3 @@ outlined c w g o = record {
 
 abbrev pub query_appended : Lists → Lists → Lists → Outline → Lists → Lists
 query_appended c w g o l = record l { queries = l.queries ++ outlined c w g o ∷ [] }
-
--- ---- columns without their names
-
-abbrev pub counted : List Projection → Count
-counted [] = counts.None
-counted (c ∷ []) = counts.One
-counted (c ∷ d ∷ cs) = counts.More
-
-abbrev pub count_after : Count → Count
-count_after counts.None = counts.One
-count_after count = counts.More
-
--- the first column is named `time`
-abbrev pub begins_with_time : List Projection → Bool
-begins_with_time [] = false
-begins_with_time (c ∷ cs) = bytes_eq c.name (codes "time")
-
-abbrev pub time_after : Count → Bool → Bool → Bool
-time_after counts.None new before = new
-time_after count new before = before
-
--- the list in memory, unless it was given up, and the facts that need no names
-pub record IsColumns {A : Type 0} (list : Option (Vec Projection A)) (number : Count) (begins : Bool) (columns : List Projection) : Type 0 where
-  pub list_is : IfSome list (λ v. v.items ≡ columns)
-  pub number_is : number ≡ counted columns
-  pub begins_is : begins ≡ begins_with_time columns

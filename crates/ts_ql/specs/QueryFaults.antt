@@ -67,6 +67,11 @@ abbrev pub Finds : {X : Type 0} → Result X QlFault → Result X Fault → Type
 Finds (Ok x) said = said ≡ Ok x
 Finds (Err fault) said = said ≡ Err (as_fault fault)
 
+-- a call that needs no memory returned this result, seen through `view`
+abbrev pub FindsAs : {X Y : Type 0} → (X → Y) → Result X QlFault → Result Y Fault → Type 0
+FindsAs view (Ok x) said = said ≡ Ok (view x)
+FindsAs view (Err fault) said = said ≡ Err (as_fault fault)
+
 -- a call returned this result, seen through `view`, unless it ran out of memory
 abbrev pub Gives : {X Y : Type 0} → (X → Y) → Result X ParseError → Result Y Fault → Type 0
 Gives view (Ok x) said = said ≡ Ok (view x)

@@ -2,10 +2,9 @@
 -- in Laws.
 -- (InfluxData 1.8, InfluxQL: the basic SELECT statement, several statements. Own rule: at most 65,536 bytes and 16
 -- statements.)
-use Rattle.std.specs.Prelude.{◌≡◌, ◌≤◌, ◌&&◌, ℕ, zero, suc, ℤ, ◌+◌, List, [], ◌∷◌, ◌++◌, length, Bool, true, false, ◌==◌, nat_lt, nat_le, Option, Some, None, Result, Ok, Err, if◌then◌else◌, codes}
+use Rattle.std.specs.Prelude.{◌≡◌, ◌&&◌, ℕ, zero, suc, ℤ, ◌+◌, List, [], ◌∷◌, ◌++◌, length, Bool, true, false, ◌==◌, nat_lt, nat_le, Option, Some, None, Result, Ok, Err, if◌then◌else◌, codes}
 use Rattle.ts_core.specs.facts.Facts.{Text}
 use Rattle.ts_ql.specs.declared.filling.FillClause.{FillClause}
-use Rattle.ts_ql.specs.declared.fault.ParseError.{ParseError}
 use Rattle.ts_ql.specs.declared.fault.QlFault.{QlFault}
 use Rattle.ts_ql.specs.declared.moment.Moment.{Moment}
 use Rattle.ts_ql.specs.declared.moment.Range.{Range}
@@ -16,7 +15,8 @@ use Rattle.ts_ql.specs.declared.state.State.TheVariants as states
 use Rattle.ts_ql.specs.declared.reader.Reader.{Reader}
 use Rattle.ts_ql.specs.declared.token.Kind.{Kind}
 use Rattle.ts_ql.specs.declared.token.Kind.TheVariants as kinds
-use Rattle.ts_ql.specs.QueryFaults.{Fault, Syntax, TooManyStatements, as_fault, unexpected, IsFailure}
+use Rattle.ts_ql.specs.ColumnReading.{HasColumns}
+use Rattle.ts_ql.specs.QueryFaults.{Fault, Syntax, TooManyStatements, as_fault, unexpected}
 use Rattle.ts_ql.specs.GroupSteps.{Grouped, group_step, fill_step}
 use Rattle.ts_ql.specs.Lexing.{token_at}
 use Rattle.ts_ql.specs.Literals.{is_word}
@@ -162,6 +162,22 @@ may_end states.AfterItem = true
 may_end states.AfterFill = true
 may_end state = false
 
+-- within a statement, behind its SELECT and FROM
+abbrev pub is_outside : State → Bool
+is_outside states.Statement = false
+is_outside states.Function = false
+is_outside states.FunctionOpen = false
+is_outside states.Field = false
+is_outside states.FieldEnd = false
+is_outside states.FieldType = false
+is_outside states.FieldClose = false
+is_outside states.AfterColumn = false
+is_outside states.Alias = false
+is_outside states.AfterAlias = false
+is_outside states.Measurement = false
+is_outside states.Done = false
+is_outside state = true
+
 -- ---- statements
 
 -- state of the parser: grammar state, number of statements begun, offset and builder of the current one, and queries of
@@ -182,19 +198,14 @@ start_progress = record { state = states.Statement; count = 0; start = 0; builde
 abbrev pub Advance : Type 0
 Advance = Result Progress Fault
 
--- a call left this state, unless it ran out of memory
-abbrev pub LeavesState : Result (Unit {0}) ParseError → Progress → Advance → Type 0
-LeavesState (Ok u) s step = step ≡ Ok s
-LeavesState (Err e) s step = IsFailure e step
-
 -- a call that needs no memory left this state
 abbrev pub FindsState : Result (Unit {0}) QlFault → Progress → Advance → Type 0
 FindsState (Ok u) s step = step ≡ Ok s
 FindsState (Err fault) s step = step ≡ Err (as_fault fault)
 
--- the end of a statement with two columns or more, whose names are compared
-abbrev pub ComparesNames : Progress → Kind → Type 0
-ComparesNames s kind = (2 ≤ length s.builder.selection.columns) × (is_end kind ≡ true)
+-- behind its FROM, the columns of the current statement are those of the text
+abbrev pub HasColumnsOf : Text → Progress → Type 0
+HasColumnsOf text s = is_outside s.state ≡ true → HasColumns text s.start s.builder.selection.columns
 
 -- SELECT begins a statement, and the text may end after one
 abbrev pub begun_at : Kind → Lexeme → Progress → Advance

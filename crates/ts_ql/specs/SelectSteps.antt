@@ -1,16 +1,19 @@
 -- Effect of each token in SELECT and FROM.
 -- (InfluxData 1.8, InfluxQL: the basic SELECT statement, AS; FROM.)
-use Rattle.std.specs.Prelude.{List, [], ◌∷◌, ◌++◌, ◌||◌, Option, Some, None, option_map, Result, Ok, Err, if◌then◌else◌, codes, bytes_eq}
+use Rattle.std.specs.Prelude.{◌≡◌, List, [], ◌∷◌, ◌++◌, ◌||◌, Option, Some, None, option_map, Result, Ok, Err, if◌then◌else◌, codes, bytes_eq}
 use Rattle.ts_core.specs.facts.Facts.{Text}
 use Rattle.ts_core.specs.declared.queries.value.Function.{Function}
 use Rattle.ts_core.specs.declared.queries.value.Function.TheVariants as functions
 use Rattle.ts_ql.specs.declared.state.State.{State}
 use Rattle.ts_ql.specs.declared.state.State.TheVariants as states
+use Rattle.ts_ql.specs.declared.fault.QlFault.{QlFault}
+use Rattle.ts_ql.specs.declared.lists.columns.Column.{Column}
+use Rattle.ts_ql.specs.declared.selection.SelectCall.{SelectCall}
 use Rattle.ts_ql.specs.declared.selection.Selection.{Selection}
 use Rattle.ts_ql.specs.declared.token.Kind.{Kind}
 use Rattle.ts_ql.specs.declared.token.Kind.TheVariants as kinds
-use Rattle.ts_ql.specs.Lists.{spelled_by}
-use Rattle.ts_ql.specs.QueryFaults.{Fault, unsupported, unexpected}
+use Rattle.ts_ql.specs.Lists.{spelled_by, projection}
+use Rattle.ts_ql.specs.QueryFaults.{Fault, as_fault, unsupported, unexpected}
 use Rattle.ts_ql.specs.Literals.{is_word}
 use Rattle.ts_ql.specs.Selects.{Projection, function_name}
 use Rattle.ts_ql.specs.Tokens.{Lexeme}
@@ -23,13 +26,17 @@ pub record Selected : Type 0 where
   pub field : Option Text
   pub measurement : Text
 
-abbrev pub selected : {A : Type 0} → Selection A → Selected
-selected s = record {
-  columns = s.columns;
-  function = s.function;
-  field = option_map spelled_by s.field;
-  measurement = spelled_by s.measurement;
+-- these columns, and the parts without the list as written
+abbrev pub selected_with : List Projection → SelectCall → Selected
+selected_with columns c = record {
+  columns = columns;
+  function = c.function;
+  field = option_map spelled_by c.field;
+  measurement = spelled_by c.measurement;
 }
+
+abbrev pub selected : {A : Type 0} → Selection A → Selected
+selected s = selected_with s.columns s.call
 
 abbrev pub Selecting : Type 0
 Selecting = Result (State × Selected) Fault
@@ -79,3 +86,14 @@ select_step state t s = select_at state t.kind t s
 
 abbrev pub empty_selection : Selected
 empty_selection = record { columns = []; function = functions.Count; field = None; measurement = [] }
+
+-- ---- one more column
+
+abbrev pub with_ended : List Projection → Option Column → List Projection
+with_ended columns None = columns
+with_ended columns (Some column) = columns ++ projection column ∷ []
+
+-- after these columns, a call that needs no memory returned the next state and the column that the token ends, if any
+abbrev pub FindsColumn : List Projection → Result (State × Option Column) QlFault → SelectCall → Selecting → Type 0
+FindsColumn columns (Ok next) call said = said ≡ Ok (next.0, selected_with (with_ended columns next.1) call)
+FindsColumn columns (Err fault) call said = said ≡ Err (as_fault fault)

@@ -2,8 +2,8 @@
 //!
 //! Proved, in both directions: `parse` returns the queries that the grammar gives a text (specs/Grammar, Productions,
 //! Meanings), or its first error (specs/Laws). The parser is a state machine over tokens (specs/Reading): a state, and
-//! a builder of the current statement. Its steps need no memory: once memory is refused, a list is given up (lists.rt).
-//! So an error is found without memory too, unless the names of two columns have to be compared before it.
+//! a builder of the current statement. Its steps need no memory: once memory is refused, a list is given up (lists.rt),
+//! and names of columns are compared in the text (lists/column_reader.rt). So an error is found without memory too.
 //!
 //! ```text
 //! parse(alloc, "SELECT MAX(v) FROM cpu WHERE time >= 0 AND time < 60s GROUP BY time(1m)", now)?

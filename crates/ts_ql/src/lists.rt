@@ -1,5 +1,6 @@
 //! Lists of a text: each is kept in memory, or given up once memory is refused. A contract sees the whole list in
 //! either case.
+mod column_reader;
 mod columns;
 mod conditions;
 mod queries;

@@ -1,9 +1,11 @@
 //! `parse`: a state machine that parses a text token by token, statement by statement.
-ghost use Rattle.std.specs.Prelude.{◌≡◌, ◌≤◌, ◌&&◌, length};
+ghost use Rattle.std.specs.Prelude.{◌≡◌, ◌⊎◌, ◌≤◌, ◌&&◌, IsOk, length};
+ghost use Rattle.std.specs.Str.{IsCharBoundary};
+ghost use Rattle.ts_ql.specs.ColumnReading.{HasColumns};
 ghost use Rattle.ts_ql.specs.QueryFaults.{Gives};
-ghost use Rattle.ts_ql.specs.Laws.{ReadsText, NeedsMemory, IsDecided, LiteralsCount, DurationsEndLast};
+ghost use Rattle.ts_ql.specs.Laws.{ReadsText, IsDecided, LiteralsCount, DurationsEndLast};
 ghost use Rattle.ts_ql.specs.MomentSteps.{CanAddMore};
-ghost use Rattle.ts_ql.specs.Reading.{next_clause, may_end, is_end, after_end, progress, start_progress, LeavesState, FindsState, ComparesNames, begun, ended, step, queries_of};
+ghost use Rattle.ts_ql.specs.Reading.{next_clause, may_end, is_end, after_end, progress, start_progress, FindsState, HasColumnsOf, begun, ended, step, queries_of};
 ghost use Rattle.ts_ql.specs.Tokens.{lexeme};
 
 use crate::fault::{ParseError, QlFault, QlFaultKind};
@@ -93,7 +95,8 @@ impl<'a, A: Allocator + Copy> Reader<'a, A> {
     /// Begins a statement at SELECT, or finishes at the end of the text. Fails with `TooManyStatements` at the 17th.
     #[tactic(auto, unfolding(crate::specs::Reading::begun))]
     fn begin(&mut self, token: &Token<'a>) -> Result<(), QlFault<'a>>
-        ensures { FindsState result (progress self.new) (begun (lexeme token.now) (progress self.old)) }
+        ensures value { FindsState result (progress self.new) (begun (lexeme token.now) (progress self.old)) }
+        ensures start { (self.new.start ≡ self.old.start) ⊎ (self.new.start ≡ token.now.start) }
     {
         match token.kind {
             Kind::Keyword => {
@@ -119,12 +122,14 @@ impl<'a, A: Allocator + Copy> Reader<'a, A> {
         }
     }
 
-    /// Finishes the current statement and appends its query.
-    fn end(&mut self, alloc: A, now: Time, kind: Kind) -> Result<(), ParseError<'a>>
-        ensures value { LeavesState result (progress self.new) (ended now kind (progress self.old)) }
-        ensures memory { result ≡ Err ParseError.OutOfMemory → 2 ≤ length (progress self.old).builder.selection.columns }
+    /// Finishes the current statement of the text and appends its query.
+    fn end(&mut self, alloc: A, text: &str, now: Time, kind: Kind) -> Result<(), QlFault<'a>>
+        requires boundary { IsCharBoundary text.now self.old.start }
+        requires columns { HasColumns text.now self.old.start (progress self.old).builder.selection.columns }
+        ensures value { FindsState result (progress self.new) (ended now kind (progress self.old)) }
+        ensures start { self.new.start ≡ self.old.start }
     {
-        let (buckets, span) = self.builder.check(alloc, self.start, now)?;
+        let (buckets, span) = self.builder.check(alloc, text, self.start, now)?;
         let builder = mem::replace(&mut self.builder, StatementBuilder::new(alloc));
         self.queries.push(alloc, builder, buckets, span);
         let state = after_end(kind);
@@ -132,35 +137,37 @@ impl<'a, A: Allocator + Copy> Reader<'a, A> {
         Ok(())
     }
 
-    /// Consumes the next token.
+    /// Consumes the next token of the text.
     #[tactic(auto, unfolding(crate::specs::Reading::step))]
-    fn parse_token(&mut self, alloc: A, now: Time, token: &Token<'a>) -> Result<(), ParseError<'a>>
-        requires { CanAddMore now self.old.builder.moment }
-        ensures value { LeavesState result (progress self.new) (step now (lexeme token.now) (progress self.old)) }
-        ensures memory { result ≡ Err ParseError.OutOfMemory → ComparesNames (progress self.old) token.now.kind }
+    fn parse_token(
+        &mut self,
+        alloc: A,
+        text: &str,
+        now: Time,
+        token: &Token<'a>,
+    ) -> Result<(), QlFault<'a>>
+        requires moment { CanAddMore now self.old.builder.moment }
+        requires boundary { IsCharBoundary text.now self.old.start }
+        requires columns { HasColumnsOf text.now (progress self.old) }
+        ensures value { FindsState result (progress self.new) (step now (lexeme token.now) (progress self.old)) }
+        ensures start { (self.new.start ≡ self.old.start) ⊎ (self.new.start ≡ token.now.start) }
     {
-        self.state = self
-            .builder
-            .finish_time(self.state, token.kind)
-            .map_err(ParseError::Fault)?;
+        self.state = self.builder.finish_time(self.state, token.kind)?;
         if let State::Statement = self.state {
-            return self.begin(token).map_err(ParseError::Fault);
+            return self.begin(token);
         }
         if ends(self.state, token.kind) {
-            return self.end(alloc, now, token.kind);
+            return self.end(alloc, text, now, token.kind);
         }
         self.state = match next_clause(self.state, token) {
             Some(next) => next,
-            None => self
-                .builder
-                .parse_token(alloc, now, self.state, token)
-                .map_err(ParseError::Fault)?,
+            None => self.builder.parse_token(alloc, now, self.state, token)?,
         };
         Ok(())
     }
 }
 
-/// Parses a text of at most 65,536 bytes token by token.
+/// Parses a text of at most 65,536 bytes token by token. Runs out of memory only on a text without an error.
 fn read<A: Allocator + Copy>(
     alloc: A,
     text: &str,
@@ -168,13 +175,15 @@ fn read<A: Allocator + Copy>(
 ) -> Result<Vec<Query<A>, A>, ParseError<'_>>
     requires { length text.now ≤ 65536 }
     ensures reading { Gives (λ v. v.items) result (queries_of now text.now) }
-    ensures memory { result ≡ Err ParseError.OutOfMemory → NeedsMemory now text.now }
+    ensures memory { result ≡ Err ParseError.OutOfMemory → IsOk (queries_of now text.now) }
 {
     let mut reader = Reader::new(alloc);
     let mut at = 0;
     for _round in 0..text.len() + 1 {
         let token = Token::at(text, at);
-        reader.parse_token(alloc, now, &token)?;
+        if let Err(fault) = reader.parse_token(alloc, text, now, &token) {
+            return Err(ParseError::Fault(fault));
+        }
         if let State::Done = reader.state {
             return Ok(reader.queries.into_vec()?);
         }
@@ -184,16 +193,14 @@ fn read<A: Allocator + Copy>(
 }
 
 /// Parses an InfluxQL text. Returns one query per statement, or the first error with its byte offset. Times are in
-/// nanoseconds of the Unix epoch; `now` is the value of `now()`. Runs out of memory only on a text without an error, or
-/// at the end of a statement whose columns' names it has to compare. A text that is too long is refused before anything
-/// is allocated.
+/// nanoseconds of the Unix epoch; `now` is the value of `now()`. Runs out of memory only on a text without an error. A
+/// text that is too long is refused before anything is allocated.
 pub fn parse<A: Allocator + Copy>(
     alloc: A,
     text: &str,
     now: Time,
 ) -> Result<Vec<Query<A>, A>, ParseError<'_>>
     ensures reading { ReadsText (λ v. v.items) now text.now result }
-    ensures memory { result ≡ Err ParseError.OutOfMemory → NeedsMemory now text.now }
     ensures decided { IsDecided now text.now }
     ensures literals { LiteralsCount }
     ensures ends { DurationsEndLast }

@@ -1,9 +1,11 @@
 //! Turns a complete statement into a query.
-ghost use Rattle.std.specs.Prelude.{◌≡◌, ◌≤◌, ◌≤ℤ◌, IfOk, IfSome, false, int_le, int_lt, pos, [], length, option_map, string_bytes};
+ghost use Rattle.std.specs.Prelude.{◌≡◌, ◌≤ℤ◌, IfOk, IfSome, false, int_le, int_lt, pos, [], option_map, string_bytes};
 ghost use Rattle.std.specs.Option.{unwrap_or};
+ghost use Rattle.std.specs.Str.{IsCharBoundary};
 ghost use Rattle.ts_core.specs.facts.Times.{least_time};
 ghost use Rattle.ts_ql.specs.BucketLimits.{IsLimited};
-ghost use Rattle.ts_ql.specs.QueryFaults.{Gives, FindsWith, option_as_fault};
+ghost use Rattle.ts_ql.specs.ColumnReading.{HasColumns};
+ghost use Rattle.ts_ql.specs.QueryFaults.{FindsAs, FindsWith, option_as_fault};
 ghost use Rattle.ts_ql.specs.Lists.{spelled_by};
 ghost use Rattle.ts_ql.specs.MomentSteps.{CanAddMore};
 ghost use Rattle.ts_ql.specs.Reading.{finish_time_step, builder_step};
@@ -11,7 +13,7 @@ ghost use Rattle.ts_ql.specs.Tokens.{lexeme};
 ghost use Rattle.ts_ql.specs.Statements.{repeats, first_start, buckets_between, span_from, span_fault, query_of, statement_query};
 ghost use Rattle.ts_ql.specs.Builders.{builder_state, empty_builder, meaning};
 
-use crate::fault::{ParseError, QlFault, QlFaultKind};
+use crate::fault::{QlFault, QlFaultKind};
 use crate::filling::FillClause;
 use crate::filter::{WhereClause, after_term};
 use crate::groups::GroupByClause;
@@ -112,32 +114,33 @@ impl<'a, A: Allocator + Copy> StatementBuilder<'a, A> {
         }
     }
 
-    /// Checks the statement, which begins at offset `start`; returns its buckets and its range. Fails at `start` with
-    /// `RepeatedColumn`, `OutOfProfile` without GROUP BY time, `NoLowerBound`, or an error of the buckets. Needs memory
-    /// only for two columns.
+    /// Checks the statement of a text that begins at offset `start`; returns its buckets and its range. Fails at
+    /// `start` with `RepeatedColumn`, `OutOfProfile` without GROUP BY time, `NoLowerBound`, or an error of the buckets.
     #[tactic(auto, unfolding(crate::specs::Statements::statement_query))]
     pub(crate) fn check(
         &self,
         alloc: A,
+        text: &str,
         start: usize,
         now: Time,
-    ) -> Result<(Buckets, Span), ParseError<'a>>
-        ensures value { Gives (λ p. query_of (meaning (builder_state self.now)) p.0 p.1) result (statement_query start now (meaning (builder_state self.now))) }
+    ) -> Result<(Buckets, Span), QlFault<'a>>
+        requires boundary { IsCharBoundary text.now start }
+        requires columns { HasColumns text.now start (builder_state self.now).selection.columns }
+        ensures value { FindsAs (λ p. query_of (meaning (builder_state self.now)) p.0 p.1) result (statement_query start now (meaning (builder_state self.now))) }
         ensures columns { IfOk result (λ _. repeats (builder_state self.now).selection.columns ≡ false) }
         ensures limits { IfOk result (λ p. IsLimited (query_of (meaning (builder_state self.now)) p.0 p.1).query) }
-        ensures memory { result ≡ Err ParseError.OutOfMemory → 2 ≤ length (builder_state self.now).selection.columns }
     {
-        if self.selection.columns.repeat(alloc)? {
-            return Err(ParseError::Fault(QlFaultKind::RepeatedColumn.at(start)));
+        if self.selection.columns.repeat(alloc, text, start) {
+            return Err(QlFaultKind::RepeatedColumn.at(start));
         }
         let Some(buckets) = self.groups.buckets() else {
-            return Err(ParseError::Fault(QlFaultKind::OutOfProfile("GROUP BY time").at(start)));
+            return Err(QlFaultKind::OutOfProfile("GROUP BY time").at(start));
         };
         let Some(span) = span_of(&self.range, now) else {
-            return Err(ParseError::Fault(QlFaultKind::NoLowerBound.at(start)));
+            return Err(QlFaultKind::NoLowerBound.at(start));
         };
         match span_fault(start, buckets, &span) {
-            Some(fault) => Err(ParseError::Fault(fault)),
+            Some(fault) => Err(fault),
             None => Ok((buckets, span)),
         }
     }
@@ -151,8 +154,8 @@ impl<'a, A: Allocator + Copy> StatementBuilder<'a, A> {
         let fill = self.filling.fill;
         let selection = self.selection;
         let filter = self.filter;
-        let measurement = text_spelled(alloc, selection.measurement)?;
-        let field = field_text(alloc, selection.field)?;
+        let measurement = text_spelled(alloc, selection.call.measurement)?;
+        let field = field_text(alloc, selection.call.field)?;
         let columns = selection.columns.into_vec()?;
         let conditions = filter.conditions.into_vec()?;
         let tags = self.groups.into_tags().into_vec(alloc)?;

@@ -67,6 +67,7 @@ impl<'a> Token<'a> {
         requires { IsCharBoundary text.now from }
         ensures value { lexeme result ≡ token_at text.now from }
         ensures from { result.kind ≢ Kind.End → from < result.end }
+        ensures start { IsCharBoundary text.now result.start }
         ensures boundary { IsCharBoundary text.now result.end }
     {
         let start = end_of_run(text, from, Class::Space);

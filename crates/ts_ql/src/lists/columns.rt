@@ -1,9 +1,12 @@
 //! Columns of a statement.
-ghost use Rattle.std.specs.Prelude.{◌≡◌, ◌≤◌, [], ◌∷◌, ◌++◌, length, bytes_eq, codes, IfOk, IfErr};
-ghost use Rattle.ts_ql.specs.Lists.{projection, count_after};
+ghost use Rattle.std.specs.Prelude.{◌≡◌, [], ◌∷◌, ◌++◌, bytes_eq, codes, IfOk};
+ghost use Rattle.std.specs.Str.{IsCharBoundary};
+ghost use Rattle.ts_ql.specs.ColumnReading.{HasColumns};
+ghost use Rattle.ts_ql.specs.Lists.{spelled_by, projection};
 ghost use Rattle.ts_ql.specs.Statements.{repeats};
 
 use crate::keywords::function_name;
+use crate::lists::column_reader::ColumnReader;
 use crate::lists::shadow::Shadow;
 use crate::literal::{is_spelled_alike, text_spelled};
 use crate::query::Projection;
@@ -19,35 +22,23 @@ pub(crate) struct Column<'a> {
     pub alias: Option<&'a str>,
 }
 
-/// Number of columns, as far as names can be the same.
-#[derive(Clone, Copy)]
-pub(crate) enum Count {
-    None,
-    One,
-    More,
-}
-
 /// Columns of a statement, in its order.
 #[derive(Drop)]
 pub(crate) struct Columns<A: Allocator> {
     /// `None` after memory was refused.
     columns: Option<Vec<Projection<A>, A>>,
-    count: Count,
-    /// True if the first column is named `time`.
-    begins_with_time: bool,
     shadow: Shadow,
 }
 
 impl<A: Allocator> Model for Columns<A> {
-    ghost use Rattle.std.specs.Prelude.{List};
-    ghost use Rattle.ts_ql.specs.Lists.{IsColumns};
+    ghost use Rattle.std.specs.Prelude.{◌≡◌, List, IfSome};
     ghost use Rattle.ts_ql.specs.Selects.{Projection as ProjectionValue};
 
     ghost Value = { List ProjectionValue };
 
     ghost view = { λ c. c.shadow.lists.columns };
 
-    ghost invariant = { λ c. IsColumns c.columns c.count c.begins_with_time c.shadow.lists.columns };
+    ghost invariant = { λ c. IfSome c.columns (λ v. v.items ≡ c.shadow.lists.columns) };
 }
 
 /// Returns true if two columns have the same name, or one is named `time`.
@@ -65,14 +56,29 @@ fn repeats<A: Allocator + Copy>(alloc: A, columns: &[Projection<A>]) -> Result<b
 }
 
 impl<'a> Column<'a> {
-    /// Returns true if the column is named `time`.
-    fn is_time(&self) -> bool
-        ensures { result ≡ bytes_eq (projection self.now).name (codes "time") }
+    /// Returns the name as written: the alias, or else the function's name.
+    #[tactic(auto, using(crate::proofs::LiteralLemmas::spelled_function))]
+    fn written_name(&self) -> &'a str
+        ensures { spelled_by result ≡ (projection self.now).name }
     {
         match self.alias {
-            Some(alias) => is_spelled_alike(alias, "time"),
-            None => false,
+            Some(alias) => alias,
+            None => function_name(self.function),
         }
+    }
+
+    /// Returns true if the column is named `time`.
+    pub fn is_time(&self) -> bool
+        ensures { result ≡ bytes_eq (projection self.now).name (codes "time") }
+    {
+        is_spelled_alike(self.written_name(), "time")
+    }
+
+    /// Returns true if another column has this one's name.
+    pub fn is_named_as(&self, other: &Column<'_>) -> bool
+        ensures { result ≡ bytes_eq (projection self.now).name (projection other.now).name }
+    {
+        is_spelled_alike(self.written_name(), other.written_name())
     }
 
     /// Creates the column of a query.
@@ -84,18 +90,6 @@ impl<'a> Column<'a> {
             None => String::from_str(alloc, function_name(self.function))?,
         };
         Ok(Projection::new(self.function, name))
-    }
-}
-
-impl Count {
-    /// Returns the number with another column.
-    fn next(self) -> Count
-        ensures { result ≡ count_after self }
-    {
-        match self {
-            Count::None => Count::One,
-            _ => Count::More,
-        }
     }
 }
 
@@ -118,8 +112,6 @@ impl<A: Allocator + Copy> Columns<A> {
     {
         Columns {
             columns: Some(Vec::new(alloc)),
-            count: Count::None,
-            begins_with_time: false,
             shadow: Shadow::new(),
         }
     }
@@ -128,10 +120,6 @@ impl<A: Allocator + Copy> Columns<A> {
     pub fn push(&mut self, alloc: A, column: &Column<'_>)
         ensures { self.new ≡ self.old ++ projection column.now ∷ [] }
     {
-        if let Count::None = self.count {
-            self.begins_with_time = column.is_time();
-        }
-        self.count = self.count.next();
         self.shadow = Shadow::with_column(&self.shadow, column);
         if let Some(columns) = &mut self.columns {
             if push(alloc, columns, column).is_err() {
@@ -140,18 +128,19 @@ impl<A: Allocator + Copy> Columns<A> {
         }
     }
 
-    /// Returns true if two columns have the same name, or one is named `time`. Needs memory only for two columns.
-    pub fn repeat(&self, alloc: A) -> Result<bool, AllocError>
-        ensures value { IfOk result (λ found. found ≡ repeats self.now) }
-        ensures memory { IfErr result (λ _. 2 ≤ length self.now) }
+    /// Returns true if two columns have the same name, or one is named `time`. They are those of the statement whose
+    /// SELECT is at offset `start`. If memory is refused, they are read once more from the text.
+    pub fn repeat(&self, alloc: A, text: &str, start: usize) -> bool
+        requires boundary { IsCharBoundary text.now start }
+        requires columns { HasColumns text.now start self.now }
+        ensures { result ≡ repeats self.now }
     {
-        if let Count::More = self.count {
-            return match &self.columns {
-                Some(columns) => repeats(alloc, columns.as_slice()),
-                None => Err(AllocError),
-            };
+        if let Some(columns) = &self.columns {
+            if let Ok(found) = repeats(alloc, columns.as_slice()) {
+                return found;
+            }
         }
-        Ok(self.begins_with_time)
+        ColumnReader::new(text, start).repeats()
     }
 
     /// Returns the list. Fails if memory was refused.

@@ -50,8 +50,8 @@ fn shadow_with<A: Allocator + Copy>(
     ensures { result.lists.queries ≡ before.now.lists.queries ++ query_of (meaning (builder_state statement.now)) buckets span ∷ [] }
 {
     let outline = Outline {
-        field: statement.selection.field,
-        measurement: statement.selection.measurement,
+        field: statement.selection.call.field,
+        measurement: statement.selection.call.measurement,
         fill: statement.filling.fill,
         buckets,
         span,

@@ -1,4 +1,3 @@
-use Rattle.std.proofs.Common.{◌≤◌, length, arith}
 use Rattle.ts_ql.proofs.DurationEnds.{durations_end_last}
 use Rattle.ts_ql.proofs.MagnitudeLaws.{literals_count}
 use Rattle.ts_ql.proofs.TextLaws.{reads_text, refuses_text, decided}
@@ -17,9 +16,7 @@ pub returns-then-text-gt65536-clause-ends : goal.returns-then-text-gt65536-claus
 returns-then-text-gt65536-clause-ends g c = durations_end_last
 
 pub returns-clause-reading : goal.returns-clause-reading
-returns-clause-reading g c =
-    let short : length c.args.text.now ≤ 65536 = omega arith in
-    reads_text (λ v. v.items) c.args.now c.args.text.now c.read.result (λ e. short) c.read.ensures.reading
+returns-clause-reading g c = reads_text (λ v. v.items) c.args.now c.args.text.now c.read.result c.read.ensures.memory c.read.ensures.reading
 
 pub returns-clause-decided : goal.returns-clause-decided
 returns-clause-decided g c = decided c.args.now c.args.text.now
