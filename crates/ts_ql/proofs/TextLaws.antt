@@ -7,7 +7,7 @@ use Rattle.ts_ql.specs.declared.fault.QlFault.{QlFault}
 use Rattle.ts_ql.specs.declared.fault.ParseError.{ParseError}
 use Rattle.ts_ql.specs.declared.fault.ParseError.TheVariants as errors
 use Rattle.ts_ql.specs.QueryFaults.{Fault, Syntax, as_fault, Gives}
-use Rattle.ts_ql.specs.Laws.{Says, SaysUnless, IsFaultIf, TextSays, TextFault, Tells, IsRefusal, ReadsText, IsDecided}
+use Rattle.ts_ql.specs.Laws.{Says, SaysUnless, IsFaultIf, TextSays, TextFault, Tells, RefusesAs, ReadsText, IsDecided}
 use Rattle.ts_ql.specs.Reading.{queries_of}
 use Rattle.ts_ql.specs.Selects.{Select}
 use Rattle.ts_ql.specs.Tokenizing.{tokens_of}
@@ -92,7 +92,7 @@ tells {X} view now text (Err (errors.Fault f)) memory e = text_fault now text (a
 gives_as : {X : Type 0} (view : X → List Select) (r : Result X ParseError) (a b : Result (List Select) Fault) → a ≡ b → Gives view r a → Gives view r b
 gives_as {X} view r a b e w = subst (λ (said : Result (List Select) Fault). Gives view r said) e w
 
-refuses : {X : Type 0} (view : X → List Select) (r : Result X ParseError) (said : Result (List Select) Fault) (f : Fault) → said ≡ Err f → (r ≡ Err errors.OutOfMemory → IsOk said) → Gives view r said → IsErrAnd r (IsRefusal f)
+refuses : {X : Type 0} (view : X → List Select) (r : Result X ParseError) (said : Result (List Select) Fault) (f : Fault) → said ≡ Err f → (r ≡ Err errors.OutOfMemory → IsOk said) → Gives view r said → IsErrAnd r (RefusesAs f)
 refuses {X} view (Ok x) said f faulty memory e = absurd cc
 refuses {X} view (Err errors.OutOfMemory) said f faulty memory e = absurd (let ok = rw faulty at memory refl in cc)
 refuses {X} view (Err (errors.Fault g)) said f faulty memory e = cc

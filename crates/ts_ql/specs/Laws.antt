@@ -101,9 +101,9 @@ Tells view now text (Err e) = Explained now text e
 -- ---- the laws
 
 -- the call returned this error
-abbrev pub IsRefusal : Fault → ParseError → Type 0
-IsRefusal fault errors.OutOfMemory = ⊥
-IsRefusal fault (errors.Fault e) = as_fault e ≡ fault
+abbrev pub RefusesAs : Fault → ParseError → Type 0
+RefusesAs fault errors.OutOfMemory = ⊥
+RefusesAs fault (errors.Fault e) = as_fault e ≡ fault
 
 -- a call returned, seen through `view`, the meaning of the text, or ran out of memory on a text that means queries
 pub record ReadsText {X : Type 0} (view : X → List Select) (now : ℤ) (text : Text) (result : Result X ParseError) : Type 0 where
@@ -111,7 +111,7 @@ pub record ReadsText {X : Type 0} (view : X → List Select) (now : ℤ) (text :
   -- a text that means queries is parsed as these, unless the call ran out of memory
   pub queries : (queries : List Select) → TextSays now text queries → Gives view result (Ok queries)
   -- a text with a first error is refused with it, also without memory
-  pub fault : (fault : Fault) → TextFault now text fault → IsErrAnd result (IsRefusal fault)
+  pub fault : (fault : Fault) → TextFault now text fault → IsErrAnd result (RefusesAs fault)
 
 -- each text means queries or has a first error, and exactly one of these
 pub record IsDecided (now : ℤ) (text : Text) : Type 0 where
