@@ -66,7 +66,7 @@ fn cell_points<A: Allocator + Copy>(
     requires within { is_within (index_of rule.now from) (index_of rule.now to) cell.now.cell.index ≡ true }
     ensures { result ≡ (if is_cell_taken query.now.query rule.now from to cell.now then (total_in cell.now.parts).count else 0) }
 {
-    let start = bucket_start(rule, from, to, &cell.index);
+    let start = bucket_start(rule, &cell.index);
     if is_candidate(rule, query, from, to, &start, cell)
         && are_met_by(rule, cell, query.conditions())
     {
