@@ -16,7 +16,7 @@ mod Tested
 -- Executions, Shares: the number of points of a plan over a view
 mod PointCounts
 mod CountSteps
--- GroupTables, FirstOf: the cells and points of a piece
+-- GroupTables: the cells and points of a piece
 mod Selected
 mod Walked
 mod NamedRules

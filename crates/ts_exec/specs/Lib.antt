@@ -13,6 +13,5 @@ pub mod Slots
 pub mod JoinedPieces
 pub mod ReducedConditions
 pub mod Searches
-pub mod FirstOf
 pub mod SeriesTests
 pub mod GroupValues

@@ -1,5 +1,6 @@
 //! Adds a piece of a rule's cells to the groups.
-ghost use Rattle.std.specs.Prelude.{◌≡◌, ◌&&◌, ◌<◌, pos, ◌≤ℤ◌, true, zip, length, map, string_bytes, OnOk, IfOk};
+ghost use Rattle.std.specs.Prelude.{◌≡◌, ◌&&◌, ◌<◌, ℤ, FitsSigned, pos, ◌≤ℤ◌, true, zip, length, map, string_bytes, OnOk, IfOk};
+ghost use Rattle.std.specs.Int.{w64};
 ghost use Rattle.std.specs.List.{list_all};
 ghost use Rattle.ts_core.specs.plans.Assembly.{representative};
 ghost use Rattle.ts_core.specs.facts.Facts.{is_within};
@@ -99,10 +100,10 @@ fn is_taken<A: Allocator + Copy>(
 }
 
 /// Returns the start of the bucket with this index, in nanoseconds of the Unix epoch. The bucket must be one of those
-/// between the buckets of `from`, inclusive, and `to`, exclusive.
-pub(crate) fn bucket_start<A: Allocator>(rule: &Rule<A>, from: i64, to: i64, index: &i128) -> i128
+/// between the buckets of two times, the first inclusive, the second exclusive.
+pub(crate) fn bucket_start<A: Allocator>(rule: &Rule<A>, index: &i128) -> i128
     requires interval { pos 1 ≤ℤ rule.now.interval }
-    requires within { is_within (index_of rule.now from) (index_of rule.now to) index.now ≡ true }
+    requires within { (from : ℤ) × (to : ℤ) × FitsSigned w64 from × FitsSigned w64 to × (is_within (index_of rule.now from) (index_of rule.now to) index.now ≡ true) }
     ensures { result ≡ start_of rule.now index.now }
 {
     rule.buckets().start(*index)
@@ -127,7 +128,7 @@ fn add_cell<'a, A: Allocator + Copy>(
 {
     // For the proof: a query's interval is positive.
     let _interval = scan.query.interval();
-    let start = bucket_start(rule, from, to, &cell.index);
+    let start = bucket_start(rule, &cell.index);
     if !is_taken(rule, scan, from, to, &start, cell) {
         return Ok(());
     }

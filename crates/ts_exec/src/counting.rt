@@ -15,7 +15,6 @@ ghost use Rattle.ts_exec.specs.Shares.{points_of_shares, cell_share, source_shar
 use crate::cell_piece::{bucket_start, is_candidate, is_met_by};
 use crate::executor::is_fresh;
 use crate::fault::ExecFault;
-use crate::pieces::rule_from;
 use crate::selection::are_met;
 use std::alloc::Allocator;
 use ts_check::{Checked, Piece, PieceSource};
@@ -67,7 +66,7 @@ fn cell_points<A: Allocator + Copy>(
     requires within { is_within (index_of rule.now from) (index_of rule.now to) cell.now.cell.index ≡ true }
     ensures { result ≡ (if is_cell_taken query.now.query rule.now from to cell.now then (total_in cell.now.parts).count else 0) }
 {
-    let start = bucket_start(rule, from, to, &cell.index);
+    let start = bucket_start(rule, &cell.index);
     if is_candidate(rule, query, from, to, &start, cell)
         && are_met_by(rule, cell, query.conditions())
     {
@@ -105,12 +104,16 @@ fn piece_points<A: Allocator + Copy, V: View<A>>(view: &V, query: &Query<A>, pie
 {
     match &piece.source {
         PieceSource::Raw => raw_points(view, query, piece.from, piece.to),
-        PieceSource::Rollup(name) => match rule_from(0, view.settings().rules(), name.as_str()) {
-            Some((number, rule)) => {
-                rollup_points(view, query, rule, number, piece.from, piece.to)
+        PieceSource::Rollup(name) => {
+            let settings = view.settings();
+            match settings.rule_named(name.as_str()) {
+                Some(number) => {
+                    let rule = &settings.rules()[number];
+                    rollup_points(view, query, rule, number, piece.from, piece.to)
+                }
+                None => 0,
             }
-            None => 0,
-        },
+        }
     }
 }
 

@@ -46,7 +46,7 @@ mod selection;
 mod set_values;
 mod slot;
 mod table;
-mod tag_tests;
+mod tag_conditions;
 
 pub use counting::count_points;
 pub use executor::{execute, execute_selected};

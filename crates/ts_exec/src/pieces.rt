@@ -1,6 +1,5 @@
 //! Adds the pieces of a plan to the groups.
-ghost use Rattle.std.specs.Prelude.{◌≡◌, ◌+◌, ◌^◌, ◌<◌, length, option_map, OnOk, IfOk};
-ghost use Rattle.ts_exec.specs.FirstOf.{rule_from};
+ghost use Rattle.std.specs.Prelude.{◌≡◌, OnOk, IfOk};
 ghost use Rattle.ts_exec.specs.JoinedPieces.{joined_pieces, has_small_parts, have_small_parts};
 ghost use Rattle.ts_exec.specs.GroupTables.{with_source, with_pieces};
 
@@ -12,25 +11,7 @@ use crate::raw_piece::add_raw;
 use crate::scan::Scan;
 use std::alloc::{AllocError, Allocator};
 use ts_check::{Piece, PieceSource};
-use ts_core::Rule;
 use ts_store::View;
-
-/// Returns the first rule of this name with its index, counting from `number`.
-pub(crate) fn rule_from<'a, A: Allocator>(
-    number: usize,
-    rules: &'a [Rule<A>],
-    name: &str,
-) -> Option<(usize, &'a Rule<A>)>
-    requires { number + length rules.now < 2 ^ 64 }
-    ensures { option_map (λ p. (p.0, p.1.now)) result ≡ rule_from name.now number rules.now }
-{
-    let (rule, rules) = rules.split_first()?;
-    if rule.name() == name {
-        Some((number, rule))
-    } else {
-        rule_from(number + 1, rules, name)
-    }
-}
 
 /// Adds the data of a piece. Keeps these parts of raw points. Returns true if all its cells are small.
 fn add_piece<'a, A: Allocator + Copy + 'a, V: View<A> + 'a>(
@@ -49,12 +30,16 @@ fn add_piece<'a, A: Allocator + Copy + 'a, V: View<A> + 'a>(
             add_raw(groups, scan, parts, view, piece.from, piece.to)?;
             Ok(true)
         }
-        PieceSource::Rollup(name) => match rule_from(0, view.settings().rules(), name.as_str()) {
-            Some((number, rule)) => add_cells(
-                groups, scan, view, rule, number, piece.from, piece.to,
-            ),
-            None => Ok(true),
-        },
+        PieceSource::Rollup(name) => {
+            let settings = view.settings();
+            match settings.rule_named(name.as_str()) {
+                Some(number) => {
+                    let rule = &settings.rules()[number];
+                    add_cells(groups, scan, view, rule, number, piece.from, piece.to)
+                }
+                None => Ok(true),
+            }
+        }
     }
 }
 

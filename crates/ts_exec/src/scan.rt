@@ -1,4 +1,4 @@
-//! Holds the state that all pieces of a query share while they are added to the groups.
+//! State that all pieces of a query share while they are added to the groups.
 ghost use Rattle.std.specs.Prelude.{◌≡◌, IfOk};
 ghost use Rattle.std.specs.List.{list_all};
 ghost use Rattle.ts_core.specs.lists.Members.{AllDistinct};
@@ -7,7 +7,7 @@ ghost use Rattle.ts_core.specs.queries.Queries.{IsQuery, meets};
 
 use crate::buckets::{BucketCursor, width};
 use crate::group_values::GroupValuesBuf;
-use crate::tag_tests::{TagTests, tests_of};
+use crate::tag_conditions::{TagConditions, conditions_of};
 use std::alloc::{AllocError, Allocator};
 use std::marker::Model;
 use ts_core::Rule;
@@ -22,7 +22,7 @@ pub(crate) struct Scan<'a, 'q, A: Allocator> {
     pub width: usize,
     pub buckets: BucketCursor,
     // None if the conditions want two values of one tag.
-    pub tests: Option<TagTests<'q, A>>,
+    pub tests: Option<TagConditions<'q, A>>,
     pub values: GroupValuesBuf<'a, A>,
 }
 
@@ -48,7 +48,7 @@ impl<'a, 'q, A: Allocator + Copy> Scan<'a, 'q, A> {
             query,
             width: width(query)?,
             buckets,
-            tests: tests_of(alloc, query.conditions())?,
+            tests: conditions_of(alloc, query.conditions())?,
             values: GroupValuesBuf::new(alloc),
         })
     }

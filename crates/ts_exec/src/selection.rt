@@ -6,7 +6,7 @@ ghost use Rattle.ts_core.specs.queries.Queries.{meets};
 ghost use Rattle.ts_store.specs.read.ViewResults.{column_refs_where};
 ghost use Rattle.ts_exec.specs.GroupTables.{selected_column_refs, IsNarrowing};
 
-use crate::tag_tests::tests_of;
+use crate::tag_conditions::conditions_of;
 use std::alloc::{AllocError, Allocator};
 use ts_core::Key;
 use ts_ql::{Condition, Query};
@@ -81,7 +81,7 @@ pub(crate) fn selected_columns<'a, A: Allocator + Copy + 'a, V: View<A> + 'a>(
 ) -> Result<Vec<ViewColumn<'a, A>, A>, AllocError>
     ensures { IfOk result (λ v. v.items ≡ selected_column_refs query.now.query.conditions (column_refs_where (is_of query.now.query.measurement query.now.query.field) (V.seen view.now).columns)) }
 {
-    let Some(tests) = tests_of(alloc, query.conditions())? else {
+    let Some(tests) = conditions_of(alloc, query.conditions())? else {
         return Ok(Vec::new(alloc));
     };
     let mut found = candidates(alloc, query, view)?;

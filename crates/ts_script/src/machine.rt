@@ -1,5 +1,5 @@
 //! The state machine of a script: each command takes one step and has one reply.
-ghost use Rattle.std.specs.Prelude.{◌≡◌, ◌≤◌, length, IfOk, option_map, string_bytes, string_len, string_capacity};
+ghost use Rattle.std.specs.Prelude.{◌≡◌, ◌≤◌, length, IfOk, string_bytes, string_len, string_capacity};
 ghost use Rattle.ts_reply.specs.OutcomeViews.{given_text};
 ghost use Rattle.ts_script.specs.CommandParts.{command_view};
 ghost use Rattle.ts_script.specs.ScriptLines.{script_line_limit};
@@ -282,7 +282,7 @@ impl Machine {
         ensures { (s : State) → IsMachineIn s self.old → TransitionTo (QueryCommand text.now) s (text_of result) self.new }
     {
         let certificate = self.certificate.take();
-        match self.reply(text, borrowed(&certificate)) {
+        match self.reply(text, certificate.as_deref()) {
             Ok(body) => Reply::Body(body),
             Err(_) => Reply::OutOfMemory,
         }
@@ -354,16 +354,6 @@ fn written_reply(written: Result<LineOutcome, AllocError>) -> Reply
     match written {
         Ok(outcome) => Reply::Written(outcome),
         Err(_) => Reply::OutOfMemory,
-    }
-}
-
-/// Returns the certificate's text, if there is one.
-fn borrowed(certificate: &Option<String>) -> Option<&str>
-    ensures { given_text result ≡ option_map string_bytes certificate.now }
-{
-    match certificate {
-        Some(text) => Some(text.as_str()),
-        None => None,
     }
 }
 

@@ -7,5 +7,6 @@ pub start-requires : goal.start-requires
 start-requires g c =
     let r : Rule = c.args.rule.now in
     let s : SFits w64 r.interval = search rules in
-    let near = start_near r c.args.from c.args.to c.args.index.now c.requires.interval s c.ranges.from c.ranges.to c.requires.within in
+    let w = c.requires.within in
+    let near = start_near r w.0 w.1 c.args.index.now c.requires.interval s w.2 w.3 w.4 in
     search rules

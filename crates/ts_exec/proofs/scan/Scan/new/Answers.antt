@@ -8,5 +8,5 @@ pub invariant_of-result : goal.invariant_of-result
 invariant_of-result g c = record {
   width = search rules;
   grid = search rules;
-  tests = subst (λ (cs : List Condition). MatchOption c.in_ok-tests_of.field-0 (IsMetByNone cs) (AreTestsOf cs)) c.conditions.ensures c.in_ok-tests_of.ensures;
+  tests = subst (λ (cs : List Condition). MatchOption c.in_ok-conditions_of.field-0 (IsMetByNone cs) (AreTestsOf cs)) c.conditions.ensures c.in_ok-conditions_of.ensures;
 }

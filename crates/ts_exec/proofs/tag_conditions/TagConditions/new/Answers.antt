@@ -4,7 +4,7 @@ use Rattle.ts_exec.specs.Borrowed.{borrowed}
 use Rattle.ts_exec.specs.ReducedConditions.{meets_all}
 use Rattle.ts_exec.specs.SeriesTests.{meets_tests}
 use Rattle.ts_exec.proofs.Tested.{tests_permuted, tests-none, tests-all}
-use Rattle.ts_exec.proofs.tag_tests.TagTests.new.Goals as goal
+use Rattle.ts_exec.proofs.tag_conditions.TagConditions.new.Goals as goal
 
 pub loop-condition-init : goal.loop-condition-init
 loop-condition-init g c s set = rw (c.new-needed.ensures.items, c.new-refused.ensures.items) (tests-none s (meets_all (borrowed c.args.conditions.now) s))

@@ -1,4 +1,4 @@
-//! Tests a series, or a cell of a rule, by its own tags, however many conditions a query has.
+//! Conditions of a query, which are tested by a series' or cell's own tags, however many conditions there are.
 ghost use Rattle.std.specs.Prelude.{◌≡◌, ◌&&◌, not, zip, map, string_bytes, IfOk, OnOk, MatchOption};
 ghost use Rattle.std.specs.List.{list_all};
 ghost use Rattle.ts_core.specs.facts.Facts.{Series};
@@ -20,7 +20,7 @@ use ts_store::ViewCell;
 
 /// Conditions of a query, divided by whether a series without the tag meets them.
 #[derive(Drop)]
-pub(crate) struct TagTests<'q, A: Allocator> {
+pub(crate) struct TagConditions<'q, A: Allocator> {
     // Conditions that a series without the tag doesn't meet. A series with n tags meets 2n of them at most, if none is
     // there twice.
     needed: Vec<&'q Condition<A>, A>,
@@ -28,7 +28,7 @@ pub(crate) struct TagTests<'q, A: Allocator> {
     refused: Vec<(&'q str, &'q str), A>,
 }
 
-impl<'q, A: Allocator> Model for TagTests<'q, A> {
+impl<'q, A: Allocator> Model for TagConditions<'q, A> {
     ghost use Rattle.ts_core.specs.text.Texts.{borrowed_pairs};
     ghost use Rattle.ts_exec.specs.Borrowed.{borrowed};
     ghost use Rattle.ts_exec.specs.SeriesTests.{SeriesTests, ArePairsSorted};
@@ -130,12 +130,12 @@ fn add<'q, A: Allocator + Copy>(
     Ok(())
 }
 
-impl<'q, A: Allocator + Copy> TagTests<'q, A> {
-    /// Creates the tests for these conditions.
+impl<'q, A: Allocator + Copy> TagConditions<'q, A> {
+    /// Divides conditions by whether a series without the tag meets them.
     pub(crate) fn new(
         alloc: A,
         conditions: &[&'q Condition<A>],
-    ) -> Result<TagTests<'q, A>, AllocError>
+    ) -> Result<TagConditions<'q, A>, AllocError>
         ensures { IfOk result (λ t. (s : Series) → AreDistinctTags s.tags → meets_tests t.needed t.refused s ≡ meets_all (borrowed conditions.now) s) }
     {
         let mut needed = Vec::new(alloc);
@@ -144,7 +144,7 @@ impl<'q, A: Allocator + Copy> TagTests<'q, A> {
             add(&mut needed, &mut refused, condition)?;
         }
         refused.sort_unstable();
-        Ok(TagTests { needed, refused })
+        Ok(TagConditions { needed, refused })
     }
 
     /// Returns true if a series meets the conditions.
@@ -164,16 +164,16 @@ impl<'q, A: Allocator + Copy> TagTests<'q, A> {
     }
 }
 
-/// Returns the tests for these conditions, or `None` if they want two values of one tag.
-pub(crate) fn tests_of<'q, A: Allocator + Copy>(
+/// Returns these conditions divided, or `None` if they want two values of one tag.
+pub(crate) fn conditions_of<'q, A: Allocator + Copy>(
     alloc: A,
     conditions: &'q [Condition<A>],
-) -> Result<Option<TagTests<'q, A>>, AllocError>
+) -> Result<Option<TagConditions<'q, A>>, AllocError>
     ensures { IfOk result (λ r. MatchOption r (IsMetByNone conditions.now) (AreTestsOf conditions.now)) }
 {
     let Some(conditions) = reduced(alloc, conditions)? else {
         return Ok(None);
     };
-    let tests = TagTests::new(alloc, conditions.as_slice())?;
-    Ok(Some(tests))
+    let divided = TagConditions::new(alloc, conditions.as_slice())?;
+    Ok(Some(divided))
 }

@@ -7,7 +7,7 @@ use Rattle.ts_core.specs.queries.Queries.{Condition, meets}
 use Rattle.ts_core.specs.text.Texts.{borrowed_pairs}
 use Rattle.ts_exec.specs.Borrowed.{borrowed}
 use Rattle.ts_exec.specs.SeriesTests.{SeriesTests, is_refused, meets_tests}
-use Rattle.ts_exec.proofs.tag_tests.TagTests.are_met_by.Goals as goal
+use Rattle.ts_exec.proofs.tag_conditions.TagConditions.are_met_by.Goals as goal
 
 pub returns-then-are_kept_allowed : goal.returns-then-are_kept_allowed
 returns-then-are_kept_allowed g c =

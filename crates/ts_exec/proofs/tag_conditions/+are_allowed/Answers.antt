@@ -1,7 +1,7 @@
 use Rattle.std.proofs.Common.{◌≡◌, ◌∙◌, sym, eqb-true, length}
 use Rattle.ts_core.specs.text.Texts.{owned_pairs}
 use Rattle.ts_exec.proofs.Tested.{allowed-none}
-use Rattle.ts_exec.proofs.tag_tests.+are_allowed.Goals as goal
+use Rattle.ts_exec.proofs.tag_conditions.+are_allowed.Goals as goal
 
 pub returns-then-is_empty : goal.returns-then-is_empty
 returns-then-is_empty g t c =

@@ -2,7 +2,7 @@ use Rattle.std.proofs.Common.{rules, ◌≡◌, true}
 use Rattle.ts_exec.specs.Borrowed.{borrowed}
 use Rattle.ts_exec.specs.SeriesTests.{holds_empty}
 use Rattle.ts_exec.proofs.Tested.{refused_more}
-use Rattle.ts_exec.proofs.tag_tests.add.Goals as goal
+use Rattle.ts_exec.proofs.tag_conditions.add.Goals as goal
 
 pub returns : goal.returns
 returns g c s set =

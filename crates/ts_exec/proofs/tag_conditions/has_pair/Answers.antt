@@ -2,7 +2,7 @@ use Rattle.std.proofs.Common.{rules, ◌∙◌, Bor}
 use Rattle.std.proofs.lemmas.Fn.{always_returns_same}
 use Rattle.ts_core.specs.facts.Facts.{Text, tag_cmp}
 use Rattle.ts_exec.proofs.Tested.{search_is}
-use Rattle.ts_exec.proofs.tag_tests.has_pair.Goals as goal
+use Rattle.ts_exec.proofs.tag_conditions.has_pair.Goals as goal
 
 pub returns : goal.returns
 returns c =

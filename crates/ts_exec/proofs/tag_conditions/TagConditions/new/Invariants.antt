@@ -4,7 +4,7 @@ use Rattle.ts_core.specs.text.Texts.{borrowed_pairs}
 use Rattle.ts_exec.specs.Borrowed.{borrowed}
 use Rattle.ts_exec.specs.ReducedConditions.{meets_all}
 use Rattle.ts_exec.specs.SeriesTests.{AreDistinctTags, meets_tests}
-use Rattle.ts_exec.proofs.tag_tests.TagTests.new.Given as goal
+use Rattle.ts_exec.proofs.tag_conditions.TagConditions.new.Given as goal
 
 abbrev pub invariant-loop-condition : goal.invariant-loop-condition
 invariant-loop-condition g l =
