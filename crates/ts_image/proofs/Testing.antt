@@ -1,5 +1,5 @@
 -- Tests of each member of a list, as loops do them, and of each with the next.
-use Rattle.std.proofs.Common.{◌≡◌, ℕ, zero, suc, add-one, ◌+◌, ◌<◌, ◌≤◌, true, false, true≢false, List, [], ◌∷◌, ◌++◌, length, map, filter, Bool, cond, take, get_or, refl, sym, ap, ap₂, subst, ◌∙◌, arith, Bor}
+use Rattle.std.proofs.Common.{◌≡◌, ℕ, zero, suc, add-one, ◌+◌, ◌<◌, ◌≤◌, true, false, true≢false, List, [], ◌∷◌, ◌++◌, length, map, filter, Bool, cond, take, get_or, refl, sym, ap, subst, ◌∙◌, arith, Bor}
 use Rattle.std.specs.Ordering.{is_lt}
 use Rattle.std.specs.Prelude.{◌↔◌, Option, Some, None, is_some, IsTrue}
 use Rattle.std.specs.declared.cmp.Ordering.{Ordering}
