@@ -1,5 +1,5 @@
 -- The bytes of images, each below 256.
-use Rattle.std.proofs.Common.{◌≡◌, ℕ, zero, suc, ◌+◌, ◌<◌, ℤ, ◌≤◌, ◌%◌, ◌/◌, Bool, true, false, cond, ltb, List, [], ◌∷◌, ◌++◌, length, replicate, sym, subst, arith, refl, ⊎_elim}
+use Rattle.std.proofs.Common.{◌≡◌, ℕ, zero, suc, ◌+◌, ◌<◌, ℤ, ◌%◌, ◌/◌, Bool, true, false, cond, ltb, List, [], ◌∷◌, ◌++◌, length, replicate, sym, subst, arith, refl, ⊎_elim}
 use Rattle.std.specs.Int.{Width, byte_len, w8, w32, w64, w128, byte_at, bytes_high_first, to_be_bytes, cast_unsigned}
 use Rattle.std.specs.Str.{IsUtf8}
 use Rattle.std.proofs.Math.Nat.{mod-lt}

@@ -1,9 +1,11 @@
--- Tests of each member of a list, and of each with the next, as loops do them.
-use Rattle.std.proofs.Common.{◌≡◌, ℕ, zero, suc, add-one, ◌+◌, ◌<◌, ◌≤◌, ◌-◌, true, false, List, [], ◌∷◌, ◌++◌, length, map, filter, Bool, cond, take, get_or, refl, sym, ap, ap₂, subst, ◌∙◌, arith}
+-- Tests of each member of a list, as loops do them, and of each with the next.
+use Rattle.std.proofs.Common.{◌≡◌, ℕ, zero, suc, add-one, ◌+◌, ◌<◌, ◌≤◌, true, false, true≢false, List, [], ◌∷◌, ◌++◌, length, map, filter, Bool, cond, take, get_or, refl, sym, ap, subst, ◌∙◌, arith, Bor}
 use Rattle.std.specs.Ordering.{is_lt}
-use Rattle.std.specs.Prelude.{Option, Some, None, is_some}
+use Rattle.std.specs.Prelude.{◌↔◌, Option, Some, None, is_some, IsTrue}
 use Rattle.std.specs.declared.cmp.Ordering.{Ordering}
-use Rattle.std.specs.List.{AllByRecursion, sum_by}
+use Rattle.std.specs.Fn.{Mut, Called, ComputesOnPairs}
+use Rattle.std.specs.List.{AllByRecursion, IsAllAdjacentAnswer, sum_by}
+use Rattle.std.proofs.lemmas.List.Sorted.{answers_always}
 use Rattle.std.proofs.lemmas.List.Sums.{sum_by-cons, sum_by-take-le}
 use Rattle.std.proofs.lemmas.List.{take-map}
 use Rattle.std.proofs.lemmas.List.{take_all}
@@ -37,39 +39,34 @@ module _ {P X : Type 0} (Q : X → Type 0) (v : P → X) where
   all_next ps i p lt e h q = subst (λ (n : ℕ). AllByRecursion Q (map v (take n ps))) (sym (add-one i)) (all_more ps i p lt e h q)
 
 module _ {P X : Type 0} (cmp : X → X → Ordering) (v : P → X) where
-  pub rising_one : (ps : List P) → AreRising cmp (map v (take 1 ps))
-  rising_one [] = tt
-  rising_one (x ∷ xs) = tt
+  abbrev is_before : P → P → Bool
+  is_before x y = is_lt (cmp (v x) (v y))
 
-  pub rising_more : (ps : List P) (j : ℕ) (d : P) → suc j < length ps → AreRising cmp (map v (take (suc j) ps)) → is_lt (cmp (v (get_or ps j d)) (v (get_or ps (suc j) d))) ≡ true → AreRising cmp (map v (take (suc (suc j)) ps))
-  rising_more [] j d lt h q = absurd (omega arith)
-  rising_more (x ∷ []) j d lt h q = absurd (omega arith)
-  rising_more (x ∷ y ∷ zs) zero d lt h q = (q, tt)
-  rising_more (x ∷ y ∷ zs) (suc j) d lt h q = (h.0, rising_more (y ∷ zs) j d (omega arith) h.1 q)
+  -- the test of the items at k and n has this result
+  abbrev Tested : List P → ℕ → ℕ → Bool → P → Type 0
+  Tested ps k n b d = b ≡ is_before (get_or ps k d) (get_or ps n d)
 
-  pub rising_not : (ps : List P) (j : ℕ) (d : P) → suc j < length ps → (is_lt (cmp (v (get_or ps j d)) (v (get_or ps (suc j) d))) ≡ true → ⊥) → AreRising cmp (map v ps) → ⊥
-  rising_not [] j d lt never h = absurd (omega arith)
-  rising_not (x ∷ []) j d lt never h = absurd (omega arith)
-  rising_not (x ∷ y ∷ zs) zero d lt never h = never h.0
-  rising_not (x ∷ y ∷ zs) (suc j) d lt never h = rising_not (y ∷ zs) j d (omega arith) never h.1
+  rising_each : (ps : List P) → ((k : ℕ) (d : P) → suc k < length ps → Tested ps k (suc k) true d) → AreRising cmp (map v ps)
+  rising_each [] h = tt
+  rising_each (x ∷ []) h = tt
+  rising_each (x ∷ y ∷ zs) h = (sym (h 0 x (omega arith)), rising_each (y ∷ zs) (λ k d lt. h (suc k) d (omega (arith, lt))))
 
-  pub rising_done : (ps : List P) (i : ℕ) → length ps ≤ i → AreRising cmp (map v (take i ps)) → AreRising cmp (map v ps)
-  rising_done ps i le h = subst (λ (xs : List P). AreRising cmp (map v xs)) (take_all i ps le) h
+  never_rising : (ps : List P) (k : ℕ) → suc k < length ps → ((d : P) → Tested ps k (suc k) false d) → AreRising cmp (map v ps) → ⊥
+  never_rising [] k lt n h = absurd (omega arith)
+  never_rising (x ∷ []) k lt n h = absurd (omega arith)
+  never_rising (x ∷ y ∷ zs) zero lt n h = true≢false (sym (n x ∙ h.0))
+  never_rising (x ∷ y ∷ zs) (suc k) lt n h = never_rising (y ∷ zs) k (omega arith) n h.1
 
-  -- where the second of two neighbours is at i
-  pub rising_next : (ps : List P) (i : ℕ) (x y : P) → 0 < i → i < length ps → x ≡ get_or ps (i - 1) x → y ≡ get_or ps i y → AreRising cmp (map v (take i ps)) → is_lt (cmp (v x) (v y)) ≡ true → AreRising cmp (map v (take (i + 1) ps))
-  rising_next ps zero x y some lt e f h q = absurd (omega arith)
-  rising_next ps (suc j) x y some lt e f h q =
-      let e2 : x ≡ get_or ps j x = e ∙ ap (λ (n : ℕ). get_or ps n x) (let k : suc j - 1 ≡ j = omega arith in k) in
-      let f2 : y ≡ get_or ps (suc j) x = f ∙ same_member ps (suc j) y x lt in
-      subst (λ (n : ℕ). AreRising cmp (map v (take n ps))) (sym (add-one (suc j))) (rising_more ps j x lt h (ap₂ (λ (a b : P). is_lt (cmp (v a) (v b))) (sym e2) (sym f2) ∙ q))
+  rising_answer : (ps : List P) (r : Bool) → IsAllAdjacentAnswer (λ x y b. b ≡ is_before x y) ps r → IsTrue r ↔ AreRising cmp (map v ps)
+  rising_answer ps true h = (λ t. rising_each ps (λ k d lt. subst (λ (n : ℕ). Tested ps k n true d) (add-one k) (h k d (omega arith))), λ k. refl)
+  rising_answer ps false h = (λ t. absurd cc, λ k. absurd (never_rising ps h.0 (omega (arith, h.1)) (λ d. subst (λ (n : ℕ). Tested ps h.0 n false d) (add-one h.0) (h.2 d)) k))
 
-  pub never_rising : (ps : List P) (i : ℕ) (x y : P) → 0 < i → i < length ps → x ≡ get_or ps (i - 1) x → y ≡ get_or ps i y → (is_lt (cmp (v x) (v y)) ≡ true → ⊥) → AreRising cmp (map v ps) → ⊥
-  never_rising ps zero x y some lt e f n h = absurd (omega arith)
-  never_rising ps (suc j) x y some lt e f n h =
-      let e2 : x ≡ get_or ps j x = e ∙ ap (λ (n : ℕ). get_or ps n x) (let k : suc j - 1 ≡ j = omega arith in k) in
-      let f2 : y ≡ get_or ps (suc j) x = f ∙ same_member ps (suc j) y x lt in
-      rising_not ps j x lt (λ q. n (ap₂ (λ (a b : P). is_lt (cmp (v a) (v b))) e2 f2 ∙ q)) h
+  -- from the clause of `is_sorted_by`, if each call tests whether the first item is before the second
+  pub rising_sorted : {F : Type 0} {g : Mut F (Bor P × (Bor P × Unit {0})) Bool} {f : F} (ps : List P) {r : Bool}
+      → ((e : P → P → Bool) → ComputesOnPairs g e f → IsAllAdjacentAnswer (λ x y b. b ≡ e x y) ps r)
+      → ((q : F) (a : Bor P × (Bor P × Unit {0})) (b : Bool) (q' : F) → Called g q a b q' → b ≡ is_before a.0.now a.1.0.now)
+      → IsTrue r ↔ AreRising cmp (map v ps)
+  rising_sorted {f = f} ps h each = rising_answer ps _ (h is_before (answers_always _ _ f each))
 
 -- a list with one more member
 map_more : {P X Y : Type 0} (f : X → Y) (v : P → X) (ps : List P) (i : ℕ) (p : P) → i < length ps → p ≡ get_or ps i p → map f (map v (take (suc i) ps)) ≡ map f (map v (take i ps)) ++ f (v p) ∷ []

@@ -1,6 +1,5 @@
 //! Tests the cells of an image for contradictions. Does not allocate.
-ghost use Rattle.std.specs.Prelude.{◌≡◌, true, ◌↔◌, pos, ◌≤ℤ◌, map, IsTrue};
-ghost use Rattle.std.specs.Ordering.{is_lt};
+ghost use Rattle.std.specs.Prelude.{◌≡◌, ◌↔◌, pos, ◌≤ℤ◌, map, IsTrue};
 ghost use Rattle.std.specs.List.{AllByRecursion};
 ghost use Rattle.ts_core.specs.aggregates.Aggregates.{IsSpread};
 ghost use Rattle.ts_core.specs.store.Cells.{cell_cmp};
@@ -120,21 +119,10 @@ fn compare_cells<A: Allocator>(a: &CellKeyParts<A>, b: &CellKeyParts<A>) -> Orde
     }
 }
 
-fn is_cell_before<A: Allocator>(a: &CellParts<A>, b: &CellParts<A>) -> bool
-    ensures { IsTrue result ↔ (is_lt (cell_cmp (key_of_cell a.now) (key_of_cell b.now)) ≡ true) }
-{
-    compare_cells(&a.key, &b.key) == Ordering::Less
-}
-
 fn are_cells_rising<A: Allocator>(cells: &[CellParts<A>]) -> bool
     ensures { IsTrue result ↔ AreRising cell_cmp (map key_of_cell cells.now) }
 {
-    for i in 1..cells.len() {
-        if !is_cell_before(&cells[i - 1], &cells[i]) {
-            return false;
-        }
-    }
-    true
+    cells.is_sorted_by(|a, b| compare_cells(&a.key, &b.key).is_lt())
 }
 
 /// Returns true if the cells of a rule are possible.

@@ -12,13 +12,10 @@ use crate::field_reader::FieldReader;
 use crate::load_fault::LoadFault;
 use crate::rule_reading::{SettingsParts, read_settings};
 use crate::series_reading::{SeriesParts, read_counted_series, read_flag};
-use crate::version::Version;
+use crate::version::{MARK, Version};
 use std::alloc::Allocator;
 use std::io::Read;
 use ts_core::Source;
-
-/// The first four bytes of each image.
-const MARK: [u8; 4] = [84, 83, 73, 77];
 
 /// The first fields of an input.
 #[derive(Drop)]
@@ -56,7 +53,7 @@ fn read_head<R: Read, A: Allocator + Copy>(
         Err(FieldFault::Misshapen(_)) => return Ok(Head::None),
         Err(fault) => return Err(fault),
     }
-    if mark != MARK {
+    if mark != *MARK {
         return Ok(Head::None);
     }
     match reader.u8(source)? {

@@ -1,8 +1,9 @@
 //! Writes the image of a store.
-ghost use Rattle.std.specs.Prelude.{◌≡◌, [], OnOk};
+ghost use Rattle.std.specs.Prelude.{◌≡◌, [], ◌∷◌, ◌++◌, OnOk};
 ghost use Rattle.ts_core.specs.io.Devices.{IsPut};
+ghost use Rattle.ts_core.specs.io.OutputBuffering.{IsBuffered};
 ghost use Rattle.ts_image.specs.declared.version.Version.TheVariants.{V2};
-ghost use Rattle.ts_image.specs.Images.{image, image_text};
+ghost use Rattle.ts_image.specs.Images.{image, image_mark, version_byte, image_text};
 ghost use Rattle.ts_image.specs.FieldWriting.{PutsField};
 ghost use Rattle.ts_image.specs.Saving.{store_image, cell_counts, IsOrder, IsSaved};
 
@@ -11,6 +12,7 @@ use crate::field_writing::{put_u8, put_u64};
 use crate::save_fault::SaveFault;
 use crate::series_saving::put_counted_series;
 use crate::settings_writing::{put_marks, put_settings};
+use crate::version::MARK;
 use std::alloc::Allocator;
 use std::io::Write;
 use ts_core::{OutputBuffer, Refused, Sink};
@@ -18,6 +20,17 @@ use ts_store::{SavedSeries, Store, View};
 
 /// Size of the write buffer, in bytes.
 const BUFFER_SIZE: usize = 65_536;
+
+/// Writes the first bytes of an image of version 2.
+fn put_head<W: Write, A: Allocator>(
+    out: &mut OutputBuffer<A>,
+    sink: &mut Sink<W>,
+) -> Result<(), Refused>
+    ensures { IsBuffered sink.old out.old result (image_mark ++ version_byte V2 ∷ []) sink.new out.new }
+{
+    out.write_all(MARK, sink)?;
+    put_u8(2, out, sink)
+}
 
 /// Writes all data of a store. `counts` has the number of saved cells of each rule.
 fn put_data<W: Write, A: Allocator + Copy>(
@@ -55,7 +68,7 @@ fn put_image<W: Write, A: Allocator + Copy>(
     ensures sent { IsPut sink.old result (image_text V2 (store_image store.now all.now)) sink.new }
     ensures fits { OnOk result ((image V2).fits (store_image store.now all.now)) }
 {
-    out.write_all(b"TSIM\x02", sink)?;
+    put_head(out, sink)?;
     put_data(store, all, counts, out, sink)?;
     out.flush(sink)
 }

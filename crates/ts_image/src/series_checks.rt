@@ -1,6 +1,6 @@
 //! Tests series, columns and points of an image for contradictions. Does not allocate.
-ghost use Rattle.std.specs.Prelude.{◌≡◌, true, ◌↔◌, map, IsTrue};
-ghost use Rattle.std.specs.Ordering.{int_cmp, is_lt};
+ghost use Rattle.std.specs.Prelude.{◌≡◌, ◌↔◌, map, IsTrue};
+ghost use Rattle.std.specs.Ordering.{int_cmp};
 ghost use Rattle.std.specs.List.{AllByRecursion};
 ghost use Rattle.ts_core.specs.facts.Facts.{Series, text_cmp, series_cmp};
 ghost use Rattle.ts_core.specs.facts.Times.{IsTime};
@@ -40,21 +40,10 @@ fn are_tags<A: Allocator>(tags: &[(String<A>, String<A>)]) -> bool
     true
 }
 
-fn is_tag_before<A: Allocator>(a: &(String<A>, String<A>), b: &(String<A>, String<A>)) -> bool
-    ensures { IsTrue result ↔ (is_lt (text_cmp (key_of_tag a.now) (key_of_tag b.now)) ≡ true) }
-{
-    a.0.as_str() < b.0.as_str()
-}
-
 fn are_tags_rising<A: Allocator>(tags: &[(String<A>, String<A>)]) -> bool
     ensures { IsTrue result ↔ AreRising text_cmp (map key_of_tag tags.now) }
 {
-    for i in 1..tags.len() {
-        if !is_tag_before(&tags[i - 1], &tags[i]) {
-            return false;
-        }
-    }
-    true
+    tags.is_sorted_by(|a, b| a.0.as_str() < b.0.as_str())
 }
 
 fn is_key<A: Allocator>(key: &KeyParts<A>) -> bool
@@ -90,21 +79,10 @@ fn are_points(mark: &i64, waits: u8, points: &[(i64, i64)]) -> bool
     true
 }
 
-fn is_point_before(a: &(i64, i64), b: &(i64, i64)) -> bool
-    ensures { IsTrue result ↔ (is_lt (int_cmp (time_of_parts a.now) (time_of_parts b.now)) ≡ true) }
-{
-    a.0 < b.0
-}
-
 fn are_points_rising(points: &[(i64, i64)]) -> bool
     ensures { IsTrue result ↔ AreRising int_cmp (map time_of_parts points.now) }
 {
-    for i in 1..points.len() {
-        if !is_point_before(&points[i - 1], &points[i]) {
-            return false;
-        }
-    }
-    true
+    points.is_sorted_by(|a, b| a.0 < b.0)
 }
 
 fn is_column<A: Allocator>(mark: &i64, runs: u8, column: &ColumnParts<A>) -> bool
@@ -127,21 +105,10 @@ fn are_columns<A: Allocator>(mark: &i64, runs: u8, columns: &[ColumnParts<A>]) -
     true
 }
 
-fn is_column_before<A: Allocator>(a: &ColumnParts<A>, b: &ColumnParts<A>) -> bool
-    ensures { IsTrue result ↔ (is_lt (text_cmp (field_of a.now) (field_of b.now)) ≡ true) }
-{
-    a.field.as_str() < b.field.as_str()
-}
-
 fn are_columns_rising<A: Allocator>(columns: &[ColumnParts<A>]) -> bool
     ensures { IsTrue result ↔ AreRising text_cmp (map field_of columns.now) }
 {
-    for i in 1..columns.len() {
-        if !is_column_before(&columns[i - 1], &columns[i]) {
-            return false;
-        }
-    }
-    true
+    columns.is_sorted_by(|a, b| a.field.as_str() < b.field.as_str())
 }
 
 fn is_series<A: Allocator>(mark: &i64, runs: u8, series: &SeriesParts<A>) -> bool
@@ -174,20 +141,9 @@ fn compare_keys<A: Allocator>(a: &KeyParts<A>, b: &KeyParts<A>) -> Ordering
     }
 }
 
-fn is_series_before<A: Allocator>(a: &SeriesParts<A>, b: &SeriesParts<A>) -> bool
-    ensures { IsTrue result ↔ (is_lt (series_cmp (series_key_of a.now) (series_key_of b.now)) ≡ true) }
-{
-    compare_keys(&a.key, &b.key) == Ordering::Less
-}
-
 /// Returns true if series are in ascending order.
 pub(crate) fn are_series_rising<A: Allocator>(series: &[SeriesParts<A>]) -> bool
     ensures { IsTrue result ↔ AreRising series_cmp (map series_key_of series.now) }
 {
-    for i in 1..series.len() {
-        if !is_series_before(&series[i - 1], &series[i]) {
-            return false;
-        }
-    }
-    true
+    series.is_sorted_by(|a, b| compare_keys(&a.key, &b.key).is_lt())
 }

@@ -1,4 +1,7 @@
-//! Versions of images.
+//! Versions of images, and the first bytes of all images.
+
+/// The first four bytes of each image. The version's byte follows.
+pub(crate) const MARK: &[u8; 4] = b"TSIM";
 
 /// The version of an image.
 #[derive(Clone, Copy, Debug, Drop)]

@@ -1,4 +1,4 @@
-use Rattle.std.proofs.Common.{[], ◌++◌, ◌≡◌, ◌≤◌, ◌<◌, ◌+◌, length, String, string_bytes, string_len, string_capacity, Result, Ok, Err, IsOk, is_ok, cond, sym, ◌∙◌, append-nil, refl}
+use Rattle.std.proofs.Common.{[], ◌++◌, ◌≡◌, ◌≤◌, ◌+◌, length, String, string_bytes, string_len, string_capacity, Result, Ok, Err, IsOk, is_ok, cond, sym, ◌∙◌, append-nil, refl}
 use Rattle.ts_core.specs.facts.Facts.{Text}
 use Rattle.ts_core.specs.text.FaultTexts.{IsAppended, memory_text}
 use Rattle.ts_image.specs.ImageFaultTexts.{load_fault_text}
