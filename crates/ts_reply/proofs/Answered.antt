@@ -47,7 +47,7 @@ rows_shown k s fill plan table r shows e f a is opening h stands =
     ∙ ap₂ (λ (x : Select) (y : Fill). Rows x (filled y (functions_of x.columns) (answer_of (latest_of h) x.query))) e f
 
 -- a fact about a store's settings and marks is one about those of each history that it represents
-carried : (Says : Settings → Marks → Type 0) (k : StoreData) (settings : Settings) (marks : Marks) (opening : Settings) (h : History)
+pub carried : (Says : Settings → Marks → Type 0) (k : StoreData) (settings : Settings) (marks : Marks) (opening : Settings) (h : History)
     → ShowsEach k → StandsFor opening h (state_of k) → settings ≡ k.settings → marks ≡ k.marks → Says settings marks → Says (settings_of opening h) (marks_of opening h)
 carried Says k settings marks opening h shows stands st mt said =
     let shown = shows opening h stands in

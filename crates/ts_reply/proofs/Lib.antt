@@ -1,6 +1,8 @@
 -- Answering, Explaining: the outcome of a query
 pub mod Answered
 pub mod Each
+-- Counts: the number of matching facts
+pub mod CountLemmas
 -- Replies, AppendedData: texts part by part
 pub mod Appended
 pub mod Floats

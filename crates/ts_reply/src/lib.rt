@@ -1,9 +1,9 @@
-//! Answers InfluxQL texts in JSON. Depends on ts_ql, ts_check, ts_plan and ts_exec, which parse, check, plan and
-//! execute queries, on ts_core and ts_store, and on serde_json and jiff.
+//! Answers InfluxQL texts in JSON, and counts points. Depends on ts_ql, ts_check, ts_plan and ts_exec, which parse,
+//! check, plan and execute queries, on ts_core and ts_store, and on serde_json and jiff.
 //!
 //! Proved: a reply is, byte for byte, the JSON that specs/Replies defines. Over a store, it is that of all facts ever
 //! accepted (specs/Answering), by the queries' own plans or by a given certificate. Explanations show the plans that
-//! are followed (specs/Explaining).
+//! are followed (specs/Explaining). A count is of all facts ever accepted (specs/Counts).
 //!
 //! An example, over a store at time `now`. A certificate, if given, replaces the plan:
 //!
@@ -20,6 +20,7 @@
 
 mod answering;
 mod clock;
+mod counting;
 mod epoch;
 mod explaining;
 mod faults;
@@ -33,6 +34,7 @@ mod value;
 
 pub use answering::{QueryReply, answer};
 pub use clock::time_text;
+pub use counting::{CountError, count};
 pub use epoch::Epoch;
 pub use explaining::explain;
 pub use reply::{Outcome, reply_json};

@@ -13,9 +13,6 @@ pub mod CommandLemmas
 pub mod NumberLemmas
 -- Reply: lengths of messages
 pub mod ReplyLemmas
--- Counted: the output of a count
-pub mod CountLemmas
-pub mod CountAnswers
 -- ScriptLines, ReaderState, LineReading: cutting bytes into lines
 pub mod LineScan
 -- ScriptCertificates, MarksTexts: texts

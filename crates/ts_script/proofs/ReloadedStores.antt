@@ -15,7 +15,7 @@ use Rattle.ts_store.specs.store.SizedStores.{IsSized}
 use Rattle.ts_store.specs.store.Inventories.{Inventory, inventory_of}
 use Rattle.ts_store.specs.image.SavedContent.{SavedSeries, saved_key}
 use Rattle.ts_image.specs.declared.version.Version.TheVariants.{V2}
-use Rattle.ts_image.specs.Images.{ImageData, image}
+use Rattle.ts_image.specs.Images.{ImageData}
 use Rattle.ts_image.specs.Saving.{store_image, image_series_of}
 use Rattle.ts_image.specs.StoresMade.{key_in, IsStoreOf}
 use Rattle.ts_image.specs.FormatLaws.{AreBytes}

@@ -1,5 +1,5 @@
 -- Lengths of the messages of faults in replies.
-use Rattle.std.proofs.Common.{◌+◌, ◌<◌, ◌≤◌, length, length-append, arith}
+use Rattle.std.proofs.Common.{◌<◌, ◌≤◌, length, length-append, arith}
 use Rattle.std.specs.Fmt.{decimal}
 use Rattle.std.proofs.lemmas.Fmt.{length-decimal-le}
 use Rattle.ts_core.specs.text.FaultCodes.{code_number}

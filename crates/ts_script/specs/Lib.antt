@@ -11,7 +11,6 @@ pub mod RunFaults
 pub mod Script
 pub mod CommandParts
 -- used only by models and proofs of the code
-pub mod Counted
 pub mod Opening
 pub mod ReloadResults
 pub mod MachineState

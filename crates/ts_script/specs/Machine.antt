@@ -1,5 +1,5 @@
 -- The state machine of a script: the output of each line, and the new state. (Own rule.)
-use Rattle.std.specs.Prelude.{◌≡◌, ℕ, ℤ, pos, ◌-ℤ◌, ◌≤ℤ◌, ◌<ℤ◌, ◌+◌, ◌<◌, ◌≤◌, Bool, true, false, List, [], ◌∷◌, length, codes, Option, Some, None, Result, Ok, Err}
+use Rattle.std.specs.Prelude.{◌≡◌, ℕ, ℤ, pos, ◌≤ℤ◌, ◌<ℤ◌, ◌+◌, ◌<◌, ◌≤◌, Bool, true, false, List, [], ◌∷◌, length, codes, Option, Some, None, Result, Ok, Err}
 use Rattle.std.specs.Fmt.{decimal}
 use Rattle.std.specs.Str.{IsUtf8}
 use Rattle.ts_core.specs.facts.Facts.{Text, Series}
@@ -8,20 +8,14 @@ use Rattle.ts_core.specs.settings.SettingsFaults.{is_named, settings_fault_text,
 use Rattle.ts_core.specs.settings.SettingsTexts.{settings_read}
 use Rattle.ts_core.specs.declared.settings.settings_fault.SettingsFault.{SettingsFault}
 use Rattle.ts_core.specs.store.History.{History, settings_of, IsRunOpen}
-use Rattle.ts_core.specs.facts.Latest.{count_of}
 use Rattle.ts_core.specs.store.Marks.{marks_of}
-use Rattle.ts_core.specs.plans.Pieces.{Piece}
 use Rattle.ts_core.specs.declared.facts.time_unit.TimeUnit.{TimeUnit}
 use Rattle.ts_core.specs.declared.facts.time_unit.TimeUnit.TheVariants.{Nanoseconds}
 use Rattle.ts_core.specs.text.FaultTexts.{memory_text}
-use Rattle.ts_plan.specs.Planning.{IsPlanFor}
-use Rattle.ts_plan.specs.PlanTexts.{plan_fault_text}
-use Rattle.ts_plan.specs.declared.fault.PlanError.{PlanError}
-use Rattle.ts_plan.specs.declared.fault.PlanError.TheVariants as errors
-use Rattle.ts_plan.specs.declared.fault.PlanFault.{PlanFault}
-use Rattle.ts_ql.specs.Counting.{count_select, IsInterval}
 use Rattle.ts_reply.specs.Answering.{IsReply}
+use Rattle.ts_reply.specs.Counts.{IsCount}
 use Rattle.ts_reply.specs.Explaining.{IsExplanation}
+use Rattle.ts_reply.specs.declared.counting.CountError.{CountError}
 use Rattle.ts_reply.specs.declared.epoch.Epoch.{Epoch}
 use Rattle.ts_reply.specs.declared.epoch.Epoch.TheVariants as epochs
 use Rattle.ts_store.specs.write.LineTexts.{LineState as StoreState, opened as opened_store, with_series}
@@ -39,7 +33,7 @@ use Rattle.ts_script.specs.ScriptLines.{script_line_limit}
 use Rattle.ts_script.specs.ScriptCertificates.{with_line_feeds}
 use Rattle.ts_script.specs.Commands.{Command, SetSettings, At, SetPrecision, SetEpoch, Write, Live, Retain, BeginRun, StepRun, Reload, AddRule, DropRule, SetCertificate, Query, Explain, Count, CountFault, Unknown, is_skipped, command_of}
 use Rattle.ts_script.specs.MarksTexts.{rule_text, marks_text}
-use Rattle.ts_script.specs.ScriptReplies.{line, outcome_text, step_text, reloaded_text, dropped_text, unknown_text, bad_range_text}
+use Rattle.ts_script.specs.ScriptReplies.{line, outcome_text, step_text, reloaded_text, dropped_text, unknown_text, bad_range_text, count_text}
 
 pub record State : Type 0 where
   -- the script's time, in nanoseconds, the precision of its timestamps, and the format of times in replies
@@ -119,19 +113,9 @@ IsReload old series new = Reloaded old.store.history (rules_in (whole_state old)
 abbrev pub current_marks_text : State → Text
 current_marks_text s = marks_text (settings_of s.store.opening s.store.history) (marks_of s.store.opening s.store.history)
 
--- a planner's result for the counting query
-abbrev pub CountIsPlanned : Settings → History → Text → Text → ℤ → ℤ → Result (List Piece) PlanError → Type 0
-CountIsPlanned opening h measurement field a b answer =
-    IsInterval (b -ℤ a) × IsPlanFor (settings_of opening h) (marks_of opening h) (count_select measurement field a b).query answer
-
 -- After a history, a count over a non-empty range may print this text.
-pub data Counts (opening : Settings) (h : History) (measurement field : Text) (a b : ℤ) : Text → Type 0 where
-  -- the number of matching facts ever accepted, of each id the latest
-  counted : (plan : List Piece) → CountIsPlanned opening h measurement field a b (Ok plan) → Counts opening h measurement field a b (line (decimal (count_of h measurement field a b)))
-  has_no_plan : (fault : PlanFault) → CountIsPlanned opening h measurement field a b (Err (errors.Fault fault)) → Counts opening h measurement field a b (line (plan_fault_text fault))
-  is_too_long : (IsInterval (b -ℤ a) → ⊥) → Counts opening h measurement field a b (line bad_range_text)
-  -- planning and execution may run out of memory
-  counts_no_memory : IsInterval (b -ℤ a) → Counts opening h measurement field a b (line memory_text)
+abbrev pub Counts : Settings → History → Text → Text → ℤ → ℤ → Text → Type 0
+Counts opening h measurement field a b text = (result : Result ℕ CountError) × IsCount opening h measurement field a b result × (text ≡ count_text result)
 
 -- From `old`, a command may print this text and lead to that state.
 pub data Transition (old : State) : Command → Text → State → Type 0 where

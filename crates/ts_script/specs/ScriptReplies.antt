@@ -1,5 +1,5 @@
 -- The replies to commands, by their texts. (Own rule: a fault is reported by its number.)
-use Rattle.std.specs.Prelude.{[], ◌∷◌, ◌++◌, codes, string_bytes, Result, Ok, Err}
+use Rattle.std.specs.Prelude.{ℕ, [], ◌∷◌, ◌++◌, codes, string_bytes, Result, Ok, Err}
 use Rattle.std.specs.Fmt.{decimal}
 use Rattle.ts_core.specs.facts.Facts.{Text}
 use Rattle.ts_core.specs.text.FaultTexts.{fault_text, memory_text}
@@ -7,6 +7,8 @@ use Rattle.ts_core.specs.settings.SettingsFaults.{unknown_rule_text}
 use Rattle.ts_core.specs.declared.text.fault_code.FaultCode.TheVariants as code
 use Rattle.ts_core.specs.declared.text.fault_text.FaultDetail.TheVariants as detail
 use Rattle.ts_plan.specs.PlanTexts.{plan_fault_text}
+use Rattle.ts_reply.specs.declared.counting.CountError.{CountError}
+use Rattle.ts_reply.specs.declared.counting.CountError.TheVariants as errors
 use Rattle.ts_store.specs.write.LineTexts.{line_refusal_text}
 use Rattle.ts_store.specs.write.StoreFaultTexts.{run_in_progress_text}
 use Rattle.ts_store.specs.declared.store.retention.StepAnswer.{StepAnswer}
@@ -43,6 +45,13 @@ written_text (Err e) = line memory_text
 abbrev pub step_text : StepAnswer → Text
 step_text Moved = line (codes "moved")
 step_text Done = line (codes "done")
+
+-- the number of a count's points, or why there is none
+abbrev pub count_text : Result ℕ CountError → Text
+count_text (Ok n) = line (decimal n)
+count_text (Err errors.BadRange) = line bad_range_text
+count_text (Err (errors.NoPlan fault)) = line (plan_fault_text fault)
+count_text (Err errors.OutOfMemory) = line memory_text
 
 -- the store was saved and loaded back
 abbrev pub reloaded_text : Text

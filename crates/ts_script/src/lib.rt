@@ -1,7 +1,7 @@
 //! Answers scripts: a line is a command, and its reply goes to the output. Depends on ts_core, and on ts_line, ts_store
-//! and ts_reply, which parse lines, store points and answer queries. Depends on ts_image, which saves and loads a
-//! store, and on ts_ql, ts_check, ts_plan and ts_exec for counts. Proved: the output is the answers that specs/Script
-//! defines; after a device error, a prefix of them.
+//! and ts_reply, which parse lines, store points, and answer queries and counts. Depends on ts_image, which saves and
+//! loads a store, and on ts_plan for its faults. Proved: the output is the answers that specs/Script defines; after a
+//! device error, a prefix of them.
 //!
 //! ```text
 //! let mut source = Source::new(rt.reader());
