@@ -178,9 +178,10 @@ fn parsed<A: Allocator + Copy>(alloc: A) -> Option<Query<A>> {
     }
 }
 
-/// Tries to parse the query and the certificate. The first allocation for the query's group tags is absorbed.
+/// Tries to parse the query and the certificate. The first allocation for the query's group tags is absorbed, and so is
+/// that for the names of its columns.
 fn flaw_of_parse(trial: &Trial<'_>) -> Option<Flaw> {
-    match trial.flaw_of(&Parse, &UNCHANGED, 1) {
+    match trial.flaw_of(&Parse, &UNCHANGED, 2) {
         Some(flaw) => Some(flaw),
         None => trial.flaw_of(&ReadCertificate { json: trial.json }, &UNCHANGED, 0),
     }
@@ -264,9 +265,9 @@ fn answers_need_their_memory(rt: HostRuntime) {
             json,
             is_open,
         };
-        // the first allocation for the group tags of a query
+        // the first allocation for the group tags of one query, and that for the names of columns of each
         assert_eq!(rt;
-            trial.flaw_of(&AnsweredQueries { json }, &UNCHANGED, 1),
+            trial.flaw_of(&AnsweredQueries { json }, &UNCHANGED, 4),
             None
         );
     }

@@ -67,12 +67,12 @@ const REQUESTS: [(&[u8], &[u8], Shown<'static>, u32); 3] = [
         },
         1,
     ),
-    // a query; the first allocation for a parameter with escapes is absorbed
+    // a query; the first allocation for a parameter with escapes is absorbed, and that for the names of columns
     (
         b"GET /query?epoch=s&q=SELECT+SUM(v)+FROM+cpu+WHERE+time+%3E%3D+60s+AND+time+%3C+120s+GROUP+BY+time(1m) HTTP/1.1\r\n\r\n",
         b"HTTP/1.1 200 OK\r\nContent-Type: application/json\r\nContent-Length: 102\r\nConnection: close\r\n\r\n{\"results\":[{\"series\":[{\"columns\":[\"time\",\"sum\"],\"name\":\"cpu\",\"values\":[[60,30]]}],\"statement_id\":0}]}",
         UNCHANGED,
-        1,
+        2,
     ),
     // a rule
     (
