@@ -124,17 +124,11 @@ impl<A: Allocator + Copy> RollupSeriesTable<A> {
         ensures found { IfSome result (λ n. IsAt self.now n (rollup_series_named field.now group.now)) }
         ensures absent { IfNone result (Among (rollup_series_named field.now group.now) self.now → ⊥) }
     {
-        let mut next = self
-            .chains
-            .newest(hash_rollup_series(&self.seed, field, group));
-        while let Some(at) = next {
-            let series = &self.rollup_series[at as usize];
-            if series.matches(field, group) {
-                return Some(at);
-            }
-            next = self.chains.older(at);
-        }
-        None
+        let hash = hash_rollup_series(&self.seed, field, group);
+        self.chains.find(
+            hash,
+            |at| self.rollup_series[at as usize].matches(field, group),
+        )
     }
 
     /// Returns the index of the rollup series of a field and a group, creating the rollup series if needed. Doesn't

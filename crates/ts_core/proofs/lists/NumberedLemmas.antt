@@ -32,12 +32,6 @@ module _ {X : Type 0} where
       AllDistinct-append xs (x ∷ []) d (λ k. absurd k, tt)
       (λ z a b. ⊎_elim {C = ⊥} (λ e. other (subst (λ y. Among y xs) e a)) (λ k. absurd k) b)
 
--- the number that goes with a member
-pub at_map : {X : Type 0} (f : X → ℕ) (xs : List X) (n : ℕ) (x : X) → IsAt xs n x → get_or (map f xs) n 0 ≡ f x
-at_map f [] n x h = absurd (cc)
-at_map f (y ∷ ys) zero x h = ap f (same_Some y x h)
-at_map f (y ∷ ys) (suc n) x h = at_map f ys n x h
-
 -- ---- the numbers of those that pass
 
 module _ {X : Type 0} (p : X → Bool) where

@@ -1,6 +1,7 @@
 //! Hash chains over list indices, newest entry first.
-ghost use Rattle.std.specs.Prelude.{◌≡◌, ◌<◌, ◌++◌, [], ◌∷◌, length, slice_index, OnOk, OnErr};
+ghost use Rattle.std.specs.Prelude.{◌≡◌, ℕ, ◌<◌, ◌++◌, [], ◌∷◌, length, slice_index, true, false, IfSome, IfNone, OnOk, OnErr};
 ghost use Rattle.ts_core.specs.lists.LastBelow.{newest_of};
+ghost use Rattle.ts_core.specs.lists.Numbered.{IsAt};
 
 use crate::lists::{next_id, reserve_eighth};
 use std::alloc::{AllocError, Allocator};
@@ -16,15 +17,10 @@ pub(crate) struct Link {
 }
 
 /// Hash chains: half of a hash table that maps names to indices. The other half is the list of the names, in the same
-/// order. `newest`, and then `older` repeatedly, visit the indices of a hash, newest first. The model is the list of
-/// the hashes.
+/// order. The model is the list of the hashes.
 ///
 /// ```text
-/// let mut next = chains.newest(hash);
-/// while let Some(at) = next {
-///     if names[at as usize] == name { return Some(at); }
-///     next = chains.older(at);
-/// }
+/// chains.find(hash, |at| names[at as usize] == name)
 /// ```
 #[derive(Drop)]
 pub struct Chains<A: Allocator> {
@@ -56,18 +52,35 @@ impl<A: Allocator + Copy> Chains<A> {
     }
 
     /// Returns the newest index with this hash.
-    pub fn newest(&self, hash: u64) -> Option<u32>
+    fn newest(&self, hash: u64) -> Option<u32>
         ensures { result ≡ newest_of self.now hash (length self.now) }
     {
         self.newest.get(&hash).copied()
     }
 
     /// Returns the next older index with the same hash as index `at`.
-    pub fn older(&self, at: u32) -> Option<u32>
+    fn older(&self, at: u32) -> Option<u32>
         requires { at < length self.now }
         ensures { result ≡ newest_of self.now (slice_index self.now at) at }
     {
         self.links[at as usize].older
+    }
+
+    /// Returns the newest index with this hash that passes a test.
+    pub fn find<F: Fn(u32) -> bool>(&self, hash: u64, is: F) -> Option<u32>
+        requires { (at : ℕ) → IsAt self.now at hash → F.pre is at }
+        ensures found { IfSome result (λ at. IsAt self.now at hash × F.post is at true) }
+        ensures newest { IfSome result (λ at. (n : ℕ) → at < n → IsAt self.now n hash → F.post is n false) }
+        ensures absent { IfNone result ((at : ℕ) → IsAt self.now at hash → F.post is at false) }
+    {
+        let mut next = self.newest(hash);
+        while let Some(at) = next {
+            if is(at) {
+                return Some(at);
+            }
+            next = self.older(at);
+        }
+        None
     }
 
     /// Appends an entry for a hash. On allocation failure, changes nothing.

@@ -104,17 +104,11 @@ impl<A: Allocator + Copy> FieldTable<A> {
         ensures found { IfSome result (λ n. IsAt self.now n (field_key measurement.now field.now)) }
         ensures absent { IfNone result (Among (field_key measurement.now field.now) self.now → ⊥) }
     {
-        let mut next = self
-            .chains
-            .newest(hash_field(&self.seed, measurement, field));
-        while let Some(at) = next {
-            let key = &self.keys[at as usize];
-            if key.matches(measurement, field) {
-                return Some(at);
-            }
-            next = self.chains.older(at);
-        }
-        None
+        let hash = hash_field(&self.seed, measurement, field);
+        self.chains.find(
+            hash,
+            |at| self.keys[at as usize].matches(measurement, field),
+        )
     }
 
     /// Returns the index of a field of a measurement, creating the field if needed.

@@ -1,5 +1,5 @@
 //! Hash table of series, by their keys.
-ghost use Rattle.std.specs.Prelude.{◌≡◌, ◌≤◌, ◌<◌, ◌↔◌, [], length, IfSome, IfNone, IfOk, Err};
+ghost use Rattle.std.specs.Prelude.{◌≡◌, ◌≤◌, ◌<◌, ◌↔◌, [], length, IfSome, IfNone, IfOk, IsTrue, Err};
 ghost use Rattle.ts_core.specs.lists.Members.{Among, AllDistinct};
 ghost use Rattle.ts_raw.specs.Registering.{IsRegistered};
 ghost use Rattle.ts_raw.specs.TagChains.{AreAmongTagged, IsHashed};
@@ -40,6 +40,13 @@ impl<A: Allocator> Model for SeriesTable<A> {
     ghost invariant = { λ t. IsSeriesTable t.seed t.keys.items t.chains t.tags };
 }
 
+/// Returns true if a series has this key.
+fn has_key<A: Allocator + Copy>(series: &Key<A>, key: &KeyRef<'_>) -> bool
+    ensures { IsTrue result ↔ (series.now ≡ key.now) }
+{
+    series.compare(key) == Ordering::Equal
+}
+
 /// Looks up the series of a key by its hash.
 fn lookup_by_hash<A: Allocator + Copy>(
     keys: &[Key<A>],
@@ -51,15 +58,8 @@ fn lookup_by_hash<A: Allocator + Copy>(
     ensures found { IfSome result (λ id. IsAt keys.now id key.now) }
     ensures absent { IfNone result (Among key.now keys.now → ⊥) }
 {
-    let mut next = chains.newest(hash);
-    while let Some(at) = next {
-        let other = &keys[at as usize];
-        if other.compare(key) == Ordering::Equal {
-            return Some(SeriesId { number: at });
-        }
-        next = chains.older(at);
-    }
-    None
+    let number = chains.find(hash, |at| has_key(&keys[at as usize], key))?;
+    Some(SeriesId { number })
 }
 
 impl<A: Allocator + Copy> SeriesTable<A> {
@@ -120,7 +120,7 @@ impl<A: Allocator + Copy> SeriesTable<A> {
     {
         let number = *self.followers.get(self.last as usize)?;
         let other = self.keys.get(number as usize)?;
-        if other.compare(key) == Ordering::Equal {
+        if has_key(other, key) {
             Some(SeriesId { number })
         } else {
             None
