@@ -102,7 +102,7 @@ refused_then now bytes Quiet route old new o r oe ne asks =
 some_reply : (to_head : Bool) (o : RequestOutcome) → (allow : Text) × (content : Option Text) × ((reply_of to_head o).1 ≡ reply_text (reply_of to_head o).0 allow content)
 some_reply to_head (outcomes.Refused r) = (refusal_allow r, unless_head to_head (error_json (refusal_message r)), refl)
 some_reply to_head outcomes.Done = ([], None, refl)
-some_reply to_head (outcomes.Brief s note) = ([], Some note.bytes, refl)
+some_reply to_head (outcomes.Brief s body) = ([], Some body.bytes, refl)
 some_reply to_head (outcomes.Answered s body) = ([], Some (string_bytes body), refl)
 
 acted_then : (now : ℤ) (bytes : Text) (Quiet : Type 0) (route : Route) (method : Method) (query body : Text) (old new : StoreData) (o : RequestOutcome) → Asks bytes (Wants route method query body) → Quiet → ActsAs now route method query body old o new → Told now bytes Quiet false route old new o

@@ -18,7 +18,7 @@ use Rattle.ts_http.specs.declared.status.Status.TheVariants as status
 abbrev pub reply_of : Bool → RequestOutcome → Replied
 reply_of to_head (Refused r) = (refusal_status r, refusal_reply to_head r)
 reply_of to_head Done = done_reply
-reply_of to_head (Brief s note) = (s, reply_text s [] (Some note.bytes))
+reply_of to_head (Brief s body) = (s, reply_text s [] (Some body.bytes))
 reply_of to_head (Answered s body) = (s, reply_text s [] (Some (string_bytes body)))
 
 -- the value, or out of memory, or this refusal if there is none

@@ -11,7 +11,7 @@ use crate::fields::{is_short_number, number_of};
 use crate::outcome::RequestOutcome;
 use crate::parameters::first_named;
 use crate::refusal::Refusal;
-use crate::reply::Note;
+use crate::reply::ShortBody;
 use crate::status::Status;
 use itoa::Buffer;
 use std::alloc::Allocator;
@@ -84,18 +84,18 @@ fn run_steps<A: Allocator + Copy>(store: &mut Store<A>, limit: usize) -> Progres
 }
 
 /// Returns JSON with the number of steps taken, true if the run ended, and the raw mark.
-fn progress_note(progress: Progress, raw: Time) -> Note
+fn progress_body(progress: Progress, raw: Time) -> ShortBody
     ensures { result.bytes ≡ progress_text progress.done raw progress.taken }
 {
-    let mut note = Note::new();
-    note.push_str("{\"done\":");
-    note.push_str(if progress.done { "true" } else { "false" });
-    note.push_str(",\"raw\":");
-    note.push_str(Buffer::new().format(raw.nanos()));
-    note.push_str(",\"steps\":");
-    note.push_str(Buffer::new().format(progress.taken));
-    note.push_str("}");
-    note
+    let mut body = ShortBody::new();
+    body.push_str("{\"done\":");
+    body.push_str(if progress.done { "true" } else { "false" });
+    body.push_str(",\"raw\":");
+    body.push_str(Buffer::new().format(raw.nanos()));
+    body.push_str(",\"steps\":");
+    body.push_str(Buffer::new().format(progress.taken));
+    body.push_str("}");
+    body
 }
 
 /// Takes the steps of a request. Does not allocate once the number of steps is known.
@@ -115,6 +115,6 @@ pub(crate) fn maintain<A: Allocator + Copy>(
     let progress = run_steps(store, limit);
     RequestOutcome::Brief(
         Status::Success,
-        progress_note(progress, store.marks().raw()),
+        progress_body(progress, store.marks().raw()),
     )
 }

@@ -8,7 +8,7 @@ ghost use Rattle.ts_http.specs.OutcomeReplies.{AddsAs, DropsAs, DropsNamed, repl
 use crate::outcome::RequestOutcome;
 use crate::parameters::first_named;
 use crate::refusal::Refusal;
-use crate::reply::{Note, fault_note};
+use crate::reply::{ShortBody, fault_body};
 use crate::status::Status;
 use itoa::Buffer;
 use std::alloc::{AllocError, Allocator, Global};
@@ -17,28 +17,28 @@ use ts_core::{FaultCode, SettingsError, SettingsFault};
 use ts_store::{AddedRule, Store, View};
 
 /// Returns JSON with the low index and the name of a rule that was added.
-fn added_note(added: &AddedRule) -> Note
+fn added_body(added: &AddedRule) -> ShortBody
     ensures { result.bytes ≡ added_text added.now.name.bytes added.now.low }
 {
-    let mut note = Note::new();
-    note.push_str("{\"low\":");
-    note.push_str(Buffer::new().format(added.low));
-    note.push_str(",\"name\":\"");
-    note.push_str(added.name.as_str());
-    note.push_str("\"}");
-    note
+    let mut body = ShortBody::new();
+    body.push_str("{\"low\":");
+    body.push_str(Buffer::new().format(added.low));
+    body.push_str(",\"name\":\"");
+    body.push_str(added.name.as_str());
+    body.push_str("\"}");
+    body
 }
 
 /// Returns JSON with the name of a rule that was dropped.
-fn dropped_note(name: &str) -> Note
+fn dropped_body(name: &str) -> ShortBody
     requires { length name.now ≤ 32 }
     ensures { result.bytes ≡ dropped_body name.now }
 {
-    let mut note = Note::new();
-    note.push_str("{\"dropped\":\"");
-    note.push_str(name);
-    note.push_str("\"}");
-    note
+    let mut body = ShortBody::new();
+    body.push_str("{\"dropped\":\"");
+    body.push_str(name);
+    body.push_str("\"}");
+    body
 }
 
 /// Returns JSON with the fault of a rule.
@@ -72,7 +72,7 @@ fn add_text<A: Allocator + Copy>(
     ensures { AddsAs text.now store.old result store.new }
 {
     match store.add_rule_text(alloc, json, text) {
-        Ok(added) => RequestOutcome::Brief(Status::Success, added_note(&added)),
+        Ok(added) => RequestOutcome::Brief(Status::Success, added_body(&added)),
         Err(SettingsError::Fault(fault)) => refused(json, fault),
         Err(SettingsError::OutOfMemory) => RequestOutcome::Refused(Refusal::OutOfMemory),
     }
@@ -100,8 +100,8 @@ fn drop_named<A: Allocator + Copy>(store: &mut Store<A>, name: &str) -> RequestO
     // for the proof: settings have no fault, so their names have at most 32 bytes
     let _ = store.settings().rules();
     match store.drop_rule(name) {
-        Ok(()) => RequestOutcome::Brief(Status::Success, dropped_note(name)),
-        Err(_) => RequestOutcome::Brief(Status::BadRequest, fault_note(FaultCode::UnknownRule)),
+        Ok(()) => RequestOutcome::Brief(Status::Success, dropped_body(name)),
+        Err(_) => RequestOutcome::Brief(Status::BadRequest, fault_body(FaultCode::UnknownRule)),
     }
 }
 

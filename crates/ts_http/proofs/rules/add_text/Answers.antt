@@ -9,7 +9,7 @@ use Rattle.ts_http.proofs.RuleLemmas.{add_no_memory, add_refused, was_added}
 use Rattle.ts_http.proofs.rules.add_text.Goals as goal
 
 pub returns-in-Ok : goal.returns-in-Ok
-returns-in-Ok g c = was_added c.args.text.now c.args.store.now c.utf8.text c.add_rule_text.new.self c.in-Ok.added (Brief Success c.added_note.result) c.in-Ok.ensures (ap (λ (t : Text). answer_reply true t) c.added_note.ensures)
+returns-in-Ok g c = was_added c.args.text.now c.args.store.now c.utf8.text c.add_rule_text.new.self c.in-Ok.added (Brief Success c.added_body.result) c.in-Ok.ensures (ap (λ (t : Text). answer_reply true t) c.added_body.ensures)
 
 pub returns-in-Err-Fault : goal.returns-in-Err-Fault
 returns-in-Err-Fault g c =

@@ -10,15 +10,15 @@ use Rattle.ts_store.proofs.rules.RuleStates.{was_named}
 use Rattle.ts_http.proofs.RuleLemmas.{drop_refused, was_dropped}
 use Rattle.ts_http.proofs.rules.drop_named.Goals as goal
 
-pub dropped_note-requires : goal.dropped_note-requires
-dropped_note-requires g c =
+pub dropped_body-requires : goal.dropped_body-requires
+dropped_body-requires g c =
     let named = was_named (is_named c.args.store.now.settings.rules c.args.name.now) c.in-Ok.ensures.unknown in
     named_short c.args.store.now.settings c.args.name.now (subst (λ (z : Settings). settings_fault z ≡ None) c.settings.ensures.value c.rules.ensures.faultless) named
 
 pub returns-in-Ok : goal.returns-in-Ok
 returns-in-Ok g c =
     let named = was_named (is_named c.args.store.now.settings.rules c.args.name.now) c.in-Ok.ensures.unknown in
-    was_dropped c.args.name.now c.args.store.now c.drop_rule.new.self (Brief Success c.dropped_note.result) named c.in-Ok.ensures.ok (ap (λ (t : Text). answer_reply true t) c.dropped_note.ensures)
+    was_dropped c.args.name.now c.args.store.now c.drop_rule.new.self (Brief Success c.dropped_body.result) named c.in-Ok.ensures.ok (ap (λ (t : Text). answer_reply true t) c.dropped_body.ensures)
 
 pub returns-in-Err : goal.returns-in-Err
-returns-in-Err g c = drop_refused c.args.name.now c.args.store.now c.drop_rule.new.self (Brief BadRequest c.fault_note.result) (c.in-Err.ensures.unknown.0 refl) c.in-Err.ensures.err (ap (λ (t : Text). bad_reply t) c.fault_note.ensures)
+returns-in-Err g c = drop_refused c.args.name.now c.args.store.now c.drop_rule.new.self (Brief BadRequest c.fault_body.result) (c.in-Err.ensures.unknown.0 refl) c.in-Err.ensures.err (ap (λ (t : Text). bad_reply t) c.fault_body.ensures)

@@ -4,5 +4,5 @@ use Rattle.ts_http.proofs.refusal.Refusal.reply.Goals as goal
 
 pub returns : goal.returns
 returns c =
-    let note : c.deref.result.now ≡ error_json (refusal_message c.args.self) = c.deref.ensures.0 ∙ c.error_note.ensures.bytes ∙ ap error_json c.message.ensures.value in
-    rw c.if-to_head.false (c.letter.ensures ∙ (λ i. reply_text (c.status-2.ensures i) (c.allow-2.ensures.value i) (Some (note i))))
+    let body : c.deref.result.now ≡ error_json (refusal_message c.args.self) = c.deref.ensures.0 ∙ c.error_body.ensures.bytes ∙ ap error_json c.message.ensures.value in
+    rw c.if-to_head.false (c.short_reply.ensures ∙ (λ i. reply_text (c.status-2.ensures i) (c.allow-2.ensures.value i) (Some (body i))))
