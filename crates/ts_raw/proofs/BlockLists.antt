@@ -11,8 +11,9 @@ use Rattle.ts_block.proofs.DecodingLemmas.{values_inside}
 use Rattle.ts_raw.specs.declared.block_handle.BlockHandle.{BlockHandle}
 use Rattle.ts_raw.specs.Columns.{AreTimed}
 use Rattle.ts_raw.specs.PlainColumns.{IsRising}
-use Rattle.ts_raw.specs.CodedPoints.{block_text_at, block_points_at, coded_points, blocks_at, all_joined, IsBlockHandle, AreBlocks, AreOrdered, AreCountedBlocks, AllEndBefore, OthersEndBy}
-use Rattle.ts_raw.proofs.PushLemmas.{mark_kept, mark_moved, all_within, others_from, one_more, parted_last, blocks_before, blocks_push, new_mark}
+use Rattle.ts_raw.specs.CodedPoints.{block_text_at, block_points_at, coded_points, blocks_at, all_joined, IsBlockHandle, AreBlocks, AreOrdered, AreCountedBlocks, AllEndBefore, AreApart}
+use Rattle.ts_raw.proofs.ApartLemmas.{apart_before, apart_push}
+use Rattle.ts_raw.proofs.PushLemmas.{mark_kept, mark_moved, all_within, one_more, parted_last, blocks_before, blocks_push, new_mark}
 use Rattle.ts_raw.specs.Rewriting.{IsEncoded}
 
 -- ---- all points are those of the blocks
@@ -117,8 +118,8 @@ module _ (old new : List ℕ) (ms : List BlockHandle) (m n : BlockHandle) (h : A
   pub moved_blocks : blocks_at new (ms ++ n ∷ []) ≡ blocks_at old (ms ++ m ∷ [])
   moved_blocks = blocks_push new ms n ∙ (λ i. stay.1 i ++ (moved.1 i ∷ [])) ∙ sym (blocks_push old ms m)
 
-  pub moved_others : OthersEndBy (length old) (ms ++ n ∷ [])
-  moved_others = others_from (length old) ms n (all_within old ms old_parts.0)
+  pub moved_apart : AreApart (ms ++ m ∷ []) → AreApart (ms ++ n ∷ [])
+  moved_apart h = apart_push (length old) ms n (apart_before ms (m ∷ []) h) (all_within old ms old_parts.0) (omega arith)
 
 pub mark_at : (bytes : List ℕ) (ms : List BlockHandle) (i : ℕ) (d : BlockHandle) → AreBlocks bytes ms → i < length ms → IsBlockHandle bytes (get_or ms i d)
 mark_at bytes [] i d h l = absurd (omega arith)
@@ -148,7 +149,7 @@ copied_more src old new all ms i n d h l marked blocks is s e v k last summary =
 -- ---- a block of points at the end
 
 pub block_at_end : (old block new : List ℕ) (ps : List (ℤ × ℤ)) (m : BlockHandle) → IsBlockOf block ps → new ≡ old ++ block → m.start ≡ length old → m.end ≡ length new → m.values ≡ values_start ps → m.count ≡ length ps → m.last ≡ last_time ps → m.summary ≡ aggregate_of_points ps
-    → IsEncoded new m ps
+    → IsEncoded (length old) new m ps
 block_at_end old block new ps m b is s e v k l a =
     let rest : drop m.start new ≡ block = (λ i. drop (s i) (is i)) ∙ drop-append_seam old block in
     let some : 0 < length block = let w = values_inside block ps b (values_start ps) refl in let n = nine ps b.points_are in omega arith in
@@ -159,7 +160,7 @@ block_at_end old block new ps m b is s e v k l a =
       last_is = l;
     } in
     let both = new_mark new m ps ends e k a in
-    record { handle = both.0; points_are = both.1 }
+    record { starts = omega arith; handle = both.0; points_are = both.1 }
   where
     nine : (ps : List (ℤ × ℤ)) → ArePoints ps → 0 < values_start ps
     nine [] h = absurd h

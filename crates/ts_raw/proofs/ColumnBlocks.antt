@@ -22,14 +22,15 @@ use Rattle.ts_raw.specs.declared.block_handle.BlockHandle.{BlockHandle}
 use Rattle.ts_raw.specs.declared.rewriting.Rewritten.{Rewritten}
 use Rattle.ts_raw.specs.Columns.{AreTimed}
 use Rattle.ts_raw.specs.PlainColumns.{IsRising, IsStartOf}
-use Rattle.ts_raw.specs.CodedPoints.{block_text_at, block_points_at, coded_points, blocks_at, IsBlockHandle, AreBlocks, AreOrdered, IsCoded, AreCountedBlocks, count_in_blocks, before_first, AllEndBefore, OthersEndBy, IsLastBefore, CutFits}
+use Rattle.ts_raw.specs.CodedPoints.{block_text_at, block_points_at, coded_points, blocks_at, IsBlockHandle, AreBlocks, AreOrdered, IsCoded, AreCountedBlocks, count_in_blocks, before_first, AllEndBefore, AreApart, LieFrom, IsLastBefore, CutFits}
 use Rattle.ts_raw.specs.Rewriting.{IsRewritten, blocks_of, handles_replaced, cut_in_block, cut_after}
 use Rattle.ts_raw.specs.BlockColumns.{AreBlocksOf, texts_at, IsColumn}
 use Rattle.ts_raw.proofs.CodedLemmas.{points_hold}
 use Rattle.ts_raw.proofs.CutLemmas.{first_parts, first_bound, start_behind, is_rising_behind, timed_behind}
 use Rattle.ts_raw.proofs.PointMaps.{rising-put, timed-put, from_sorted-put}
 use Rattle.ts_raw.proofs.PointRanges.{drop-before}
-use Rattle.ts_raw.proofs.PushLemmas.{none_counted, coded_less, all_within, others_by}
+use Rattle.ts_raw.proofs.PushLemmas.{none_counted, coded_less, all_within}
+use Rattle.ts_raw.proofs.ApartLemmas.{apart_behind, apart_replaced}
 use Rattle.ts_raw.proofs.BlockLists.{mark_at, mark_stays, take_next}
 use Rattle.ts_block.proofs.SplicingLemmas.{put_after}
 use Rattle.ts_raw.proofs.RewriteLemmas.{counts_are, count_front, coded_join, rising_first, put_within, last_after_drop, length_put}
@@ -46,10 +47,10 @@ pub cut_few : (bytes : List ℕ) (ms : List BlockHandle) (cut : ℕ) → AreBloc
 cut_few bytes [] cut marked h = omega arith
 cut_few bytes (m ∷ ms) cut marked h = let a = (few_points (block_points_at bytes m) marked.0.block.points_are).0 in omega arith
 
-pub no_points : (bytes : List ℕ) (ms : List BlockHandle) (capacity handles_capacity : ℕ) → bytes ≡ [] → ms ≡ [] → IsColumn bytes ms 0 0 0 capacity handles_capacity None None
-no_points bytes ms c d b m = subst (λ (x : List BlockHandle). IsColumn bytes x 0 0 0 c d None None) (sym m) (record {
+pub no_points : (bytes : List ℕ) (ms : List BlockHandle) (capacity handles_capacity : ℕ) → bytes ≡ [] → ms ≡ [] → IsColumn bytes ms 0 0 capacity handles_capacity None None
+no_points bytes ms c d b m = subst (λ (x : List BlockHandle). IsColumn bytes x 0 0 c d None None) (sym m) (record {
   counted = (none_counted bytes [] b refl).0;
-  others = tt;
+  apart = tt;
   cut_fits = refl;
   is_staged = tt;
 })
@@ -116,9 +117,9 @@ not_less x t h = grind (arith, ints, h)
 pub reaches : (t : ℤ) (ms : List BlockHandle) (at : ℕ) (d : BlockHandle) → at < length ms → IsLastBefore t ms at → t ≤ℤ (get_or ms at d).last
 reaches t ms at d l p = not_less (get_or ms at d).last t (p.1 at d (omega arith) l)
 
-pub is_rewritten : (old new : List ℕ) (ms : List BlockHandle) (at cut : ℕ) (d : BlockHandle) (p : ℤ × ℤ) (r : Rewritten) → AreBlocks old ms → at < length ms → IsLastBefore p.0 ms at → r.at ≡ at → AreBlocks new (blocks_of r)
+pub is_rewritten : (old new : List ℕ) (ms : List BlockHandle) (at cut : ℕ) (d : BlockHandle) (p : ℤ × ℤ) (r : Rewritten) → AreBlocks old ms → AreApart ms → at < length ms → IsLastBefore p.0 ms at → r.at ≡ at → AreBlocks new (blocks_of r) → LieFrom (length old) (blocks_of r)
     → coded_points new (blocks_of r) ≡ put int_cmp p.0 p.1 (drop (cut_in_block at cut) (block_points_at old (get_or ms at d))) → take (length old) new ≡ old → IsRewritten new ms cut p r
-is_rewritten old new ms at cut d p r marked l part is blocks points front =
+is_rewritten old new ms at cut d p r marked apart l part is blocks behind points front =
     let stays = mark_stays old new (get_or ms at d) front (mark_at old ms at d marked l) in
     record {
       within = let e = is in omega arith;
@@ -126,6 +127,7 @@ is_rewritten old new ms at cut d p r marked l part is blocks points front =
       split = split_there ms at d l ∙ ap (λ k. take k ms ++ (get_or ms at d ∷ drop (k + 1) ms)) (sym is);
       blocks = blocks;
       points = points ∙ (λ i. put int_cmp p.0 p.1 (drop (cut_in_block (sym is i) cut) (sym stays.1 i)));
+      apart = apart_replaced (length old) (blocks_of r) ms r.at behind apart (all_within old ms marked) (let e = is in omega arith);
       earlier = subst (λ k. AllEndBefore (take k ms) p.0) (sym is) (ends_before p.0 ms at (omega arith) part);
       reached = reaches p.0 ms at d l part;
     }
@@ -308,11 +310,11 @@ module _ (bytes : List ℕ) (ms : List BlockHandle) (total cut : ℕ) (p : ℤ �
       same_first [] h l = absurd (omega arith)
       same_first (m ∷ ns) h l = h
 
-  pub replaced_column : (capacity handles_capacity tail : ℕ) (new : Option Rewritten) → IsTime p.0 → tail ≡ length bytes
-      → IsColumn bytes (handles_replaced r ms) (length (coded_points bytes (handles_replaced r ms))) (cut_after r.at cut) tail capacity handles_capacity None new
-  replaced_column capacity handles_capacity tail new is t = record {
+  pub replaced_column : (capacity handles_capacity : ℕ) (new : Option Rewritten) → IsTime p.0
+      → IsColumn bytes (handles_replaced r ms) (length (coded_points bytes (handles_replaced r ms))) (cut_after r.at cut) capacity handles_capacity None new
+  replaced_column capacity handles_capacity new is = record {
     counted = record { coded = replaced_anew is; total_is = refl };
-    others = subst (λ n. OthersEndBy n (handles_replaced r ms)) (sym t) (others_by (length bytes) (handles_replaced r ms) (all_within bytes (handles_replaced r ms) replaced_blocks));
+    apart = w.apart;
     cut_fits = cut_again r.at refl;
     is_staged = tt;
   }
@@ -449,15 +451,15 @@ module _ (bytes : List ℕ) (ms : List BlockHandle) (cut at : ℕ) (t : ℤ) (c 
       front_fits zero e = absurd (some e)
       front_fits (suc j) e = subst (λ i. cut ≤ length (coded_points bytes (take i ms))) (sym e) (within_front j ms (omega arith) f)
 
-pub dropped_column : (bytes : List ℕ) (ms : List BlockHandle) (total cut at tail capacity handles_capacity : ℕ) (new : Option Rewritten) → AreCountedBlocks bytes ms total → OthersEndBy tail ms → CutFits cut (blocks_at bytes (drop at ms))
-    → IsColumn bytes (drop at ms) (length (coded_points bytes (drop at ms))) cut tail capacity handles_capacity None new
-dropped_column bytes ms total cut at tail capacity handles_capacity new c o f =
+pub dropped_column : (bytes : List ℕ) (ms : List BlockHandle) (total cut at capacity handles_capacity : ℕ) (new : Option Rewritten) → AreCountedBlocks bytes ms total → AreApart ms → CutFits cut (blocks_at bytes (drop at ms))
+    → IsColumn bytes (drop at ms) (length (coded_points bytes (drop at ms))) cut capacity handles_capacity None new
+dropped_column bytes ms total cut at capacity handles_capacity new c o f =
     let split : coded_points bytes ms ≡ coded_points bytes (take at ms) ++ coded_points bytes (drop at ms) = ap (coded_points bytes) (sym (take-append-drop at ms)) ∙ coded_join bytes (take at ms) (drop at ms) in
     let rising = rising_rest (coded_points bytes (take at ms)) (coded_points bytes (drop at ms)) (subst IsRising split c.coded.rising) in
     let timed = timed_rest (coded_points bytes (take at ms)) (coded_points bytes (drop at ms)) (subst AreTimed split c.coded.timed) in
     record {
       counted = record { coded = coded_anew bytes (drop at ms) (blocks_behind bytes at ms c.coded.marked) rising timed; total_is = refl };
-      others = others_behind at ms o;
+      apart = apart_behind at ms o;
       cut_fits = f;
       is_staged = tt;
     }
@@ -466,23 +468,14 @@ dropped_column bytes ms total cut at tail capacity handles_capacity new c o f =
     timed_rest [] qs h = h
     timed_rest (p ∷ ps) qs h = timed_rest ps qs h.1
 
-    others_next : (m : BlockHandle) (ns : List BlockHandle) → OthersEndBy tail (m ∷ ns) → OthersEndBy tail ns
-    others_next m [] h = tt
-    others_next m (n ∷ ns) h = h.1
-
-    others_behind : (k : ℕ) (ns : List BlockHandle) → OthersEndBy tail ns → OthersEndBy tail (drop k ns)
-    others_behind zero ns h = h
-    others_behind (suc k) [] h = tt
-    others_behind (suc k) (n ∷ ns) h = others_behind k ns (others_next n ns h)
-
 pub cut_at_later : (at cut : ℕ) → (at ≡ 0 → ⊥) → (0 ≡ cut_in_block at cut) × (cut ≡ cut_after at cut)
 cut_at_later zero cut n = absurd (n refl)
 cut_at_later (suc at) cut n = (refl, refl)
 
-pub rewritten_if_ok : (old new : List ℕ) (ms : List BlockHandle) (at cut : ℕ) (d : BlockHandle) (p : ℤ × ℤ) (r : Result Rewritten AllocError) → AreBlocks old ms → at < length ms → IsLastBefore p.0 ms at → IfOk r (λ n. n.at ≡ at) → IfOk r (λ n. AreBlocks new (blocks_of n))
+pub rewritten_if_ok : (old new : List ℕ) (ms : List BlockHandle) (at cut : ℕ) (d : BlockHandle) (p : ℤ × ℤ) (r : Result Rewritten AllocError) → AreBlocks old ms → AreApart ms → at < length ms → IsLastBefore p.0 ms at → IfOk r (λ n. n.at ≡ at) → IfOk r (λ n. AreBlocks new (blocks_of n)) → IfOk r (λ n. LieFrom (length old) (blocks_of n))
     → IfOk r (λ n. coded_points new (blocks_of n) ≡ put int_cmp p.0 p.1 (drop (cut_in_block at cut) (block_points_at old (get_or ms at d)))) → take (length old) new ≡ old → IfOk r (λ n. IsRewritten new ms cut p n)
-rewritten_if_ok old new ms at cut d p (Ok n) marked l part is blocks points front = is_rewritten old new ms at cut d p n marked l part is blocks points front
-rewritten_if_ok old new ms at cut d p (Err e) marked l part is blocks points front = tt
+rewritten_if_ok old new ms at cut d p (Ok n) marked apart l part is blocks behind points front = is_rewritten old new ms at cut d p n marked apart l part is blocks behind points front
+rewritten_if_ok old new ms at cut d p (Err e) marked apart l part is blocks behind points front = tt
 
 pub rest_count : (bytes : List ℕ) (k : ℕ) (ms : List BlockHandle) → AreBlocks bytes ms → count_in_blocks (drop k ms) ≡ length (coded_points bytes (drop k ms))
 rest_count bytes k ms h = counts_are bytes (drop k ms) (blocks_behind bytes k ms h)

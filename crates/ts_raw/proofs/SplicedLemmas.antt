@@ -1,5 +1,5 @@
 -- Blocks that are copied with one point more, or in parts.
-use Rattle.std.proofs.Common.{◌≡◌, ℕ, zero, suc, ◌+◌, ◌<◌, ◌≤◌, ℤ, ◌<ℤ◌, ◌≤ℤ◌, List, [], ◌∷◌, ◌++◌, length, take, drop, length-append, sym, ◌∙◌, ap, subst, arith}
+use Rattle.std.proofs.Common.{◌≡◌, ℕ, zero, suc, ◌+◌, ◌<◌, ◌≤◌, ℤ, ◌<ℤ◌, ◌≤ℤ◌, List, [], ◌∷◌, ◌++◌, length, take, drop, length-append, inl, inr, sym, ◌∙◌, ap, subst, arith}
 use Rattle.ts_core.specs.aggregates.Aggregates.{Aggregate, aggregate_of_one, merged, aggregate_of_points}
 use Rattle.ts_core.specs.aggregates.MergeLaws.{aggregate_laws}
 use Rattle.ts_core.proofs.aggregates.Folds.{fold-middle}
@@ -12,8 +12,9 @@ use Rattle.ts_block.specs.Blocks.{ArePoints}
 use Rattle.ts_block.specs.Appending.{last_time}
 use Rattle.ts_block.specs.Splicing.{IsAdded}
 use Rattle.ts_raw.specs.declared.block_handle.BlockHandle.{BlockHandle}
-use Rattle.ts_raw.specs.CodedPoints.{IsBlockHandle, AreBlocks, CutFits, blocks_at, block_points_at, coded_points}
+use Rattle.ts_raw.specs.CodedPoints.{IsBlockHandle, AreBlocks, LieFrom, CutFits, blocks_at, block_points_at, coded_points}
 use Rattle.ts_raw.specs.Rewriting.{IsEncoded, AreHalves, cut_in_block}
+use Rattle.ts_raw.proofs.ApartLemmas.{from_two}
 use Rattle.ts_raw.proofs.PushLemmas.{points_less}
 use Rattle.ts_raw.proofs.BlockLists.{mark_stays, mark_at}
 use Rattle.ts_block.proofs.SplicingLemmas.{put_after}
@@ -48,17 +49,20 @@ few_points (p ∷ ps) h = (let a = h.0 in omega arith, omega arith)
 pub summary_count : (bytes : List ℕ) (m : BlockHandle) → IsBlockHandle bytes m → m.summary.count ≡ m.count
 summary_count bytes m h = ap (λ (a : Aggregate). a.count) h.summary_is ∙ count_of_fold (block_points_at bytes m) ∙ sym h.count_is
 
-pub stays_encoded : (old new : List ℕ) (m : BlockHandle) (ps : List (ℤ × ℤ)) → take (length old) new ≡ old → IsEncoded old m ps → IsEncoded new m ps
-stays_encoded old new m ps front h = let k = mark_stays old new m front h.handle in record { handle = k.0; points_are = k.1 ∙ h.points_are }
+pub stays_encoded : {from : ℕ} (old new : List ℕ) (m : BlockHandle) (ps : List (ℤ × ℤ)) → take (length old) new ≡ old → IsEncoded from old m ps → IsEncoded from new m ps
+stays_encoded old new m ps front h = let k = mark_stays old new m front h.handle in record { starts = h.starts; handle = k.0; points_are = k.1 ∙ h.points_are }
 
-pub two_coded : (bytes : List ℕ) (m n : BlockHandle) (ps qs : List (ℤ × ℤ)) → IsEncoded bytes m ps → IsEncoded bytes n qs → AreBlocks bytes (m ∷ n ∷ []) × (coded_points bytes (m ∷ n ∷ []) ≡ ps ++ qs)
+pub starts_later : {from at : ℕ} {bytes : List ℕ} {m : BlockHandle} {ps : List (ℤ × ℤ)} → at ≤ from → IsEncoded from bytes m ps → IsEncoded at bytes m ps
+starts_later l h = record { starts = let s = h.starts in omega arith; handle = h.handle; points_are = h.points_are }
+
+pub two_coded : {from at : ℕ} (bytes : List ℕ) (m n : BlockHandle) (ps qs : List (ℤ × ℤ)) → IsEncoded from bytes m ps → IsEncoded at bytes n qs → AreBlocks bytes (m ∷ n ∷ []) × (coded_points bytes (m ∷ n ∷ []) ≡ ps ++ qs)
 unfolding coded_points
 two_coded bytes m n ps qs a b = ((a.handle, (b.handle, tt)), λ i. a.points_are i ++ (append-nil (block_points_at bytes n) ∙ b.points_are) i)
 
-pub last_of_encoded : (bytes : List ℕ) (m : BlockHandle) (ps : List (ℤ × ℤ)) → IsEncoded bytes m ps → m.last ≡ last_time ps
+pub last_of_encoded : {from : ℕ} (bytes : List ℕ) (m : BlockHandle) (ps : List (ℤ × ℤ)) → IsEncoded from bytes m ps → m.last ≡ last_time ps
 last_of_encoded bytes m ps h = h.handle.last_is ∙ ap last_time h.points_are
 
-module _ (bytes : List ℕ) (m n : BlockHandle) (points : List (ℤ × ℤ)) (h : AreHalves bytes m n points) (t v : ℤ) where
+module _ {from : ℕ} (bytes : List ℕ) (m n : BlockHandle) (points : List (ℤ × ℤ)) (h : AreHalves from bytes m n points) (t v : ℤ) where
   pub second_last : n.last ≡ last_time points
   second_last = last_of_encoded bytes n (drop h.half points) h.second_is ∙ last_after_drop h.half points h.less
 
@@ -79,7 +83,18 @@ module _ (bytes : List ℕ) (m n : BlockHandle) (points : List (ℤ × ℤ)) (h 
       omega arith
 
   module _ (new : List ℕ) (front : take (length bytes) new ≡ bytes) (k : BlockHandle) where
-    pub in_first : t ≤ℤ m.last → IsEncoded new k (put int_cmp t v (block_points_at bytes m)) → AreBlocks new (k ∷ n ∷ []) × (coded_points new (k ∷ n ∷ []) ≡ put int_cmp t v points)
+    -- the new block is behind both halves
+    pub behind_first : length bytes ≤ k.start → LieFrom from (k ∷ n ∷ [])
+    behind_first s =
+        let a = h.first_is.starts in let b = h.first_is.handle.some in let c = h.second_is.starts in let d = h.second_is.handle.some in let e = h.second_is.handle.within in
+        from_two from k n (omega arith) (omega arith) (inr (omega arith))
+
+    pub behind_second : length bytes ≤ k.start → LieFrom from (m ∷ k ∷ [])
+    behind_second s =
+        let a = h.first_is.starts in let b = h.first_is.handle.some in let e = h.first_is.handle.within in
+        from_two from m k (omega arith) (omega arith) (inl (omega arith))
+
+    pub in_first : {at : ℕ} → t ≤ℤ m.last → IsEncoded at new k (put int_cmp t v (block_points_at bytes m)) → AreBlocks new (k ∷ n ∷ []) × (coded_points new (k ∷ n ∷ []) ≡ put int_cmp t v points)
     in_first r e =
         let xs : List (ℤ × ℤ) = take h.half points in
         let ys : List (ℤ × ℤ) = drop h.half points in
@@ -87,7 +102,7 @@ module _ (bytes : List ℕ) (m n : BlockHandle) (points : List (ℤ × ℤ)) (h 
         let some : 0 < length xs = let c = length-take-le h.half points (let l = h.less in omega arith) in let d = h.some in omega arith in
         (both.0, both.1 ∙ ap (λ (x : List (ℤ × ℤ)). put int_cmp t v x ++ ys) h.first_is.points_are ∙ sym (put_first t v xs ys some (subst (λ z. t ≤ℤ z) (last_of_encoded bytes m xs h.first_is) r)) ∙ ap (put int_cmp t v) (take-append-drop h.half points))
 
-    pub in_second : m.last <ℤ t → IsEncoded new k (put int_cmp t v (block_points_at bytes n)) → AreBlocks new (m ∷ k ∷ []) × (coded_points new (m ∷ k ∷ []) ≡ put int_cmp t v points)
+    pub in_second : {at : ℕ} → m.last <ℤ t → IsEncoded at new k (put int_cmp t v (block_points_at bytes n)) → AreBlocks new (m ∷ k ∷ []) × (coded_points new (m ∷ k ∷ []) ≡ put int_cmp t v points)
     in_second l e =
         let xs : List (ℤ × ℤ) = take h.half points in
         let ys : List (ℤ × ℤ) = drop h.half points in
@@ -95,7 +110,7 @@ module _ (bytes : List ℕ) (m n : BlockHandle) (points : List (ℤ × ℤ)) (h 
         let are : ArePoints xs = subst ArePoints h.first_is.points_are h.first_is.handle.block.points_are in
         (both.0, both.1 ∙ ap (λ (x : List (ℤ × ℤ)). xs ++ put int_cmp t v x) h.second_is.points_are ∙ sym (put_after t v xs ys (points_less t xs are (subst (λ z. z <ℤ t) (last_of_encoded bytes m xs h.first_is) l))) ∙ ap (put int_cmp t v) (take-append-drop h.half points))
 
-pub rest_last : (bytes new : List ℕ) (m n : BlockHandle) (k : ℕ) → IsBlockHandle bytes m → k < m.count → IsEncoded new n (drop k (block_points_at bytes m)) → m.last ≡ n.last
+pub rest_last : {from : ℕ} (bytes new : List ℕ) (m n : BlockHandle) (k : ℕ) → IsBlockHandle bytes m → k < m.count → IsEncoded from new n (drop k (block_points_at bytes m)) → m.last ≡ n.last
 rest_last bytes new m n k h l e = h.last_is ∙ sym (last_after_drop k (block_points_at bytes m) (let a = h.count_is in omega arith)) ∙ sym (last_of_encoded new n (drop k (block_points_at bytes m)) e)
 
 -- the removed points of a block are not all of it

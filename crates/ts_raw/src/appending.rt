@@ -1,6 +1,6 @@
 //! Appends points to coded blocks.
 ghost use Rattle.std.specs.Prelude.{◌≡◌, ◌↔◌, ◌+◌, ◌<◌, ◌≤◌, ◌<ℤ◌, ℕ, [], ◌∷◌, ◌++◌, length, take, vec_len, vec_capacity, IsTrue, false};
-ghost use Rattle.ts_raw.specs.CodedPoints.{IsCoded, AreOrdered, AllEndBefore, IsBlockHandle, HasRoom, LastGrows, OthersEndBy, IsLastBefore, CutFits, block_points_at, coded_points, blocks_at};
+ghost use Rattle.ts_raw.specs.CodedPoints.{IsCoded, AreOrdered, AllEndBefore, IsBlockHandle, HasRoom, LastGrows, AreApart, IsLastBefore, CutFits, block_points_at, coded_points, blocks_at};
 ghost use Rattle.ts_raw.specs.Rewriting.{IsEncoded};
 
 use crate::block_handle::BlockHandle;
@@ -34,21 +34,12 @@ pub(crate) fn is_full(handle: &BlockHandle) -> bool
     handle.count >= BLOCK_POINTS
 }
 
-/// Returns true if the last block ends the bytes, which number `size`, and no other block ends after its start. All
-/// blocks but the last end by the offset `tail`.
-pub(crate) fn is_at_end(handle: &BlockHandle, size: usize, tail: usize) -> bool
-    ensures { IsTrue result ↔ ((handle.now.end ≡ size) × (tail ≤ handle.now.start)) }
-{
-    handle.end == size && tail <= handle.start
-}
-
-/// Returns true if the last block can grow in place. The bytes number `size`; all blocks but the last end by the offset
-/// `tail`.
-pub(crate) fn can_grow(handles: &[BlockHandle], size: usize, tail: usize) -> bool
-    ensures { IsTrue result ↔ LastGrows size tail handles.now }
+/// Returns true if the last block can grow in place: it isn't full and ends the bytes, which number `size`.
+pub(crate) fn can_grow(handles: &[BlockHandle], size: usize) -> bool
+    ensures { IsTrue result ↔ LastGrows size handles.now }
 {
     match handles.last() {
-        Some(handle) => !is_full(handle) && is_at_end(handle, size, tail),
+        Some(handle) => !is_full(handle) && handle.end == size,
         None => false,
     }
 }
@@ -61,11 +52,12 @@ fn push_block<A: Allocator>(
     point: &(Time, i64),
 )
     requires coded { IsCoded bytes.old.items handles.old.items }
+    requires apart { AreApart handles.old.items }
     requires later { AllEndBefore handles.old.items point.now.0 }
     requires bytes_spare { vec_len bytes.old + 20 ≤ vec_capacity bytes.old }
     requires handles_spare { vec_len handles.old < vec_capacity handles.old }
     ensures coded { IsCoded bytes.new.items handles.new.items }
-    ensures others { OthersEndBy (vec_len bytes.old) handles.new.items }
+    ensures apart { AreApart handles.new.items }
     ensures points { coded_points bytes.new.items handles.new.items ≡ coded_points bytes.old.items handles.old.items ++ point.now ∷ [] }
     ensures blocks { blocks_at bytes.new.items handles.new.items ≡ blocks_at bytes.old.items handles.old.items ++ ((point.now ∷ []) ∷ []) }
 {
@@ -90,7 +82,7 @@ fn push_last<A: Allocator>(bytes: &mut Vec<u8, A>, handle: &mut BlockHandle, poi
     requires ends { handle.old.end ≡ vec_len bytes.old }
     requires spare { vec_len bytes.old + 20 ≤ vec_capacity bytes.old }
     ensures kept { take handle.old.start bytes.new.items ≡ take handle.old.start bytes.old.items }
-    ensures block { IsEncoded bytes.new.items handle.new (block_points_at bytes.old.items handle.old ++ point.now ∷ []) }
+    ensures block { IsEncoded handle.old.start bytes.new.items handle.new (block_points_at bytes.old.items handle.old ++ point.now ∷ []) }
 {
     let values = append(
         bytes,
@@ -107,29 +99,26 @@ fn push_last<A: Allocator>(bytes: &mut Vec<u8, A>, handle: &mut BlockHandle, poi
 }
 
 /// Appends a point after all others, to the last block if it can grow in place, else as a block of its own. There must
-/// be capacity. All blocks but the last end by the offset `tail`; returns this offset for the new blocks.
+/// be capacity.
 pub(crate) fn push_later<A: Allocator>(
     bytes: &mut Vec<u8, A>,
     handles: &mut Vec<BlockHandle, A>,
-    tail: usize,
     point: &(Time, i64),
-) -> usize
+)
     requires coded { IsCoded bytes.old.items handles.old.items }
-    requires others { OthersEndBy tail handles.old.items }
+    requires apart { AreApart handles.old.items }
     requires later { AllEndBefore handles.old.items point.now.0 }
     requires bytes_spare { vec_len bytes.old + 20 ≤ vec_capacity bytes.old }
-    requires room { HasRoom bytes.old.items handles.old.items tail (vec_capacity handles.old) }
+    requires room { HasRoom bytes.old.items handles.old.items (vec_capacity handles.old) }
     ensures coded { IsCoded bytes.new.items handles.new.items }
-    ensures others { OthersEndBy result handles.new.items }
+    ensures apart { AreApart handles.new.items }
     ensures points { coded_points bytes.new.items handles.new.items ≡ coded_points bytes.old.items handles.old.items ++ point.now ∷ [] }
     ensures cut { (cut : ℕ) → CutFits cut (blocks_at bytes.old.items handles.old.items) → CutFits cut (blocks_at bytes.new.items handles.new.items) }
 {
-    let size = bytes.len();
-    if !can_grow(handles.as_slice(), size, tail) {
+    if !can_grow(handles.as_slice(), bytes.len()) {
         push_block(bytes, handles, point);
-        return size;
+        return;
     }
     let at = handles.len() - 1;
     push_last(bytes, &mut handles[at], point);
-    tail
 }

@@ -1,11 +1,11 @@
 //! Encodes a block anew, with a point inserted or replaced, and replaces the old block with the new ones.
-ghost use Rattle.std.specs.Prelude.{◌≡◌, ◌+◌, ◌<◌, ◌≤◌, ◌≤ℤ◌, ℤ, List, length, take, drop, vec_len, vec_capacity, IfOk};
+ghost use Rattle.std.specs.Prelude.{◌≡◌, ◌+◌, ◌<◌, ◌≤◌, ◌≤ℤ◌, ℕ, ℤ, List, length, take, drop, vec_len, vec_capacity, IfOk};
 ghost use Rattle.std.specs.Ordering.{int_cmp};
 ghost use Rattle.std.specs.FinMap.{put};
 ghost use Rattle.ts_core.specs.aggregates.Aggregates.{aggregate_of_points};
 ghost use Rattle.ts_block.specs.Blocks.{IsBlockOf};
 ghost use Rattle.ts_block.specs.Appending.{values_start, last_time};
-ghost use Rattle.ts_raw.specs.CodedPoints.{IsBlockHandle, AreBlocks, block_points_at, coded_points, count_in_blocks};
+ghost use Rattle.ts_raw.specs.CodedPoints.{IsBlockHandle, AreBlocks, LieFrom, block_points_at, coded_points, count_in_blocks};
 ghost use Rattle.ts_raw.specs.Rewriting.{IsEncoded, AreHalves, blocks_of, handles_replaced, cut_in_block, cut_after};
 
 use crate::block_handle::BlockHandle;
@@ -66,7 +66,7 @@ fn push_text<A: Allocator>(
 ) -> Result<BlockHandle, AllocError>
     requires { (points : List (ℤ × ℤ)) × IsBlockOf text.now points × (values ≡ values_start points) × (count ≡ length points) × (last ≡ last_time points) × (summary ≡ aggregate_of_points points) }
     ensures kept { take (vec_len bytes.old) bytes.new.items ≡ bytes.old.items }
-    ensures block { IfOk result (λ handle. (points : List (ℤ × ℤ)) → IsBlockOf text.now points → IsEncoded bytes.new.items handle points) }
+    ensures block { IfOk result (λ handle. (points : List (ℤ × ℤ)) → IsBlockOf text.now points → IsEncoded (vec_len bytes.old) bytes.new.items handle points) }
 {
     reserve_eighth(bytes, text.len())?;
     let start = bytes.len();
@@ -92,7 +92,7 @@ fn copy_with<A: Allocator + Copy>(
     requires few { handle.now.count < 256 }
     requires reached { point.now.0 ≤ℤ handle.now.last }
     ensures kept { take (vec_len bytes.old) bytes.new.items ≡ bytes.old.items }
-    ensures block { IfOk result (λ new. IsEncoded bytes.new.items new (put int_cmp point.now.0 point.now.1 (block_points_at bytes.old.items handle.now))) }
+    ensures block { IfOk result (λ new. IsEncoded (vec_len bytes.old) bytes.new.items new (put int_cmp point.now.0 point.now.1 (block_points_at bytes.old.items handle.now))) }
 {
     let alloc = *bytes.allocator();
     let block = text_of(bytes.as_slice(), handle);
@@ -129,7 +129,7 @@ fn copy_first<A: Allocator + Copy>(
     requires some { 0 < count }
     requires few { count < handle.now.count }
     ensures kept { take (vec_len bytes.old) bytes.new.items ≡ bytes.old.items }
-    ensures block { IfOk result (λ new. IsEncoded bytes.new.items new (take count (block_points_at bytes.old.items handle.now))) }
+    ensures block { IfOk result (λ new. IsEncoded (vec_len bytes.old) bytes.new.items new (take count (block_points_at bytes.old.items handle.now))) }
 {
     let alloc = *bytes.allocator();
     let block = text_of(bytes.as_slice(), handle);
@@ -147,7 +147,7 @@ fn copy_last<A: Allocator + Copy>(
     requires marked { IsBlockHandle bytes.old.items handle.now }
     requires few { count < handle.now.count }
     ensures kept { take (vec_len bytes.old) bytes.new.items ≡ bytes.old.items }
-    ensures block { IfOk result (λ new. IsEncoded bytes.new.items new (drop count (block_points_at bytes.old.items handle.now))) }
+    ensures block { IfOk result (λ new. IsEncoded (vec_len bytes.old) bytes.new.items new (drop count (block_points_at bytes.old.items handle.now))) }
 {
     let alloc = *bytes.allocator();
     let block = text_of(bytes.as_slice(), handle);
@@ -171,7 +171,7 @@ fn halve<A: Allocator + Copy>(
     requires marked { IsBlockHandle bytes.old.items handle.now }
     requires some { 1 < handle.now.count }
     ensures kept { take (vec_len bytes.old) bytes.new.items ≡ bytes.old.items }
-    ensures halves { IfOk result (λ two. AreHalves bytes.new.items two.0 two.1 (block_points_at bytes.old.items handle.now)) }
+    ensures halves { IfOk result (λ two. AreHalves (vec_len bytes.old) bytes.new.items two.0 two.1 (block_points_at bytes.old.items handle.now)) }
 {
     let count = handle.count / 2;
     let first = copy_first(bytes, handle, count)?;
@@ -188,11 +188,12 @@ fn rewrite_half<A: Allocator + Copy>(
     at: usize,
     point: &(Time, i64),
 ) -> Result<Rewritten, AllocError>
-    requires { (points : List (ℤ × ℤ)) × AreHalves bytes.old.items first.now second.now points × (point.now.0 ≤ℤ last_time points) }
+    requires { (from : ℕ) × (points : List (ℤ × ℤ)) × AreHalves from bytes.old.items first.now second.now points × (point.now.0 ≤ℤ last_time points) }
     ensures kept { take (vec_len bytes.old) bytes.new.items ≡ bytes.old.items }
     ensures at { IfOk result (λ new. new.at ≡ at) }
     ensures blocks { IfOk result (λ new. AreBlocks bytes.new.items (blocks_of new)) }
-    ensures points { IfOk result (λ new. (points : List (ℤ × ℤ)) → AreHalves bytes.old.items first.now second.now points → coded_points bytes.new.items (blocks_of new) ≡ put int_cmp point.now.0 point.now.1 points) }
+    ensures behind { IfOk result (λ new. (from : ℕ) (points : List (ℤ × ℤ)) → AreHalves from bytes.old.items first.now second.now points → LieFrom from (blocks_of new)) }
+    ensures points { IfOk result (λ new. (from : ℕ) (points : List (ℤ × ℤ)) → AreHalves from bytes.old.items first.now second.now points → coded_points bytes.new.items (blocks_of new) ≡ put int_cmp point.now.0 point.now.1 points) }
 {
     if point.0 <= first.last {
         let new = copy_with(bytes, first, point)?;
@@ -223,6 +224,7 @@ fn rewrite_all<A: Allocator + Copy>(
     ensures kept { take (vec_len bytes.old) bytes.new.items ≡ bytes.old.items }
     ensures at { IfOk result (λ new. new.at ≡ at) }
     ensures blocks { IfOk result (λ new. AreBlocks bytes.new.items (blocks_of new)) }
+    ensures behind { IfOk result (λ new. LieFrom (vec_len bytes.old) (blocks_of new)) }
     ensures points { IfOk result (λ new. coded_points bytes.new.items (blocks_of new) ≡ put int_cmp point.now.0 point.now.1 (block_points_at bytes.old.items handle.now)) }
 {
     if handle.count <= HALVED_POINTS {
@@ -252,6 +254,7 @@ pub(crate) fn rewrite<A: Allocator + Copy>(
     ensures kept { take (vec_len bytes.old) bytes.new.items ≡ bytes.old.items }
     ensures at { IfOk result (λ new. new.at ≡ at) }
     ensures blocks { IfOk result (λ new. AreBlocks bytes.new.items (blocks_of new)) }
+    ensures behind { IfOk result (λ new. LieFrom (vec_len bytes.old) (blocks_of new)) }
     ensures points { IfOk result (λ new. coded_points bytes.new.items (blocks_of new) ≡ put int_cmp point.now.0 point.now.1 (drop skip (block_points_at bytes.old.items handle.now))) }
 {
     if skip == 0 {

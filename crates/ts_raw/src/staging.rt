@@ -1,10 +1,10 @@
 //! Stages a point: allocates all that its insertion needs.
 ghost use Rattle.std.specs.Prelude.{◌≡◌, ◌+◌, ◌<◌, ◌≤◌, length, take, vec_len, vec_capacity, option_map, IfOk, OnOk};
-ghost use Rattle.ts_raw.specs.CodedPoints.{AreBlocks, OthersEndBy, AreCountedBlocks, HasRoom, blocks_at, AllEndBefore, IsLastBefore, CutFits};
+ghost use Rattle.ts_raw.specs.CodedPoints.{AreBlocks, AreApart, AreCountedBlocks, HasRoom, blocks_at, AllEndBefore, IsLastBefore, CutFits};
 ghost use Rattle.ts_raw.specs.BlockColumns.{IsStaged};
 ghost use Rattle.ts_raw.specs.Rewriting.{IsRewritten};
 
-use crate::appending::{POINT_BYTES, blocks_before, can_grow, is_at_end, is_full};
+use crate::appending::{POINT_BYTES, blocks_before, can_grow, is_full};
 use crate::block_handle::BlockHandle;
 use crate::relocating::{move_last, reserve_bytes};
 use crate::rewriting::{Rewritten, cut_of, rewrite};
@@ -12,27 +12,25 @@ use std::alloc::{AllocError, Allocator};
 use ts_core::{Time, reserve_eighth};
 
 /// Moves the last block to the end of the bytes if it isn't full and can't grow where it is. Keeps capacity for a point.
-/// All blocks but the last end by the offset `tail`.
 fn open_last<A: Allocator>(
     bytes: &mut Vec<u8, A>,
     handles: &mut Vec<BlockHandle, A>,
-    tail: &mut usize,
 ) -> Result<(), AllocError>
     requires marked { AreBlocks bytes.old.items handles.old.items }
-    requires others { OthersEndBy tail.old handles.old.items }
+    requires apart { AreApart handles.old.items }
     requires spare { vec_len bytes.old + 20 ≤ vec_capacity bytes.old }
     ensures marked { AreBlocks bytes.new.items handles.new.items }
     ensures blocks { blocks_at bytes.new.items handles.new.items ≡ blocks_at bytes.old.items handles.old.items }
-    ensures others { OthersEndBy tail.new handles.new.items }
+    ensures apart { AreApart handles.new.items }
     ensures spare { OnOk result (vec_len bytes.new + 20 ≤ vec_capacity bytes.new) }
 {
     let Some(handle) = handles.last() else {
         return Ok(());
     };
-    if is_full(handle) || is_at_end(handle, bytes.len(), *tail) {
+    if is_full(handle) || handle.end == bytes.len() {
         return Ok(());
     }
-    *tail = move_last(bytes, handles)?;
+    move_last(bytes, handles)?;
     reserve_eighth(bytes, POINT_BYTES)
 }
 
@@ -40,22 +38,21 @@ fn open_last<A: Allocator>(
 fn stage_last<A: Allocator>(
     bytes: &mut Vec<u8, A>,
     handles: &mut Vec<BlockHandle, A>,
-    tail: &mut usize,
     time: Time,
 ) -> Result<(), AllocError>
     requires marked { AreBlocks bytes.old.items handles.old.items }
-    requires others { OthersEndBy tail.old handles.old.items }
+    requires apart { AreApart handles.old.items }
     requires later { AllEndBefore handles.old.items time }
     requires spare { vec_len bytes.old + 20 ≤ vec_capacity bytes.old }
     ensures marked { AreBlocks bytes.new.items handles.new.items }
     ensures blocks { blocks_at bytes.new.items handles.new.items ≡ blocks_at bytes.old.items handles.old.items }
-    ensures others { OthersEndBy tail.new handles.new.items }
+    ensures apart { AreApart handles.new.items }
     ensures later { AllEndBefore handles.new.items time }
     ensures spare { OnOk result (vec_len bytes.new + 20 ≤ vec_capacity bytes.new) }
-    ensures room { OnOk result (HasRoom bytes.new.items handles.new.items tail.new (vec_capacity handles.new)) }
+    ensures room { OnOk result (HasRoom bytes.new.items handles.new.items (vec_capacity handles.new)) }
 {
-    open_last(bytes, handles, tail)?;
-    if can_grow(handles.as_slice(), bytes.len(), *tail) {
+    open_last(bytes, handles)?;
+    if can_grow(handles.as_slice(), bytes.len()) {
         return Ok(());
     }
     reserve_eighth(handles, 1)
@@ -71,6 +68,7 @@ fn stage_among<A: Allocator + Copy>(
     point: &(Time, i64),
 ) -> Result<Rewritten, AllocError>
     requires marked { AreBlocks bytes.old.items handles.old.items }
+    requires apart { AreApart handles.old.items }
     requires cut { CutFits cut (blocks_at bytes.old.items handles.old.items) }
     requires at { IsLastBefore point.now.0 handles.old.items at }
     requires within { at < length handles.old.items }
@@ -94,6 +92,7 @@ fn stage_boxed<A: Allocator + Copy>(
     point: &(Time, i64),
 ) -> Result<Box<Rewritten, A>, AllocError>
     requires marked { AreBlocks bytes.old.items handles.old.items }
+    requires apart { AreApart handles.old.items }
     requires cut { CutFits cut (blocks_at bytes.old.items handles.old.items) }
     requires at { IsLastBefore point.now.0 handles.old.items at }
     requires within { at < length handles.old.items }
@@ -131,35 +130,29 @@ fn needed_bytes(handles: &[BlockHandle], time: Time) -> usize
 }
 
 /// Stages a point: reserves the capacity to append it, or copies its block with the point and returns the new blocks.
-/// All blocks but the last end by the offset `tail`; the first `cut` points of `total` were removed.
+/// The first `cut` points of `total` were removed.
 pub(crate) fn stage<A: Allocator + Copy>(
     bytes: &mut Vec<u8, A>,
     handles: &mut Vec<BlockHandle, A>,
-    tail: &mut usize,
     total: usize,
     cut: usize,
     point: (Time, i64),
 ) -> Result<Option<Box<Rewritten, A>>, AllocError>
     requires counted { AreCountedBlocks bytes.old.items handles.old.items total }
-    requires others { OthersEndBy tail.old handles.old.items }
+    requires apart { AreApart handles.old.items }
     requires cut { CutFits cut (blocks_at bytes.old.items handles.old.items) }
     ensures counted { AreCountedBlocks bytes.new.items handles.new.items total }
     ensures blocks { blocks_at bytes.new.items handles.new.items ≡ blocks_at bytes.old.items handles.old.items }
-    ensures others { OthersEndBy tail.new handles.new.items }
-    ensures staged { IfOk result (λ new. IsStaged bytes.new.items handles.new.items total cut tail.new (vec_capacity bytes.new) (vec_capacity handles.new) point (option_map (λ b. b.value) new)) }
+    ensures apart { AreApart handles.new.items }
+    ensures staged { IfOk result (λ new. IsStaged bytes.new.items handles.new.items total cut (vec_capacity bytes.new) (vec_capacity handles.new) point (option_map (λ b. b.value) new)) }
 {
     if total == usize::MAX {
         return Err(AllocError);
     }
-    reserve_bytes(
-        bytes,
-        handles,
-        tail,
-        needed_bytes(handles.as_slice(), point.0),
-    )?;
+    reserve_bytes(bytes, handles, needed_bytes(handles.as_slice(), point.0))?;
     let at = blocks_before(handles.as_slice(), point.0);
     if at == handles.len() {
-        stage_last(bytes, handles, tail, point.0)?;
+        stage_last(bytes, handles, point.0)?;
         return Ok(None);
     }
     let new = stage_boxed(bytes, handles, at, cut, &point)?;

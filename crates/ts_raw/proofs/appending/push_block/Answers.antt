@@ -1,10 +1,11 @@
-use Rattle.std.proofs.Common.{◌≡◌, ℕ, List, [], ◌∷◌, ◌++◌, ◌+◌, length, vec_len, take, ◌∙◌, ap, sym, subst, refl, arith, rules, SFits, w64, to_z-of_z}
+use Rattle.std.proofs.Common.{◌≡◌, ℕ, List, [], ◌∷◌, ◌++◌, ◌+◌, ◌≤◌, length, vec_len, take, ◌∙◌, ap, sym, subst, refl, arith, rules, SFits, w64, to_z-of_z}
 use Rattle.ts_core.specs.aggregates.Aggregates.{aggregate_of_one}
 use Rattle.ts_block.specs.Appending.{EndsInBlock}
 use Rattle.ts_raw.specs.declared.block_handle.BlockHandle.{BlockHandle}
-use Rattle.ts_raw.specs.CodedPoints.{coded_points, blocks_at, IsCoded, OthersEndBy}
+use Rattle.ts_raw.specs.CodedPoints.{coded_points, blocks_at, IsCoded, AreApart}
 use Rattle.ts_raw.specs.Rewriting.{IsEncoded}
-use Rattle.ts_raw.proofs.PushLemmas.{all_within, others_from, new_mark, summary_of_one}
+use Rattle.ts_raw.proofs.PushLemmas.{all_within, new_mark, summary_of_one}
+use Rattle.ts_raw.proofs.ApartLemmas.{apart_push}
 use Rattle.ts_raw.proofs.PushedBlocks.{begun, begun_points, begun_blocks}
 use Rattle.ts_raw.proofs.appending.push_block.Given.{Over}
 use Rattle.ts_raw.proofs.appending.push_block.Goals.{After-push_reserved}
@@ -23,7 +24,7 @@ handle g c = record {
 kept : (g : Over) (c : After-push_reserved g) → take (length c.args.bytes.now.items) c.begin.new.bytes.items ≡ c.args.bytes.now.items
 kept g c = ap (λ n. take n c.begin.new.bytes.items) (let n : length c.args.bytes.now.items ≡ vec_len c.args.bytes.now = omega (arith, c.args.bytes.now.ok.0) in n) ∙ c.begin.ensures.before
 
-encoded : (g : Over) (c : After-push_reserved g) → IsEncoded c.begin.new.bytes.items (handle g c) (c.args.point.now ∷ [])
+encoded : (g : Over) (c : After-push_reserved g) → IsEncoded c.len-start.result c.begin.new.bytes.items (handle g c) (c.args.point.now ∷ [])
 unfolding handle
 encoded g c =
     let new : List ℕ = c.begin.new.bytes.items in
@@ -33,7 +34,7 @@ encoded g c =
     let fits : SFits w64 c.args.point.now.1 = search rules in
     let one = c.single.ensures ∙ ap (aggregate_of_one c.args.point.now.0) (to_z-of_z fits) in
     let both = new_mark new (handle g c) (c.args.point.now ∷ []) block end refl (one ∙ summary_of_one c.args.point.now) in
-    record { handle = both.0; points_are = both.1 }
+    record { starts = omega arith; handle = both.0; points_are = both.1 }
 
 items : (g : Over) (c : After-push_reserved g) → c.push_reserved.new.self.items ≡ c.args.handles.now.items ++ handle g c ∷ []
 unfolding handle
@@ -57,10 +58,10 @@ returns-clause-blocks g c =
     ap (blocks_at c.begin.new.bytes.items) (items g at)
     ∙ begun_blocks c.args.bytes.now.items c.begin.new.bytes.items c.args.handles.now.items (handle g at) c.args.point.now c.requires.coded c.requires.later (kept g at) (encoded g at)
 
-pub returns-clause-others : goal.returns-clause-others
-returns-clause-others g c =
-    let at = (goal.at.returns-clause-others g c).After-push_reserved in
+pub returns-clause-apart : goal.returns-clause-apart
+unfolding handle
+returns-clause-apart g c =
+    let at = (goal.at.returns-clause-apart g c).After-push_reserved in
     let bytes : List ℕ = c.args.bytes.now.items in
-    let size : length bytes ≡ vec_len c.args.bytes.now = omega (arith, c.args.bytes.now.ok.0) in
-    subst (λ n. OthersEndBy n c.push_reserved.new.self.items) size
-    (subst (OthersEndBy (length bytes)) (sym (items g at)) (others_from (length bytes) c.args.handles.now.items (handle g at) (all_within bytes c.args.handles.now.items c.requires.coded.marked)))
+    let start : length bytes ≤ c.len-start.result = omega (arith, c.len-start.ensures, c.args.bytes.now.ok.0) in
+    subst AreApart (sym (items g at)) (apart_push (length bytes) c.args.handles.now.items (handle g at) c.requires.apart (all_within bytes c.args.handles.now.items c.requires.coded.marked) start)

@@ -1,19 +1,20 @@
 use Rattle.std.proofs.Common.{rules, ◌≡◌, ◌-◌, ◌<◌, ℕ, List, [], ◌∷◌, ◌++◌, length, take, vec_len, vec_capacity, ⊎_elim, sym, ap, subst, ◌∙◌, arith}
 use Rattle.ts_raw.specs.declared.block_handle.BlockHandle.{BlockHandle}
-use Rattle.ts_raw.specs.CodedPoints.{IsCoded, AllEndBefore, AllEndBy, OthersEndBy, LastGrows, CutFits, block_points_at, coded_points, blocks_at}
-use Rattle.ts_raw.proofs.PushLemmas.{others_of, others_from, all_by, all_split, parted_last, blocks_push, cut_longer, cut_more}
-use Rattle.ts_raw.proofs.PushedBlocks.{Growing, growing, set_last, grown, grown_points, grown_blocks}
+use Rattle.ts_raw.specs.CodedPoints.{IsCoded, AllEndBefore, AllEndBy, AreApart, LastGrows, CutFits, block_points_at, coded_points, blocks_at}
+use Rattle.ts_raw.proofs.PushLemmas.{all_split, parted_last, blocks_push, cut_longer, cut_more}
+use Rattle.ts_raw.proofs.ApartLemmas.{others_by}
+use Rattle.ts_raw.proofs.PushedBlocks.{Growing, growing, set_last, grown, grown_apart, grown_points, grown_blocks}
 use Rattle.ts_raw.proofs.appending.push_later.Given.{Over}
 use Rattle.ts_raw.proofs.appending.push_later.Goals.{After-index_mut}
 use Rattle.ts_raw.proofs.appending.push_later.Goals as goal
 
-last : (g : Over) (c : After-index_mut g) → Growing (vec_len c.args.bytes.now) c.args.tail c.args.handles.now.items (c.len-at.result - 1) c.index_mut.result.now
+last : (g : Over) (c : After-index_mut g) → Growing (vec_len c.args.bytes.now) c.args.handles.now.items (c.len-at.result - 1) c.index_mut.result.now
 last g c =
     let ms : List BlockHandle = c.args.handles.now.items in
-    let grows : LastGrows c.len-size.result c.args.tail c.as_slice.result.now = c.can_grow.ensures.0 (search rules) in
-    let here : LastGrows (vec_len c.args.bytes.now) c.args.tail ms = subst (λ (x : List BlockHandle). LastGrows (vec_len c.args.bytes.now) c.args.tail x) c.as_slice.ensures.value (subst (λ n. LastGrows n c.args.tail c.as_slice.result.now) c.len-size.ensures grows) in
+    let grows : LastGrows c.len.result c.as_slice.result.now = c.can_grow.ensures.0 (search rules) in
+    let here : LastGrows (vec_len c.args.bytes.now) ms = subst (λ (x : List BlockHandle). LastGrows (vec_len c.args.bytes.now) x) c.as_slice.ensures.value (subst (λ n. LastGrows n c.as_slice.result.now) c.len.ensures grows) in
     let at : c.len-at.result - 1 ≡ length ms - 1 = omega (arith, c.len-at.ensures, c.args.handles.now.ok.0) in
-    subst (Growing (vec_len c.args.bytes.now) c.args.tail ms (c.len-at.result - 1)) (sym c.index_mut.ensures.value) (growing (vec_len c.args.bytes.now) c.args.tail ms (c.len-at.result - 1) c.index_mut.result.now here at)
+    subst (Growing (vec_len c.args.bytes.now) ms (c.len-at.result - 1)) (sym c.index_mut.ensures.value) (growing (vec_len c.args.bytes.now) ms (c.len-at.result - 1) c.index_mut.result.now here at)
 
 coded : (g : Over) (c : After-index_mut g) → IsCoded c.args.bytes.now.items (take (c.len-at.result - 1) c.args.handles.now.items ++ c.index_mut.result.now ∷ [])
 coded g c = subst (IsCoded c.args.bytes.now.items) (last g c).split c.requires.coded
@@ -21,19 +22,22 @@ coded g c = subst (IsCoded c.args.bytes.now.items) (last g c).split c.requires.c
 later : (g : Over) (c : After-index_mut g) → AllEndBefore (take (c.len-at.result - 1) c.args.handles.now.items ++ c.index_mut.result.now ∷ []) c.args.point.now.0
 later g c = subst (λ (x : List BlockHandle). AllEndBefore x c.args.point.now.0) (last g c).split c.requires.later
 
-others : (g : Over) (c : After-index_mut g) → AllEndBy c.args.tail (take (c.len-at.result - 1) c.args.handles.now.items)
-others g c = others_of c.args.tail (take (c.len-at.result - 1) c.args.handles.now.items) c.index_mut.result.now (subst (OthersEndBy c.args.tail) (last g c).split c.requires.others)
+lie_apart : (g : Over) (c : After-index_mut g) → AreApart (take (c.len-at.result - 1) c.args.handles.now.items ++ c.index_mut.result.now ∷ [])
+lie_apart g c = subst AreApart (last g c).split c.requires.apart
 
 apart : (g : Over) (c : After-index_mut g) → AllEndBy c.index_mut.result.now.start (take (c.len-at.result - 1) c.args.handles.now.items)
-apart g c = all_by c.args.tail c.index_mut.result.now.start (take (c.len-at.result - 1) c.args.handles.now.items) (last g c).apart (others g c)
+apart g c =
+    let bytes : List ℕ = c.args.bytes.now.items in
+    let ms : List BlockHandle = take (c.len-at.result - 1) c.args.handles.now.items in
+    others_by bytes ms c.index_mut.result.now (parted_last bytes c.index_mut.result.now ms (coded g c).marked).0 (lie_apart g c) (omega (arith, (last g c).ends, c.args.bytes.now.ok.0))
 
 pub push_block-requires-clause-handles_spare : goal.push_block-requires-clause-handles_spare
 push_block-requires-clause-handles_spare g c =
     let ms : List BlockHandle = c.args.handles.now.items in
-    let size : length c.args.bytes.now.items ≡ c.len-size.result = omega (arith, c.len-size.ensures, c.args.bytes.now.ok.0) in
+    let size : length c.args.bytes.now.items ≡ c.len.result = omega (arith, c.len.ensures, c.args.bytes.now.ok.0) in
     ⊎_elim {C = vec_len c.args.handles.now < vec_capacity c.args.handles.now}
     (λ h.
-    let yes = c.can_grow.ensures.1 (subst (λ (x : List BlockHandle). LastGrows c.len-size.result c.args.tail x) (sym c.as_slice.ensures.value) (subst (λ n. LastGrows n c.args.tail ms) size h)) in
+    let yes = c.can_grow.ensures.1 (subst (λ (x : List BlockHandle). LastGrows c.len.result x) (sym c.as_slice.ensures.value) (subst (λ n. LastGrows n ms) size h)) in
     absurd (search (rules, yes)))
     (λ (n : length ms < vec_capacity c.args.handles.now). omega (arith, n, c.args.handles.now.ok.0)) c.requires.room
 
@@ -60,10 +64,13 @@ returns-clause-coded g c =
     subst (IsCoded c.push_last.new.bytes.items) (sym (set_last c.args.handles.now.items (c.len-at.result - 1) c.push_last.new.handle (last g a).some))
     (grown c.args.bytes.now.items c.push_last.new.bytes.items ms c.index_mut.result.now c.push_last.new.handle c.args.point.now (coded g a) (later g a) (apart g a) c.push_last.ensures.kept c.push_last.ensures.block)
 
-pub returns-clause-others : goal.returns-clause-others
-returns-clause-others g c =
-    let a = (goal.at.returns-clause-others g c).After-index_mut in
-    subst (OthersEndBy c.args.tail) (sym (set_last c.args.handles.now.items (c.len-at.result - 1) c.push_last.new.handle (last g a).some)) (others_from c.args.tail (take (c.len-at.result - 1) c.args.handles.now.items) c.push_last.new.handle (others g a))
+pub returns-clause-apart : goal.returns-clause-apart
+returns-clause-apart g c =
+    let a = (goal.at.returns-clause-apart g c).After-index_mut in
+    let bytes : List ℕ = c.args.bytes.now.items in
+    let ms : List BlockHandle = take (c.len-at.result - 1) c.args.handles.now.items in
+    subst AreApart (sym (set_last c.args.handles.now.items (c.len-at.result - 1) c.push_last.new.handle (last g a).some))
+    (grown_apart bytes c.push_last.new.bytes.items ms c.index_mut.result.now c.push_last.new.handle c.args.point.now (coded g a) (later g a) (apart g a) c.push_last.ensures.kept c.push_last.ensures.block (lie_apart g a))
 
 pub returns-clause-points : goal.returns-clause-points
 returns-clause-points g c =

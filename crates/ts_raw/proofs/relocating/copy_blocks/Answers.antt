@@ -1,6 +1,8 @@
 use Rattle.std.proofs.Common.{rules, ◌≡◌, ◌<◌, ℕ, List, [], ◌∷◌, ◌++◌, length, sym, ap, subst, ◌∙◌, arith}
 use Rattle.ts_raw.specs.declared.block_handle.BlockHandle.{BlockHandle}
-use Rattle.ts_raw.specs.CodedPoints.{block_text_at, IsBlockHandle, AreBlocks, blocks_at}
+use Rattle.ts_raw.specs.CodedPoints.{block_text_at, IsBlockHandle, AreBlocks, AreApart, blocks_at}
+use Rattle.ts_raw.proofs.ApartLemmas.{apart_push}
+use Rattle.ts_raw.proofs.PushLemmas.{all_within}
 use Rattle.ts_raw.proofs.BlockLists.{mark_at, copied_more}
 use Rattle.ts_raw.proofs.relocating.copy_blocks.Goals as goal
 
@@ -25,5 +27,6 @@ loop-handle-preserved g c =
     let both = copied_more src old new all ms c.loop-handle.handle-index n m c.requires l c.loop-handle.invariant.marked c.loop-handle.invariant.blocks (is ∙ ap (λ x. old ++ block_text_at src x) there) start end (ap (λ (x : BlockHandle). x.values) there) (ap (λ (x : BlockHandle). x.count) there) (ap (λ (x : BlockHandle). x.last) there) (ap (λ (x : BlockHandle). x.summary) there) in
     record {
       marked = subst (AreBlocks new) (sym items) both.0;
+      apart = subst AreApart (sym items) (apart_push (length old) ms n c.loop-handle.invariant.apart (all_within old ms c.loop-handle.invariant.marked) (omega arith));
       blocks = ap (blocks_at new) items ∙ both.1;
     }

@@ -1,9 +1,9 @@
 use Rattle.std.proofs.Common.{◌≡◌, ◌-◌, get_or, ℕ, List, [], ◌∷◌, ◌++◌, length, sym, ap, subst, refl, ◌∙◌, arith, is_ok, if◌then◌else◌, option_to_list}
 use Rattle.std.proofs.lemmas.Bool.{ltb-true}
 use Rattle.ts_raw.specs.declared.block_handle.BlockHandle.{BlockHandle}
-use Rattle.ts_raw.specs.CodedPoints.{block_text_at, IsBlockHandle, AreBlocks, OthersEndBy, blocks_at}
+use Rattle.ts_raw.specs.CodedPoints.{block_text_at, IsBlockHandle, AreBlocks, AreApart, blocks_at}
 use Rattle.ts_raw.proofs.PushLemmas.{parted_last}
-use Rattle.ts_raw.proofs.BlockLists.{mark_at, moved_marked, moved_blocks, moved_others}
+use Rattle.ts_raw.proofs.BlockLists.{mark_at, moved_marked, moved_blocks, moved_apart}
 use Rattle.ts_raw.proofs.relocating.move_last.Given.{Over}
 use Rattle.ts_raw.proofs.relocating.move_last.Goals.{After-unwrap-handle, After-unwrap-2}
 use Rattle.ts_raw.proofs.relocating.move_last.Goals as goal
@@ -51,7 +51,7 @@ unfolding moved
 marks_are g c = c.push.ensures.items ∙ ap (λ r. if is_ok r then c.pop.new.self.items ++ (moved g c ∷ []) else c.pop.new.self.items) c.unwrap-2.ensures
 
 start_is : (g : Over) (c : After-unwrap-2 g) → c.len-start.result ≡ length c.args.bytes.now.items
-start_is g c = omega (arith, c.len-start.ensures, c.args.bytes.now.ok.0)
+start_is g c = let e = ap length c.reserve_eighth.ensures.items in omega (arith, e, c.len-start.ensures, c.reserve_eighth.new.list.ok.0)
 
 end_is : (g : Over) (c : After-unwrap-2 g) → c.len.result ≡ length c.extend_from_within.new.self.items
 end_is g c = omega (arith, c.len.ensures, c.extend_from_within.new.self.ok.0)
@@ -73,10 +73,10 @@ returns-clause-blocks g c =
     ∙ moved_blocks c.args.bytes.now.items c.extend_from_within.new.self.items c.pop.new.self.items c.unwrap-handle.result (moved g at) (marked g a.After-unwrap-handle) (bytes_are g at) (start_is g at) (end_is g at) refl refl refl refl
     ∙ ap (blocks_at c.args.bytes.now.items) (sym (items g a.After-unwrap-handle))
 
-pub returns-clause-others : goal.returns-clause-others
+pub returns-clause-apart : goal.returns-clause-apart
 unfolding moved
-returns-clause-others g c =
-    let a = goal.at.returns-clause-others g c in
+returns-clause-apart g c =
+    let a = goal.at.returns-clause-apart g c in
     let at = a.After-unwrap-2 in
-    subst (λ n. OthersEndBy n c.push.new.self.items) (sym (start_is g at)) (subst (OthersEndBy (length c.args.bytes.now.items)) (sym (marks_are g at))
-    (moved_others c.args.bytes.now.items c.extend_from_within.new.self.items c.pop.new.self.items c.unwrap-handle.result (moved g at) (marked g a.After-unwrap-handle) (bytes_are g at) (start_is g at) (end_is g at) refl refl refl refl))
+    subst AreApart (sym (marks_are g at))
+    (moved_apart c.args.bytes.now.items c.extend_from_within.new.self.items c.pop.new.self.items c.unwrap-handle.result (moved g at) (marked g a.After-unwrap-handle) (bytes_are g at) (start_is g at) (end_is g at) refl refl refl refl (subst AreApart (items g a.After-unwrap-handle) c.requires.apart))

@@ -2,7 +2,7 @@ use Rattle.std.proofs.Common.{◌≡◌, ◌∙◌, ap, subst, ◌/◌, ℕ, ℤ
 use Rattle.ts_raw.specs.CodedPoints.{block_points_at}
 use Rattle.ts_raw.specs.Rewriting.{IsEncoded}
 use Rattle.ts_raw.proofs.BlockLists.{mark_stays}
-use Rattle.ts_raw.proofs.SplicedLemmas.{stays_encoded, few_points}
+use Rattle.ts_raw.proofs.SplicedLemmas.{stays_encoded, starts_later, few_points}
 use Rattle.ts_raw.proofs.rewriting.halve.Goals as goal
 
 pub copy_last-requires-clause-marked : goal.copy_last-requires-clause-marked
@@ -26,5 +26,5 @@ returns-clause-halves g c =
       less = omega arith;
       few = (few_points points c.requires.marked.block.points_are).0;
       first_is = stays_encoded old new c.in_ok-first.first (take (c.args.handle.now.count / 2) points) front c.in_ok-first.ensures.block;
-      second_is = subst (λ (x : List (ℤ × ℤ)). IsEncoded new c.in_ok-second.second (drop (c.args.handle.now.count / 2) x)) t.1 c.in_ok-second.ensures.block;
+      second_is = starts_later (let w = c.in_ok-first.ensures.block.handle.within in omega (arith, w, c.copy_first.new.bytes.ok.0)) (subst (λ (x : List (ℤ × ℤ)). IsEncoded (vec_len c.copy_first.new.bytes) new c.in_ok-second.second (drop (c.args.handle.now.count / 2) x)) t.1 c.in_ok-second.ensures.block);
     }

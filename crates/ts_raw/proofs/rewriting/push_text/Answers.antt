@@ -1,4 +1,4 @@
-use Rattle.std.proofs.Common.{◌≡◌, ◌∙◌, ℕ, ℤ, List, ◌++◌, length, ap, subst, arith, is_ok, if◌then◌else◌}
+use Rattle.std.proofs.Common.{◌≡◌, ◌∙◌, ℕ, ℤ, List, ◌++◌, length, vec_len, ap, subst, arith, is_ok, if◌then◌else◌}
 use Rattle.ts_block.proofs.DecodingLemmas.{one_reading}
 use Rattle.ts_raw.specs.declared.block_handle.BlockHandle.{BlockHandle}
 use Rattle.ts_raw.specs.Rewriting.{IsEncoded}
@@ -17,5 +17,5 @@ returns-clause-block g c = λ points b.
     ∙ ap (λ (x : List ℕ). x ++ text) c.reserve_eighth.ensures.items in
     let same = one_reading text c.requires.0 points c.requires.1 b in
     let m : BlockHandle = record { start = c.len-start.result; values = c.args.values; end = c.len.result; count = c.args.count; last = c.args.last; summary = c.args.summary } in
-    subst (λ (x : List (ℤ × ℤ)). IsEncoded new m x) same
-    (block_at_end old text new c.requires.0 m c.requires.1 is start end c.requires.2 c.requires.3 c.requires.4 c.requires.5)
+    subst (λ n. IsEncoded n new m points) (let n : length old ≡ vec_len c.args.bytes.now = omega (arith, c.args.bytes.now.ok.0) in n) (subst (λ (x : List (ℤ × ℤ)). IsEncoded (length old) new m x) same
+    (block_at_end old text new c.requires.0 m c.requires.1 is start end c.requires.2 c.requires.3 c.requires.4 c.requires.5))

@@ -1,7 +1,7 @@
 use Rattle.std.proofs.Common.{◌≡◌, ◌<◌, ◌≤ℤ◌, ℕ, ℤ, List, length, vec_len, take, drop, get_or, int_cmp, IfOk, sym, ap, subst, ◌∙◌, arith}
 use Rattle.std.specs.FinMap.{put}
 use Rattle.ts_raw.specs.declared.block_handle.BlockHandle.{BlockHandle}
-use Rattle.ts_raw.specs.CodedPoints.{IsBlockHandle, block_points_at, coded_points}
+use Rattle.ts_raw.specs.CodedPoints.{IsBlockHandle, LieFrom, block_points_at, coded_points}
 use Rattle.ts_raw.specs.Rewriting.{IsRewritten, blocks_of, cut_in_block}
 use Rattle.ts_raw.proofs.BlockLists.{mark_at}
 use Rattle.ts_raw.proofs.ColumnBlocks.{rewritten_if_ok, reaches}
@@ -35,5 +35,6 @@ returns-clause-rewritten g c =
     let same : put int_cmp p.0 p.1 (drop c.cut_of.result (block_points_at old c.index.result.now)) ≡ put int_cmp p.0 p.1 (drop (cut_in_block c.args.at c.args.cut) (block_points_at old (get_or ms c.args.at c.index.result.now))) =
     λ i. put int_cmp p.0 p.1 (drop (c.cut_of.ensures i) (block_points_at old (there g at i))) in
     let points = subst (λ (x : List (ℤ × ℤ)). IfOk c.rewrite.result (λ n. coded_points new (blocks_of n) ≡ x)) same c.rewrite.ensures.points in
+    let behind = subst (λ n. IfOk c.rewrite.result (λ r. LieFrom n (blocks_of r))) (let n : vec_len c.args.bytes.now ≡ length old = omega (arith, c.args.bytes.now.ok.0) in n) c.rewrite.ensures.behind in
     subst (λ (x : List BlockHandle). IfOk c.rewrite.result (λ n. IsRewritten new x c.args.cut p n)) (sym c.reserve_eighth.ensures.items)
-    (rewritten_if_ok old new ms c.args.at c.args.cut c.index.result.now p c.rewrite.result c.requires.marked c.requires.within c.requires.at c.rewrite.ensures.at c.rewrite.ensures.blocks points front)
+    (rewritten_if_ok old new ms c.args.at c.args.cut c.index.result.now p c.rewrite.result c.requires.marked c.requires.apart c.requires.within c.requires.at c.rewrite.ensures.at c.rewrite.ensures.blocks behind points front)

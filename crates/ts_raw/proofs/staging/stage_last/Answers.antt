@@ -20,9 +20,9 @@ returns-then-can_grow-clause-later g c = later g (goal.at.returns-then-can_grow-
 
 pub returns-then-can_grow-clause-room : goal.returns-then-can_grow-clause-room
 returns-then-can_grow-clause-room g c =
-    let grows : LastGrows c.len.result c.open_last.new.tail c.as_slice.result.now = c.can_grow.ensures.0 (search rules) in
+    let grows : LastGrows c.len.result c.as_slice.result.now = c.can_grow.ensures.0 (search rules) in
     let size : c.len.result ≡ length c.open_last.new.bytes.items = omega (arith, c.len.ensures, c.open_last.new.bytes.ok.0) in
-    inl (subst (λ (x : List BlockHandle). LastGrows (length c.open_last.new.bytes.items) c.open_last.new.tail x) c.as_slice.ensures.value (subst (λ n. LastGrows n c.open_last.new.tail c.as_slice.result.now) size grows))
+    inl (subst (λ (x : List BlockHandle). LastGrows (length c.open_last.new.bytes.items) x) c.as_slice.ensures.value (subst (λ n. LastGrows n c.as_slice.result.now) size grows))
 
 pub returns-clause-later : goal.returns-clause-later
 returns-clause-later g c = subst (λ (x : List BlockHandle). AllEndBefore x c.args.time) (sym c.reserve_eighth.ensures.items) (later g (goal.at.returns-clause-later g c).After-open_last)

@@ -19,12 +19,12 @@ use Rattle.ts_raw.proofs.block_column.BlockColumnColumn.commit.Goals as goal
 point_is : (g : Over) (c : After-unwrap-point g) → c.self.inside.staged ≡ Some c.unwrap-point.result
 point_is g c = sym c.take.ensures.value ∙ c.unwrap-point.ensures
 
-staged : (g : Over) (c : After-unwrap-point g) → IsStaged c.self.inside.bytes.items c.self.inside.handles.items c.self.inside.total c.self.inside.cut c.self.inside.tail (vec_capacity c.self.inside.bytes) (vec_capacity c.self.inside.handles) c.unwrap-point.result (option_map (λ b. b.value) c.self.inside.rewritten)
-staged g c = subst (λ s. IsStagedIfAny c.self.inside.bytes.items c.self.inside.handles.items c.self.inside.total c.self.inside.cut c.self.inside.tail (vec_capacity c.self.inside.bytes) (vec_capacity c.self.inside.handles) s (option_map (λ b. b.value) c.self.inside.rewritten)) (point_is g c) c.self.invariant.is_staged
+staged : (g : Over) (c : After-unwrap-point g) → IsStaged c.self.inside.bytes.items c.self.inside.handles.items c.self.inside.total c.self.inside.cut (vec_capacity c.self.inside.bytes) (vec_capacity c.self.inside.handles) c.unwrap-point.result (option_map (λ b. b.value) c.self.inside.rewritten)
+staged g c = subst (λ s. IsStagedIfAny c.self.inside.bytes.items c.self.inside.handles.items c.self.inside.total c.self.inside.cut (vec_capacity c.self.inside.bytes) (vec_capacity c.self.inside.handles) s (option_map (λ b. b.value) c.self.inside.rewritten)) (point_is g c) c.self.invariant.is_staged
 
-rewritten : (g : Over) (c : After-into_inner-new g) (s : IsStaged c.self.inside.bytes.items c.self.inside.handles.items c.self.inside.total c.self.inside.cut c.self.inside.tail (vec_capacity c.self.inside.bytes) (vec_capacity c.self.inside.handles) c.unwrap-point.result (option_map (λ b. b.value) c.self.inside.rewritten)) → IsRewritten c.self.inside.bytes.items c.self.inside.handles.items c.self.inside.cut c.unwrap-point.result c.into_inner-new.result
+rewritten : (g : Over) (c : After-into_inner-new g) (s : IsStaged c.self.inside.bytes.items c.self.inside.handles.items c.self.inside.total c.self.inside.cut (vec_capacity c.self.inside.bytes) (vec_capacity c.self.inside.handles) c.unwrap-point.result (option_map (λ b. b.value) c.self.inside.rewritten)) → IsRewritten c.self.inside.bytes.items c.self.inside.handles.items c.self.inside.cut c.unwrap-point.result c.into_inner-new.result
 rewritten g c s =
-    (subst (CanCommit c.self.inside.bytes.items c.self.inside.handles.items c.self.inside.cut c.self.inside.tail (vec_capacity c.self.inside.bytes) (vec_capacity c.self.inside.handles) c.unwrap-point.result)
+    (subst (CanCommit c.self.inside.bytes.items c.self.inside.handles.items c.self.inside.cut (vec_capacity c.self.inside.bytes) (vec_capacity c.self.inside.handles) c.unwrap-point.result)
     (ap (option_map (λ b. b.value)) (sym c.take-2.ensures.value ∙ c.in-Some.is) ∙ ap Some (sym c.into_inner-new.ensures)) s.can).0
 
 pub replace-self-inside-requires-clause-total : goal.replace-self-inside-requires-clause-total
@@ -41,13 +41,13 @@ replace-self-inside-requires-clause-few g c =
 pub invariant_of-self : goal.invariant_of-self
 invariant_of-self g c = record {
   counted = record {
-    coded = c.push_later-self-inside.ensures.coded;
-    total_is = let a = ap length c.push_later-self-inside.ensures.points in let b = length_push (coded_points c.self.inside.bytes.items c.self.inside.handles.items) c.unwrap-point.result in let t = c.self.invariant.counted.total_is in omega arith;
+    coded = c.push_later.ensures.coded;
+    total_is = let a = ap length c.push_later.ensures.points in let b = length_push (coded_points c.self.inside.bytes.items c.self.inside.handles.items) c.unwrap-point.result in let t = c.self.invariant.counted.total_is in omega arith;
   };
-  others = c.push_later-self-inside.ensures.others;
-  cut_fits = c.push_later-self-inside.ensures.cut c.self.inside.cut c.self.invariant.cut_fits;
+  apart = c.push_later.ensures.apart;
+  cut_fits = c.push_later.ensures.cut c.self.inside.cut c.self.invariant.cut_fits;
   is_staged =
-      subst (λ s. IsStagedIfAny c.push_later-self-inside.new.bytes.items c.push_later-self-inside.new.handles.items (c.self.inside.total + 1) c.self.inside.cut c.push_later-self-inside.result (vec_capacity c.push_later-self-inside.new.bytes) (vec_capacity c.push_later-self-inside.new.handles) s (option_map (λ b. b.value) c.take-2.new.self))
+      subst (λ s. IsStagedIfAny c.push_later.new.bytes.items c.push_later.new.handles.items (c.self.inside.total + 1) c.self.inside.cut (vec_capacity c.push_later.new.bytes) (vec_capacity c.push_later.new.handles) s (option_map (λ b. b.value) c.take-2.new.self))
       (sym c.take.ensures.after) tt;
 }
 
@@ -59,17 +59,15 @@ invariant_of-self-in-Some g c =
     let new : List BlockHandle = handles_replaced c.into_inner-new.result ms in
     let s = staged g a.After-unwrap-point in
     let valid : IsTime c.unwrap-point.result.0 = search rules in
-    let size : c.len-self-inside.result ≡ length bytes = omega (arith, c.len-self-inside.ensures, c.self.inside.bytes.ok.0) in
     let total : c.replace-self-inside.result ≡ length (coded_points bytes new) = c.replace-self-inside.ensures.total ∙ replaced_count bytes ms c.self.inside.total c.self.inside.cut c.unwrap-point.result c.into_inner-new.result c.self.invariant.counted c.self.invariant.cut_fits (rewritten g a.After-into_inner-new s) in
     let capacity : ℕ = vec_capacity c.self.inside.bytes in
     let handles_capacity : ℕ = vec_capacity c.replace-self-inside.new.handles in
-    let end : ℕ = c.len-self-inside.result in
     let cut : ℕ = cut_after c.into_inner-new.result.at c.self.inside.cut in
-    let column = replaced_column bytes ms c.self.inside.total c.self.inside.cut c.unwrap-point.result c.into_inner-new.result c.self.invariant.counted c.self.invariant.cut_fits (rewritten g a.After-into_inner-new s) capacity handles_capacity end (option_map (λ b. b.value) c.take-2.new.self) valid size in
-    subst (λ s. IsColumn bytes c.replace-self-inside.new.handles.items c.replace-self-inside.result c.cut_left-self-inside.result end capacity handles_capacity s (option_map (λ b. b.value) c.take-2.new.self)) (sym c.take.ensures.after)
-    (subst (λ k. IsColumn bytes c.replace-self-inside.new.handles.items c.replace-self-inside.result k end capacity handles_capacity None (option_map (λ b. b.value) c.take-2.new.self)) (sym c.cut_left-self-inside.ensures)
-    (subst (λ t. IsColumn bytes c.replace-self-inside.new.handles.items t cut end capacity handles_capacity None (option_map (λ b. b.value) c.take-2.new.self)) (sym total)
-    (subst (λ (x : List BlockHandle). IsColumn bytes x (length (coded_points bytes new)) cut end capacity handles_capacity None (option_map (λ b. b.value) c.take-2.new.self)) (sym c.replace-self-inside.ensures.handles) column)))
+    let column = replaced_column bytes ms c.self.inside.total c.self.inside.cut c.unwrap-point.result c.into_inner-new.result c.self.invariant.counted c.self.invariant.cut_fits (rewritten g a.After-into_inner-new s) capacity handles_capacity (option_map (λ b. b.value) c.take-2.new.self) valid in
+    subst (λ s. IsColumn bytes c.replace-self-inside.new.handles.items c.replace-self-inside.result c.cut_left-self-inside.result capacity handles_capacity s (option_map (λ b. b.value) c.take-2.new.self)) (sym c.take.ensures.after)
+    (subst (λ k. IsColumn bytes c.replace-self-inside.new.handles.items c.replace-self-inside.result k capacity handles_capacity None (option_map (λ b. b.value) c.take-2.new.self)) (sym c.cut_left-self-inside.ensures)
+    (subst (λ t. IsColumn bytes c.replace-self-inside.new.handles.items t cut capacity handles_capacity None (option_map (λ b. b.value) c.take-2.new.self)) (sym total)
+    (subst (λ (x : List BlockHandle). IsColumn bytes x (length (coded_points bytes new)) cut capacity handles_capacity None (option_map (λ b. b.value) c.take-2.new.self)) (sym c.replace-self-inside.ensures.handles) column)))
 
 pub returns-in-None-clause-put : goal.returns-in-None-clause-put
 returns-in-None-clause-put g c =
@@ -78,8 +76,8 @@ returns-in-None-clause-put g c =
     let ms : List BlockHandle = c.self.inside.handles.items in
     let p : ℤ × ℤ = c.unwrap-point.result in
     let s = staged g a.After-unwrap-point in
-    let can : CanCommit bytes ms c.self.inside.cut c.self.inside.tail (vec_capacity c.self.inside.bytes) (vec_capacity c.self.inside.handles) p None = subst (CanCommit bytes ms c.self.inside.cut c.self.inside.tail (vec_capacity c.self.inside.bytes) (vec_capacity c.self.inside.handles) p) (ap (option_map (λ b. b.value)) (sym c.take-2.ensures.value ∙ c.in-None.is)) s.can in
-    rw (← c.self.view_is, point_is g a.After-unwrap-point, c.push_later-self-inside.ensures.points)
+    let can : CanCommit bytes ms c.self.inside.cut (vec_capacity c.self.inside.bytes) (vec_capacity c.self.inside.handles) p None = subst (CanCommit bytes ms c.self.inside.cut (vec_capacity c.self.inside.bytes) (vec_capacity c.self.inside.handles) p) (ap (option_map (λ b. b.value)) (sym c.take-2.ensures.value ∙ c.in-None.is)) s.can in
+    rw (← c.self.view_is, point_is g a.After-unwrap-point, c.push_later.ensures.points)
     (appended_map (coded_points bytes ms) c.self.inside.cut p c.self.invariant.counted.coded.rising (coded_less bytes p.0 ms c.self.invariant.counted.coded.marked can.0) (cut_within bytes ms c.self.inside.cut c.self.invariant.cut_fits))
 
 pub returns-in-Some-clause-put : goal.returns-in-Some-clause-put

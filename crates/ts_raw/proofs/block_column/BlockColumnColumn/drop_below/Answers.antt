@@ -16,13 +16,13 @@ use Rattle.ts_raw.proofs.block_column.BlockColumnColumn.drop_below.Goals as goal
 pub remove_front-self-inside-requires-clause-total : goal.remove_front-self-inside-requires-clause-total
 remove_front-self-inside-requires-clause-total g c = c.self.invariant.counted.total_is ∙ sym (counts_are c.self.inside.bytes.items c.self.inside.handles.items c.self.invariant.counted.coded.marked)
 
-column : (g : Over) (c : After-position-at g) (m : ℕ) → IsColumn c.self.inside.bytes.items (drop c.position-at.result.0 c.self.inside.handles.items) (length (coded_points c.self.inside.bytes.items (drop c.position-at.result.0 c.self.inside.handles.items))) c.position-at.result.1 c.self.inside.tail (vec_capacity c.self.inside.bytes) m None None
+column : (g : Over) (c : After-position-at g) (m : ℕ) → IsColumn c.self.inside.bytes.items (drop c.position-at.result.0 c.self.inside.handles.items) (length (coded_points c.self.inside.bytes.items (drop c.position-at.result.0 c.self.inside.handles.items))) c.position-at.result.1 (vec_capacity c.self.inside.bytes) m None None
 column g c m =
     let ms : List BlockHandle = c.self.inside.handles.items in
     let at : ℕ = c.position-at.result.0 in
     let cut : CutFits c.position-at.result.1 (blocks_at c.self.inside.bytes.items (drop at ms)) =
     subst (λ (x : List ℕ). CutFits c.position-at.result.1 (blocks_at x (drop at ms))) c.as_slice.ensures.value (subst (λ (x : List BlockHandle). CutFits c.position-at.result.1 (blocks_at c.as_slice.result.now (drop at x))) c.as_slice-2.ensures.value c.position-at.ensures.cut) in
-    dropped_column c.self.inside.bytes.items ms c.self.inside.total c.position-at.result.1 at c.self.inside.tail (vec_capacity c.self.inside.bytes) m None c.self.invariant.counted c.self.invariant.others cut
+    dropped_column c.self.inside.bytes.items ms c.self.inside.total c.position-at.result.1 at (vec_capacity c.self.inside.bytes) m None c.self.invariant.counted c.self.invariant.apart cut
 
 pub invariant_of-self-2 : goal.invariant_of-self-2
 invariant_of-self-2 g c =
@@ -32,8 +32,8 @@ invariant_of-self-2 g c =
     let capacity : ℕ = vec_capacity c.self.inside.bytes in
     let handles_capacity : ℕ = vec_capacity c.remove_front-self-inside.new.handles in
     let total : c.remove_front-self-inside.result ≡ length (coded_points bytes rest) = c.remove_front-self-inside.ensures.total ∙ rest_count bytes c.position-at.result.0 c.self.inside.handles.items c.self.invariant.counted.coded.marked in
-    subst (λ t. IsColumn bytes c.remove_front-self-inside.new.handles.items t c.position-at.result.1 c.self.inside.tail capacity handles_capacity None None) (sym total)
-    (subst (λ (x : List BlockHandle). IsColumn bytes x (length (coded_points bytes rest)) c.position-at.result.1 c.self.inside.tail capacity handles_capacity None None) (sym c.remove_front-self-inside.ensures.handles) (column g a.After-position-at handles_capacity))
+    subst (λ t. IsColumn bytes c.remove_front-self-inside.new.handles.items t c.position-at.result.1 capacity handles_capacity None None) (sym total)
+    (subst (λ (x : List BlockHandle). IsColumn bytes x (length (coded_points bytes rest)) c.position-at.result.1 capacity handles_capacity None None) (sym c.remove_front-self-inside.ensures.handles) (column g a.After-position-at handles_capacity))
 
 left : (g : Over) (c : After-position-at g) → drop c.position-at.result.1 (coded_points c.self.inside.bytes.items (drop c.position-at.result.0 c.self.inside.handles.items)) ≡ filter (λ (p : ℤ × ℤ). int_le c.args.mark p.0) (drop c.self.inside.cut (coded_points c.self.inside.bytes.items c.self.inside.handles.items))
 left g c =
