@@ -84,7 +84,7 @@ mark_stays old new m front h =
 
 -- ---- blocks that are copied
 
-text_size : (bytes : List ℕ) (m : BlockHandle) → m.start < m.end → m.end ≤ length bytes → length (block_text_at bytes m) ≡ m.end - m.start
+pub text_size : (bytes : List ℕ) (m : BlockHandle) → m.start < m.end → m.end ≤ length bytes → length (block_text_at bytes m) ≡ m.end - m.start
 text_size bytes m s h = length-take-le (m.end - m.start) (drop m.start bytes) (let e = length-drop m.start bytes in omega arith)
 
 -- the bytes of a block at the end of others

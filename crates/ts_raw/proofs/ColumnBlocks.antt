@@ -31,7 +31,7 @@ use Rattle.ts_raw.proofs.PointMaps.{rising-put, timed-put, from_sorted-put}
 use Rattle.ts_raw.proofs.PointRanges.{drop-before}
 use Rattle.ts_raw.proofs.PushLemmas.{none_counted, coded_less, all_within}
 use Rattle.ts_raw.proofs.ApartLemmas.{apart_behind, apart_replaced}
-use Rattle.ts_raw.proofs.BlockLists.{mark_at, mark_stays, take_next}
+use Rattle.ts_raw.proofs.BlockLists.{mark_at, mark_stays, take_next, counted_again}
 use Rattle.ts_block.proofs.SplicingLemmas.{put_after}
 use Rattle.ts_raw.proofs.RewriteLemmas.{counts_are, count_front, coded_join, rising_first, put_within, last_after_drop, length_put}
 use Rattle.ts_raw.proofs.SplicedLemmas.{few_points}
@@ -467,6 +467,16 @@ dropped_column bytes ms total cut at capacity handles_capacity new c o f =
     timed_rest : (ps qs : List (ℤ × ℤ)) → AreTimed (ps ++ qs) → AreTimed qs
     timed_rest [] qs h = h
     timed_rest (p ∷ ps) qs h = timed_rest ps qs h.1
+
+-- the same blocks elsewhere
+pub column_again : (old new : List ℕ) (ms ns : List BlockHandle) (total cut capacity handles_capacity capacity_now handles_capacity_now : ℕ) (r : Option Rewritten) → IsColumn old ms total cut capacity handles_capacity None r → AreBlocks new ns → AreApart ns → blocks_at new ns ≡ blocks_at old ms
+    → IsColumn new ns total cut capacity_now handles_capacity_now None r
+column_again old new ms ns total cut capacity handles_capacity capacity_now handles_capacity_now r h marked apart same = record {
+  counted = counted_again old new ms ns total h.counted marked same;
+  apart = apart;
+  cut_fits = subst (CutFits cut) (sym same) h.cut_fits;
+  is_staged = tt;
+}
 
 pub cut_at_later : (at cut : ℕ) → (at ≡ 0 → ⊥) → (0 ≡ cut_in_block at cut) × (cut ≡ cut_after at cut)
 cut_at_later zero cut n = absurd (n refl)

@@ -1,6 +1,7 @@
 //! Copies coded blocks: the last one to the end of the bytes, where it can grow, or all into new bytes without gaps.
 ghost use Rattle.std.specs.Prelude.{◌≡◌, ◌+◌, ◌≤◌, vec_len, vec_capacity, IfOk, OnOk};
 ghost use Rattle.ts_raw.specs.CodedPoints.{AreBlocks, AreApart, blocks_at};
+ghost use Rattle.ts_raw.specs.Sliding.{bytes_in_blocks};
 
 use crate::block_handle::BlockHandle;
 use crate::walk::text_of;
@@ -62,7 +63,9 @@ fn copy_blocks<A: Allocator + Copy>(
 }
 
 /// Returns the number of bytes of all blocks.
-fn blocks_size(handles: &[BlockHandle]) -> usize {
+pub(crate) fn blocks_size(handles: &[BlockHandle]) -> usize
+    ensures { result ≤ bytes_in_blocks handles.now }
+{
     let mut size: usize = 0;
     for handle in handles {
         size = size.saturating_add(handle.end.saturating_sub(handle.start));

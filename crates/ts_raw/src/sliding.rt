@@ -1,0 +1,93 @@
+//! Slides coded blocks down in place, so that no bytes lie between them.
+ghost use Rattle.std.specs.Prelude.{◌≡◌, ◌≤◌, ◌*◌, length, None, IfSome};
+ghost use Rattle.ts_raw.specs.CodedPoints.{AreBlocks, AreApart, blocks_at};
+ghost use Rattle.ts_raw.specs.Sliding.{IsNext, AllStartBefore, bytes_in_blocks};
+
+use crate::block_handle::BlockHandle;
+use crate::relocating::blocks_size;
+use std::alloc::Allocator;
+
+/// Searches for the first block in the bytes that starts at an offset or after it. Returns its index.
+#[cold]
+fn search_next(handles: &[BlockHandle], from: usize) -> Option<usize>
+    ensures next { IfSome result (λ at. IsNext from handles.now at) }
+    ensures none { result ≡ None → AllStartBefore from handles.now }
+{
+    let mut next: Option<(usize, usize)> = None;
+    for (at, handle) in handles.iter().enumerate() {
+        if handle.start < from {
+            continue;
+        }
+        match next {
+            None => next = Some((at, handle.start)),
+            Some((_, start)) => {
+                if handle.start < start {
+                    next = Some((at, handle.start));
+                }
+            }
+        }
+    }
+    let (at, _) = next?;
+    Some(at)
+}
+
+/// Returns the index of the first block in the bytes that starts at an offset or after it. Tries the index `guess`
+/// first: blocks that were appended follow one another.
+fn next_block(handles: &[BlockHandle], from: usize, guess: usize) -> Option<usize>
+    ensures next { IfSome result (λ at. IsNext from handles.now at) }
+    ensures none { result ≡ None → AllStartBefore from handles.now }
+{
+    match handles.get(guess) {
+        Some(handle) if handle.start == from => Some(guess),
+        _ => search_next(handles, from),
+    }
+}
+
+/// Slides the blocks down in place, in the order of their bytes, so that no bytes lie between them, and releases unused
+/// capacity. Needs no memory.
+#[cold]
+fn slide<A: Allocator>(bytes: &mut Vec<u8, A>, handles: &mut Vec<BlockHandle, A>)
+    requires marked { AreBlocks bytes.old.items handles.old.items }
+    requires apart { AreApart handles.old.items }
+    ensures marked { AreBlocks bytes.new.items handles.new.items }
+    ensures apart { AreApart handles.new.items }
+    ensures blocks { blocks_at bytes.new.items handles.new.items ≡ blocks_at bytes.old.items handles.old.items }
+    ensures packed { length bytes.new.items ≤ bytes_in_blocks handles.new.items }
+{
+    let mut from = 0;
+    let mut to = 0;
+    let mut guess = 0;
+    while let Some(at) = next_block(handles.as_slice(), from, guess) {
+        let handle = handles[at];
+        let end = to + (handle.end - handle.start);
+        bytes
+            .as_mut_slice()
+            .copy_within(handle.start..handle.end, to);
+        handles[at] = BlockHandle {
+            start: to,
+            end,
+            ..handle
+        };
+        from = handle.end;
+        to = end;
+        guess = at + 1;
+    }
+    bytes.truncate(to);
+    bytes.shrink_to_fit();
+    handles.shrink_to_fit();
+}
+
+/// Slides the blocks down if more bytes are of no block than of blocks. Needs no memory.
+pub(crate) fn pack<A: Allocator>(bytes: &mut Vec<u8, A>, handles: &mut Vec<BlockHandle, A>)
+    requires marked { AreBlocks bytes.old.items handles.old.items }
+    requires apart { AreApart handles.old.items }
+    ensures marked { AreBlocks bytes.new.items handles.new.items }
+    ensures apart { AreApart handles.new.items }
+    ensures blocks { blocks_at bytes.new.items handles.new.items ≡ blocks_at bytes.old.items handles.old.items }
+    ensures few_dead { length bytes.new.items ≤ 2 * bytes_in_blocks handles.new.items }
+{
+    let used = blocks_size(handles.as_slice());
+    if bytes.len().saturating_sub(used) > used {
+        slide(bytes, handles);
+    }
+}
