@@ -18,6 +18,7 @@ pub mod NameFacts
 pub mod LineLemmas
 -- TagParts, Fields, NameFilters: tag by tag, field by field
 pub mod TagLemmas
+pub mod KeyLemmas
 pub mod FieldLemmas
 pub mod MarkLemmas
 pub mod StepsPutLemmas

@@ -1,5 +1,5 @@
 -- The tags of a line. (InfluxData 1.8, line protocol reference, tag set; own limits and refusals.)
-use Rattle.std.specs.Prelude.{ℕ, zero, suc, ◌+◌, List, [], ◌∷◌, ◌++◌, length, Bool, not, ◌||◌, ◌==◌, nat_le, if◌then◌else◌, slice_index, Result, Ok, Err, bytes_eq, codes}
+use Rattle.std.specs.Prelude.{ℕ, zero, suc, ◌+◌, List, [], ◌∷◌, ◌++◌, length, Bool, not, ◌||◌, ◌==◌, nat_le, if◌then◌else◌, slice_index, Result, Ok, Err, bytes_eq, codes, ⊤}
 use Rattle.std.specs.List.{list_any}
 use Rattle.ts_core.specs.facts.Facts.{Text}
 use Rattle.ts_line.specs.declared.fault.LineFault.{LineFault}
@@ -22,6 +22,12 @@ pair_at line start =
 
 abbrev pub has_key : List (LinePart × LinePart) → Text → Bool
 has_key tags key = list_any (λ t. bytes_eq t.0.text key) tags
+
+-- checks the key of the tag at `start`, after the tags `before`
+abbrev pub checked_key : List (LinePart × LinePart) → Text → ℕ → Result ⊤ LineFault
+checked_key before key start =
+    if bytes_eq key (codes "time") then Err (fault_at ReservedKey start) else
+    (if has_key before key then Err (fault_at RepeatedTagKey start) else Ok tt)
 
 -- the tag at `start`, after the tags `before`
 unfoldable pub next_tag : List (LinePart × LinePart) → Text → ℕ → Result ((LinePart × LinePart) × ℕ) LineFault

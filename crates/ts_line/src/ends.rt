@@ -5,7 +5,7 @@ ghost use Rattle.std.specs.Str.{IsCharBoundary};
 ghost use Rattle.ts_core.specs.facts.TimeUnits.{nanoseconds_of};
 ghost use Rattle.ts_core.specs.text.Cursors.{IsOffsetFrom};
 ghost use Rattle.ts_line.specs.declared.scan.Stops.TheVariants.{Equals};
-ghost use Rattle.ts_line.specs.Ends.{EndsAs, EndsAsPair, pairs_at, time_only, fault_if_any};
+ghost use Rattle.ts_line.specs.Ends.{EndsAs, pairs_at, time_only, fault_if_any};
 ghost use Rattle.ts_line.specs.Fields.{next_field, fields_at};
 ghost use Rattle.ts_line.specs.Lines.{measurement_at, parts_at, line_of};
 ghost use Rattle.ts_line.specs.PartTexts.{unescaped};
@@ -17,6 +17,7 @@ use crate::line::TAG_LIMIT;
 use crate::part::have_same_text;
 use crate::read::{KEY_LIMIT, LINE_LIMIT, content, time};
 use crate::scan::{Stops, after_spaces, end_at};
+use crate::tag::pair_ends;
 use ts_core::{Time, TimeUnit, after, byte_at};
 
 /// Finds the first error of a line, if it has one. Does not allocate.
@@ -72,26 +73,6 @@ fn measurement_end(line: &str, start: usize) -> Result<usize, LineFault>
     Ok(end)
 }
 
-/// Finds the ends of the key and of the value of the tag at `start`. Fails with `BadTag`.
-#[tactic(auto, unfolding(crate::specs::TagParts::pair_at))]
-fn pair_ends(line: &str, start: usize) -> Result<(usize, usize), LineFault>
-    requires { IsCharBoundary line.now start }
-    ensures value { EndsAsPair line.now start result }
-    ensures key { IfOk result (λ x. IsOffsetFrom line.now start x.0) }
-    ensures offset { IfOk result (λ x. IsOffsetFrom line.now start x.1) }
-{
-    let key_end = end_at(line, start, Stops::Equals).at;
-    if key_end == start || byte_at(line, key_end) != b'=' {
-        return Err(LineFaultKind::BadTag.at(start));
-    }
-    let value_start = after(line, key_end);
-    let value_end = end_at(line, value_start, Stops::Equals).at;
-    if value_end == value_start || byte_at(line, value_end) == b'=' {
-        return Err(LineFaultKind::BadTag.at(start));
-    }
-    Ok((key_end, value_end))
-}
-
 /// Returns true if one of the first `count` tags from `first` has the key that `key` spells.
 fn has_key(line: &str, first: usize, count: usize, key: &str) -> bool
     requires { IsCharBoundary line.now first }
@@ -106,10 +87,10 @@ fn has_key(line: &str, first: usize, count: usize, key: &str) -> bool
         let Ok((key_end, end)) = pair_ends(line, start) else {
             return false;
         };
-        if have_same_text(&line[start..key_end], key) {
+        if have_same_text(&line[start..key_end.at], key) {
             return true;
         }
-        at = end;
+        at = end.at;
     }
     false
 }
@@ -129,14 +110,14 @@ fn tag_end(line: &str, first: usize, count: usize, start: usize) -> Result<usize
     if count >= TAG_LIMIT {
         return Err(LineFaultKind::OverLimit.at(start));
     }
-    let key = &line[start..key_end];
+    let key = &line[start..key_end.at];
     if have_same_text(key, "time") {
         return Err(LineFaultKind::ReservedKey.at(start));
     }
     if has_key(line, first, count, key) {
         return Err(LineFaultKind::RepeatedTagKey.at(start));
     }
-    Ok(end)
+    Ok(end.at)
 }
 
 /// Finds the end of the tags from `start`, or their first error.

@@ -1,17 +1,19 @@
 //! Parses the tags of a line: at most 64, with distinct keys.
-ghost use Rattle.std.specs.Prelude.{◌≡◌, ◌<◌, ◌≤◌, ◌+◌, ◌++◌, ◌∷◌, length, [], IfOk, false, true, slice_index_or};
+ghost use Rattle.std.specs.Prelude.{◌≡◌, ◌<◌, ◌≤◌, ◌+◌, ◌++◌, ◌∷◌, length, [], IfOk, false, true, slice_index, slice_index_or};
 ghost use Rattle.std.specs.Str.{IsCharBoundary};
 ghost use Rattle.ts_core.specs.text.Cursors.{IsOffsetFrom};
 ghost use Rattle.ts_line.specs.ReadSteps.{GivesIfMemory};
 ghost use Rattle.ts_line.specs.NameFilters.{AreKeysInFilter, filter_slot};
-ghost use Rattle.ts_line.specs.TagParts.{has_key, next_tag, tags_at};
+ghost use Rattle.ts_line.specs.declared.scan.Stops.TheVariants.{Equals};
+ghost use Rattle.ts_line.specs.Ends.{EndsAsPair, IsPartEnd};
+ghost use Rattle.ts_line.specs.TagParts.{has_key, checked_key, next_tag, tags_at};
 ghost use Rattle.ts_line.specs.StepsPut.{PushesNextTag};
 
-use crate::fault::{LineFaultKind, ReadLineError};
+use crate::fault::{LineFault, LineFaultKind, ReadLineError};
 use crate::line::{TAG_LIMIT, Tag};
 use crate::name_filter::filter_slot;
 use crate::part::part_at;
-use crate::scan::{Stops, end_at};
+use crate::scan::{End, Stops, end_at};
 use std::alloc::Allocator;
 use ts_core::{after, byte_at};
 
@@ -38,9 +40,54 @@ fn is_repeated<A: Allocator>(marks: &mut [bool; 64], tags: &[Tag<'_, A>], key: &
     was_set && has_key(tags, key)
 }
 
+/// Checks the key of the tag at `start`, after the tags `before`, and sets its slot in `marks`. Fails with `ReservedKey`
+/// or `RepeatedTagKey`.
+fn check_key<A: Allocator>(
+    marks: &mut [bool; 64],
+    before: &[Tag<'_, A>],
+    key: &str,
+    start: usize,
+) -> Result<(), LineFault>
+    requires { AreKeysInFilter marks.old before.now }
+    ensures value { result ≡ checked_key before.now key.now start }
+    ensures key { slice_index_or marks.new (filter_slot key.now) false ≡ true }
+    ensures tags { AreKeysInFilter marks.new before.now }
+{
+    let repeated = is_repeated(marks, before, key);
+    if key == "time" {
+        return Err(LineFaultKind::ReservedKey.at(start));
+    }
+    if repeated {
+        return Err(LineFaultKind::RepeatedTagKey.at(start));
+    }
+    Ok(())
+}
+
+/// Finds the ends of the key and of the value of the tag at `start`. Fails with `BadTag`.
+#[tactic(auto, unfolding(crate::specs::TagParts::pair_at))]
+#[inline]
+pub(crate) fn pair_ends(line: &str, start: usize) -> Result<(End, End), LineFault>
+    requires { IsCharBoundary line.now start }
+    ensures value { EndsAsPair line.now start result }
+    ensures key { IfOk result (λ x. IsPartEnd Equals line.now start x.0) }
+    ensures equals { IfOk result (λ x. slice_index line.now x.0.at ≡ 61) }
+    ensures rest { IfOk result (λ x. IsPartEnd Equals line.now (x.0.at + 1) x.1) }
+{
+    let key_end = end_at(line, start, Stops::Equals);
+    if key_end.at == start || byte_at(line, key_end.at) != b'=' {
+        return Err(LineFaultKind::BadTag.at(start));
+    }
+    let value_start = after(line, key_end.at);
+    let value_end = end_at(line, value_start, Stops::Equals);
+    if value_end.at == value_start || byte_at(line, value_end.at) == b'=' {
+        return Err(LineFaultKind::BadTag.at(start));
+    }
+    Ok((key_end, value_end))
+}
+
 /// Parses the tag at `start`, after the tags `before`; returns it and the offset after it. `marks` is a filter over the
 /// keys. Allocates only for escapes. Fails with `BadTag`, `OverLimit`, `ReservedKey` or `RepeatedTagKey`.
-#[tactic(auto, unfolding(crate::specs::TagParts::pair_at, crate::specs::TagParts::next_tag))]
+#[tactic(auto, unfolding(crate::specs::TagParts::next_tag))]
 fn next<'a, A: Allocator + Copy>(
     alloc: A,
     before: &[Tag<'a, A>],
@@ -55,26 +102,19 @@ fn next<'a, A: Allocator + Copy>(
     ensures offset { IfOk result (λ x. IsOffsetFrom line.now (start + 1) x.1) }
     ensures spare { IfOk result (λ _. length before.now < 64) }
 {
-    let key_end = end_at(line, start, Stops::Equals);
-    if key_end.at == start || byte_at(line, key_end.at) != b'=' {
-        return Err(ReadLineError::Fault(LineFaultKind::BadTag.at(start)));
-    }
-    let value_start = after(line, key_end.at);
-    let value_end = end_at(line, value_start, Stops::Equals);
-    if value_end.at == value_start || byte_at(line, value_end.at) == b'=' {
-        return Err(ReadLineError::Fault(LineFaultKind::BadTag.at(start)));
-    }
+    let (key_end, value_end) = pair_ends(line, start)?;
     if before.len() >= TAG_LIMIT {
         return Err(ReadLineError::Fault(LineFaultKind::OverLimit.at(start)));
     }
     let key = part_at(alloc, line, start, key_end, Stops::Equals)?;
-    if key.text() == "time" {
-        return Err(ReadLineError::Fault(LineFaultKind::ReservedKey.at(start)));
-    }
-    if is_repeated(marks, before, key.text()) {
-        return Err(ReadLineError::Fault(LineFaultKind::RepeatedTagKey.at(start)));
-    }
-    let value = part_at(alloc, line, value_start, value_end, Stops::Equals)?;
+    check_key(marks, before, key.text(), start)?;
+    let value = part_at(
+        alloc,
+        line,
+        after(line, key_end.at),
+        value_end,
+        Stops::Equals,
+    )?;
     Ok((Tag::new(key, value), value_end.at))
 }
 

@@ -12,8 +12,8 @@ pub loop-preserved : goal.loop-preserved
 loop-preserved c =
     let line = c.args.line.now in
     let at = c.loop.at in
-    let key_end = c.in-Ok.key_end in
-    let end = c.in-Ok.end in
+    let key_end = c.in-Ok.key_end.at in
+    let end = c.in-Ok.end.at in
     let key = unescaped Equals c.args.key.now in
     let left = c.args.count - (c.loop.counter + 1) in
     let back : c.args.count - c.loop.counter ≡ left + 1 = omega (arith, c.loop-test.true) in
@@ -23,6 +23,6 @@ loop-preserved c =
     let raw : c.range.result.now ≡ slice_range line (at + 1) key_end = rw (← c.after-start.ensures.value) c.range.ensures.value in
     let other : bytes_eq t.0.text key ≡ false = ap (λ (x : Text). bytes_eq (unescaped Equals x) key) (sym raw) ∙ sym c.have_same_text.ensures ∙ c.if-have_same_text.false in
     record {
-      boundary = c.in-Ok.ensures.offset.boundary;
+      boundary = c.in-Ok.ensures.rest.offset.boundary;
       value = sym (ap (λ n. has_key (pairs_at n line at) key) back ∙ key_step left line at key (t, end) comma read ∙ ap (λ b. b || has_key (pairs_at left line end) key) other) ∙ c.loop.invariant.value;
     }

@@ -11,8 +11,8 @@ use Rattle.ts_line.proofs.ends.tag_end.Goals as goal
 pub returns-clause-value : goal.returns-clause-value
 returns-clause-value c =
     let line = c.args.line.now in
-    let key_end = c.in_ok-key_end.key_end in
-    let end = c.in_ok-key_end.end in
+    let key_end = c.in_ok-key_end.key_end.at in
+    let end = c.in_ok-key_end.end.at in
     let before : List (LinePart × LinePart) = pairs_at c.args.count line c.args.first in
     let raw : c.range-key.result.now ≡ slice_range line c.args.start key_end = c.range-key.ensures.value in
     let few : length before < 64 = omega (arith, c.requires.count, c.if-count-ge-TAG_LIMIT.false) in
