@@ -50,8 +50,8 @@ pub record IsSearch (points : List (ℤ × ℤ)) (time : ℤ) (first : ℤ) (all
   pub first_is : first ≡ first_or point.0 earlier
   pub before_is : before ≡ last_time earlier
   pub at : AreAt (suc (length later)) now steps rest point later
-  pub steps_end : at.behind_steps ≡ all_values
-  pub values_end : at.behind_values ≡ []
+  pub steps_end : at.beyond_steps ≡ all_values
+  pub values_end : at.beyond_values ≡ []
   pub all : all_values ≡ values_text (values_of points)
   pub up_to : all_steps ≡ steps_of earlier ++ from
   pub and_own : all_steps ≡ steps_of (earlier ++ point ∷ []) ++ steps
@@ -82,9 +82,9 @@ module _ (block : List ℕ) (p : ℤ × ℤ) (ps : List (ℤ × ℤ)) (b : IsBlo
           valid = b.points_are.1;
           later = b.points_are.2;
           values_are = b.points_are.3;
-          behind_steps = take (length block - values) (drop values block);
+          beyond_steps = take (length block - values) (drop values block);
           steps_spelled = h.2 ∙ ap (λ (x : List ℕ). steps_text p.0 (times_of ps) ++ x) (sym rest_values);
-          behind_values = [];
+          beyond_values = [];
           values_spelled = rest_values ∙ sym (append-nil (values_text (values_of (p ∷ ps))));
         };
         steps_end = refl;
@@ -117,18 +117,18 @@ module _ (points : List (ℤ × ℤ)) (time first : ℤ) (all_steps all_values :
   module _ (n : ℕ) (vs : List ℕ) (value : Ok (n, vs) ≡ number_at rest) (u : ℤ) (ss : List ℕ) (step : Ok (u, ss) ≡ step_at now steps) (index_next : ℕ) (next : index_next ≡ index + 1) (earlier_than : now <ℤ time) where
     go_on : (xs : List (ℤ × ℤ)) (q : ℤ × ℤ) (later : List (ℤ × ℤ)) → 0 < length later
         → points ≡ xs ++ q ∷ later → index ≡ length xs → first ≡ first_or q.0 xs → (at : AreAt (suc (length later)) now steps rest q later)
-        → at.behind_steps ≡ all_values → at.behind_values ≡ [] → all_values ≡ values_text (values_of points) → all_steps ≡ steps_of (xs ++ q ∷ []) ++ steps → AllByRecursion (λ (p : ℤ × ℤ). p.0 <ℤ time) xs
+        → at.beyond_steps ≡ all_values → at.beyond_values ≡ [] → all_values ≡ values_text (values_of points) → all_steps ≡ steps_of (xs ++ q ∷ []) ++ steps → AllByRecursion (λ (p : ℤ × ℤ). p.0 <ℤ time) xs
         → IsSearch points time first all_steps all_values index_next now u steps ss vs
     unfolding steps_text
     go_on xs q [] l cut i f at se ve all own passed = absurd (omega arith)
     go_on xs q (y ∷ ys) l cut i f at se ve all own passed =
         let left : ℕ = suc (length (y ∷ ys)) in
-        let sx : List ℕ = steps_text y.0 (times_of ys) ++ at.behind_steps in
-        let vx : List ℕ = values_text (values_of (y ∷ ys)) ++ at.behind_values in
+        let sx : List ℕ = steps_text y.0 (times_of ys) ++ at.beyond_steps in
+        let vx : List ℕ = values_text (values_of (y ∷ ys)) ++ at.beyond_values in
         let a = ok_is (u, ss) (y.0, sx) (step ∙ step_here left now steps rest q y ys at) in
         let b = ok_is (n, vs) (zigzag q.1, vx) (value ∙ value_here left now steps rest q (y ∷ ys) at) in
         let steps_are : ss ≡ sx = ap (λ (x : ℤ × List ℕ). x.1) a in
-        let spelled : steps ≡ number_text (step_between q.0 y.0) ++ ss = at.steps_spelled ∙ append_assoc (number_text (step_between q.0 y.0)) (steps_text y.0 (times_of ys)) at.behind_steps ∙ ap (λ (x : List ℕ). number_text (step_between q.0 y.0) ++ x) (sym steps_are) in
+        let spelled : steps ≡ number_text (step_between q.0 y.0) ++ ss = at.steps_spelled ∙ append_assoc (number_text (step_between q.0 y.0)) (steps_text y.0 (times_of ys)) at.beyond_steps ∙ ap (λ (x : List ℕ). number_text (step_between q.0 y.0) ++ x) (sym steps_are) in
         record {
           earlier = xs ++ q ∷ [];
           point = y;
@@ -143,9 +143,9 @@ module _ (points : List (ℤ × ℤ)) (time first : ℤ) (all_steps all_values :
             valid = at.later.1;
             later = at.later.2;
             values_are = at.values_are.1;
-            behind_steps = at.behind_steps;
+            beyond_steps = at.beyond_steps;
             steps_spelled = steps_are;
-            behind_values = at.behind_values;
+            beyond_values = at.beyond_values;
             values_spelled = ap (λ (x : ℕ × List ℕ). x.1) b;
           };
           steps_end = se;

@@ -85,7 +85,7 @@ passed_last : (t : ℤ) (x : ℤ × ℤ) (xs : List (ℤ × ℤ)) → AllByRecur
 passed_last t x [] h = h.0
 passed_last t x (y ∷ xs) h = passed_last t y xs h.1
 
--- another point in the place of those behind xs
+-- another point in the place of those after xs
 points_with : (xs : List (ℤ × ℤ)) (q : ℤ × ℤ) (ys : List (ℤ × ℤ)) → ArePoints (xs ++ q ∷ ys) → (p : ℤ × ℤ) (zs : List (ℤ × ℤ)) → length xs + length zs < 256 → AllByRecursion (λ (r : ℤ × ℤ). r.0 <ℤ p.0) xs → IsTime p.0 → FitsSigned w64 p.1
     → AreLater p.0 (times_of zs) → AreValues (values_of zs) → ArePoints (xs ++ p ∷ zs)
 points_with [] q ys h p zs few passed is fits later vals = (omega arith, is, later, (fits, vals))
@@ -214,8 +214,8 @@ module _ (points : List (ℤ × ℤ)) (are : ArePoints points) (t v : ℤ) (limi
       subst (λ z. t ≤ℤ z) (ap last_time pl.cut ∙ last_joined e q l ∙ ap (λ (x : List (ℤ × ℤ)). last_of q.0 (times_of x)) none) r)
       (cases_lt place.index limit)
 
-  pub behind : 0 < place.index → place.before <ℤ t
-  behind some = earlier_before e pl.index_is pl.before_is pl.passed
+  pub after : 0 < place.index → place.before <ℤ t
+  after some = earlier_before e pl.index_is pl.before_is pl.passed
     where
       earlier_before : (xs : List (ℤ × ℤ)) → place.index ≡ length xs → place.before ≡ last_time xs → AllByRecursion (λ (r : ℤ × ℤ). r.0 <ℤ t) xs → place.before <ℤ t
       earlier_before [] i b h = absurd (omega arith)

@@ -40,7 +40,7 @@ fn push_to<A: Allocator>(
     time: Time,
 ) -> Result<(), AllocError>
     requires few { later < 256 }
-    requires behind { 0 < place.now.index → place.now.before <ℤ time }
+    requires after { 0 < place.now.index → place.now.before <ℤ time }
     ensures { OnOk result (out.new.items ≡ out.old.items ++ text_to later place.now time) }
 {
     if place.index == 0 {

@@ -89,18 +89,18 @@ fn next<'a>(rest: &'a str) -> Result<Option<(Piece, &'a str)>, &'a str>
     ensures last { IfOk result (λ next. IfNone next (rest.now ≡ codes "end\n")) }
     ensures fault { IfErr result (λ at. Stops rest.now at.now) }
 {
-    let Some((line, behind)) = cut(rest, '\n') else {
+    let Some((line, after)) = cut(rest, '\n') else {
         return Err(rest);
     };
     if line == "end" {
-        return if behind.is_empty() {
+        return if after.is_empty() {
             Ok(None)
         } else {
-            Err(behind)
+            Err(after)
         };
     }
     match piece(line) {
-        Some(piece) => Ok(Some((piece, behind))),
+        Some(piece) => Ok(Some((piece, after))),
         None => Err(rest),
     }
 }
@@ -126,7 +126,7 @@ fn checked(text: &str) -> Result<(), CertificateFault>
     };
     'lines: loop {
         match next(rest) {
-            Ok(Some((_, behind))) => rest = behind,
+            Ok(Some((_, after))) => rest = after,
             Ok(None) => return Ok(()),
             Err(at) => return Err(fault_at(text, at)),
         }
@@ -147,9 +147,9 @@ fn read_lines<A: Allocator + Copy>(
     };
     'lines: loop {
         match next(rest) {
-            Ok(Some((piece, behind))) => {
+            Ok(Some((piece, after))) => {
                 pieces.push(piece)?;
-                rest = behind;
+                rest = after;
             }
             Ok(None) => return Ok(Certificate::new(pieces)),
             Err(at) => return Err(ReadCertificateError::Fault(fault_at(text, at))),

@@ -18,15 +18,15 @@ use Rattle.ts_exec.specs.RowParts.{BucketGrid, bucket_grid}
 use Rattle.ts_exec.specs.GroupTables.{rows_from, group_with}
 use Rattle.ts_ql.specs.Selects.{Projection, Select}
 use Rattle.ts_exec.specs.declared.filled.RowContent.TheVariants.{Data, Number}
-use Rattle.ts_exec.specs.Fillings.{functions_of, rows_at, EndsFit, AreNear, group_at, content_row, row_content, content_rows, rows_behind}
+use Rattle.ts_exec.specs.Fillings.{functions_of, rows_at, EndsFit, AreNear, group_at, content_row, row_content, content_rows, rows_following}
 
 -- ---- one by one
 
-all_shown : (fs : List Function) (e : Option Aggregate) (rows : List Row) → rows_behind NullFill fs e rows ≡ map (shown fs) rows
+all_shown : (fs : List Function) (e : Option Aggregate) (rows : List Row) → rows_following NullFill fs e rows ≡ map (shown fs) rows
 all_shown fs e [] = refl
 all_shown fs e (r ∷ rows) = ap (λ (more : List FilledRow). shown fs r ∷ more) (all_shown fs (last_data e r) rows)
 
-some_shown : (fs : List Function) (e : Option Aggregate) (rows : List Row) → rows_behind NoneFill fs e rows ≡ map (shown fs) rows
+some_shown : (fs : List Function) (e : Option Aggregate) (rows : List Row) → rows_following NoneFill fs e rows ≡ map (shown fs) rows
 some_shown fs e [] = refl
 some_shown fs e (r ∷ rows) = ap (λ (more : List FilledRow). shown fs r ∷ more) (some_shown fs (last_data e r) rows)
 
@@ -34,7 +34,7 @@ repeated_is : (fs : List Function) (o : Option Aggregate) (own : Aggregate) (sta
 repeated_is fs None own start = refl
 repeated_is fs (Some a) own start = refl
 
-all_repeated : (fs : List Function) (e : Option Aggregate) (rows : List Row) → rows_behind PreviousFill fs e rows ≡ with_previous fs e rows
+all_repeated : (fs : List Function) (e : Option Aggregate) (rows : List Row) → rows_following PreviousFill fs e rows ≡ with_previous fs e rows
 all_repeated fs e [] = refl
 all_repeated fs e (r ∷ rows) = ap₂ (λ (x : FilledRow) (more : List FilledRow). x ∷ more) (repeated_is fs (last_data e r) r.aggregate r.start) (all_repeated fs (last_data e r) rows)
 
@@ -45,11 +45,11 @@ numbered_is fs n r =
       | false ↦ refl
     ]
 
-all_numbered : (fs : List Function) (n : ℤ) (e : Option Aggregate) (rows : List Row) → rows_behind (NumberFill n) fs e rows ≡ map (numbered fs n) rows
+all_numbered : (fs : List Function) (n : ℤ) (e : Option Aggregate) (rows : List Row) → rows_following (NumberFill n) fs e rows ≡ map (numbered fs n) rows
 all_numbered fs n e [] = refl
 all_numbered fs n e (r ∷ rows) = ap₂ (λ (x : FilledRow) (more : List FilledRow). x ∷ more) (numbered_is fs n r) (all_numbered fs n (last_data e r) rows)
 
-pub rows-filled : (fill : Fill) (fs : List Function) (rows : List Row) → rows_behind fill fs None (content_rows fill rows) ≡ filled_rows fill fs rows
+pub rows-filled : (fill : Fill) (fs : List Function) (rows : List Row) → rows_following fill fs None (content_rows fill rows) ≡ filled_rows fill fs rows
 rows-filled NullFill fs rows = all_shown fs None rows
 rows-filled NoneFill fs rows = some_shown fs None (filter has_data rows)
 rows-filled PreviousFill fs rows = all_repeated fs None rows

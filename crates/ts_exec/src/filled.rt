@@ -241,11 +241,11 @@ pub struct FilledRows<'a, A: Allocator> {
 impl<'a, A: Allocator> Model for FilledRows<'a, A> {
     ghost use Rattle.std.specs.Prelude.{List};
     ghost use Rattle.ts_core.specs.queries.Fills.{FilledRow as RowValue};
-    ghost use Rattle.ts_exec.specs.Fillings.{functions_of, rows_behind, content_rows};
+    ghost use Rattle.ts_exec.specs.Fillings.{functions_of, rows_following, content_rows};
 
     ghost Value = { List RowValue };
 
-    ghost view = { λ r. rows_behind r.fill (functions_of r.columns.now) r.latest (content_rows r.fill r.rows) };
+    ghost view = { λ r. rows_following r.fill (functions_of r.columns.now) r.latest (content_rows r.fill r.rows) };
 }
 
 impl<'a, A: Allocator> FilledRows<'a, A> {

@@ -7,15 +7,15 @@ none_got : (got : Text) → length got ≡ 0 → got ≡ []
 none_got [] e = refl
 none_got (b ∷ bs) e = absurd cc
 
-pub body_behind : (len : ℕ) (behind got left : Text) → length (take len behind ++ got) ≡ len → behind ++ (got ++ left) ≡ (take len behind ++ got) ++ (drop len behind ++ left)
-body_behind zero behind got left e = subst (λ (g : Text). behind ++ (g ++ left) ≡ g ++ (behind ++ left)) (sym (none_got got e)) refl
+pub body_behind : (len : ℕ) (after got left : Text) → length (take len after ++ got) ≡ len → after ++ (got ++ left) ≡ (take len after ++ got) ++ (drop len after ++ left)
+body_behind zero after got left e = subst (λ (g : Text). after ++ (g ++ left) ≡ g ++ (after ++ left)) (sym (none_got got e)) refl
 body_behind (suc n) [] got left e = refl
 body_behind (suc n) (b ∷ bs) got left e = ap (λ (l : Text). b ∷ l) (body_behind n bs got left (omega (arith, e)))
 
-pub taken_whole : (len : ℕ) (behind front got left body : Text) → front ≡ take len behind → body ≡ front ++ got → length body ≡ len → (others : Text) × (behind ++ (got ++ left) ≡ body ++ others) × (length body ≡ len)
-taken_whole len behind front got left body f b size =
-    let is : body ≡ take len behind ++ got = b ∙ ap (λ (l : Text). l ++ got) f in
-    (drop len behind ++ left, body_behind len behind got left (sym (ap length is) ∙ size) ∙ ap (λ (l : Text). l ++ (drop len behind ++ left)) (sym is), size)
+pub taken_whole : (len : ℕ) (after front got left body : Text) → front ≡ take len after → body ≡ front ++ got → length body ≡ len → (others : Text) × (after ++ (got ++ left) ≡ body ++ others) × (length body ≡ len)
+taken_whole len after front got left body f b size =
+    let is : body ≡ take len after ++ got = b ∙ ap (λ (l : Text). l ++ got) f in
+    (drop len after ++ left, body_behind len after got left (sym (ap length is) ∙ size) ∙ ap (λ (l : Text). l ++ (drop len after ++ left)) (sym is), size)
 
 -- bytes that were written to all of a vector are all of it
 pub written_back : (n : ℕ) (new items : Text) → n ≡ length new → take n (new ++ drop (length new) items) ≡ new

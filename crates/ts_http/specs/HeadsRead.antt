@@ -17,7 +17,7 @@ abbrev pub request_of : Text → Input → Text
 request_of came left = came ++ unwrap_or left.remaining []
 
 -- one read into a buffer, after its first `count` bytes
-pub record IsReadBehind {E : Type 0} (old : Input) (count : ℕ) (buffer : Text) (result : Result ℕ E) (buffer' : Text) (new : Input) : Type 0 where
+pub record IsReadAfter {E : Type 0} (old : Input) (count : ℕ) (buffer : Text) (result : Result ℕ E) (buffer' : Text) (new : Input) : Type 0 where
   pub size : length buffer' ≡ length buffer
   pub kept : take count buffer' ≡ take count buffer
   pub within : IfOk result (λ n. count + n ≤ length buffer)

@@ -29,8 +29,8 @@ ActedOn now route method query rest len Quiet old outcome new =
     ⊎ (((length rest < len) × (outcome ≡ Refused BodyEndsEarly) × (new ≡ old))
     ⊎ ((0 < len) × (outcome ≡ Refused OutOfMemory) × (new ≡ old)))
 
-pub record IsActedOn {E : Type 0} (now : ℤ) (route : Route) (method : Method) (query behind : Text) (len : ℕ) (old : StoreData) (source : Input) (result : Result RequestOutcome E) (new : StoreData) (source' : Input) : Type 0 where
-  pub acted : IfOk result (λ outcome. (got : Text) × Consumes source.remaining source'.remaining got × ActedOn now route method query (behind ++ (got ++ unwrap_or source'.remaining [])) len (source'.ends ≡ source.ends) old outcome new)
+pub record IsActedOn {E : Type 0} (now : ℤ) (route : Route) (method : Method) (query after : Text) (len : ℕ) (old : StoreData) (source : Input) (result : Result RequestOutcome E) (new : StoreData) (source' : Input) : Type 0 where
+  pub acted : IfOk result (λ outcome. (got : Text) × Consumes source.remaining source'.remaining got × ActedOn now route method query (after ++ (got ++ unwrap_or source'.remaining [])) len (source'.ends ≡ source.ends) old outcome new)
   pub unread : OnErr result (new ≡ old)
   pub failures : source'.failures ≡ source.failures + one_if_err result
   pub reads : source'.reads ≤ source.reads + len

@@ -95,7 +95,7 @@ struct HeadParts<'a> {
     route: Route,
     method: Method,
     query: &'a [u8],
-    behind: &'a [u8],
+    after: &'a [u8],
 }
 
 /// Splits a target at its first question mark.
@@ -117,14 +117,14 @@ fn head_parts_of<'a>(came: &'a [u8], found: &RequestSpans) -> HeadParts<'a>
     ensures route { result.route ≡ route_of (path_of (span_bytes came.entry.now found.now.path)) }
     ensures method { result.method ≡ method_of (span_bytes came.entry.now found.now.method) }
     ensures query { result.query.now ≡ target_query (span_bytes came.entry.now found.now.path) }
-    ensures behind { result.behind.now ≡ drop found.now.len came.entry.now }
+    ensures after { result.after.now ≡ drop found.now.len came.entry.now }
 {
     let (path, query) = split_target(found.path.of(came));
     HeadParts {
         route: Route::from_path(path),
         method: Method::from_name(found.method.of(came)),
         query,
-        behind: &came[found.len..],
+        after: &came[found.len..],
     }
 }
 
@@ -198,13 +198,13 @@ fn act_on_body<R: Read, A: Allocator + Copy>(
 ) -> Result<RequestOutcome, ReadFailed>
     requires allowed { is_allowed head.now.route head.now.method ≡ true }
     requires len { len ≤ body_limit }
-    ensures acted { IsActedOn now head.now.route head.now.method head.now.query.now head.now.behind.now len store.old source.old result store.new source.new }
+    ensures acted { IsActedOn now head.now.route head.now.method head.now.query.now head.now.after.now len store.old source.old result store.new source.new }
     ensures each { EachReadCounts source.old source.new }
 {
     if len == 0 {
         return Ok(act(alloc, json, store, now, head, b""));
     }
-    match receive_body(alloc, head.behind, len, source)? {
+    match receive_body(alloc, head.after, len, source)? {
         Body::Whole(body) => Ok(act(alloc, json, store, now, head, &body)),
         Body::Cut => Ok(RequestOutcome::Refused(Refusal::BodyEndsEarly)),
         Body::NoMemory => Ok(RequestOutcome::Refused(Refusal::OutOfMemory)),

@@ -12,7 +12,7 @@ use Rattle.std.proofs.lemmas.Nat.{be_bytes_4, be_bytes_8, from_be_bytes-to_be_by
 use Rattle.std.proofs.lemmas.Str.{IsUtf8-nil, IsUtf8-from_is_utf8, is_utf8-from_IsUtf8}
 use Rattle.ts_core.specs.facts.Facts.{Text}
 use Rattle.ts_core.specs.text.Steps.{◌>>=◌}
-use Rattle.ts_image.specs.Formats.{Cursor, behind, concat, Read, Format, spelling, read_number, number, signed_number, is_text, read_text, text, nothing}
+use Rattle.ts_image.specs.Formats.{Cursor, advanced, concat, Read, Format, spelling, read_number, number, signed_number, is_text, read_text, text, nothing}
 use Rattle.ts_image.specs.FormatLaws.{AreBytes, reach, IsFormat}
 
 pub AreBytes-drop : (n : ℕ) (bytes : List ℕ) → AreBytes bytes → AreBytes (drop n bytes)
@@ -134,7 +134,7 @@ wide64 = record {
 
 pub number_takes : (w : Width) → IsWide w → (p q : Cursor) (n : ℕ) → AreBytes p.rest → read_number w p ≡ Ok (n, q) → (n < 2 ^ bits w) × (p.rest ≡ to_be_bytes w n ++ q.rest) × (q.at ≡ p.at + length (to_be_bytes w n))
 number_takes w wide p q n fits e =
-    let g = guard_ok (ltb (length p.rest) (byte_len w)) p.at (from_be_bytes w (take (byte_len w) p.rest), behind (byte_len w) p) (n, q) e in
+    let g = guard_ok (ltb (length p.rest) (byte_len w)) p.at (from_be_bytes w (take (byte_len w) p.rest), advanced (byte_len w) p) (n, q) e in
     let long : byte_len w ≤ length p.rest = ltb-false _ _ g.0 in
     let n-is : from_be_bytes w (take (byte_len w) p.rest) ≡ n = ap (λ (r : ℕ × Cursor). r.0) g.1 in
     let rest-is : drop (byte_len w) p.rest ≡ q.rest = ap (λ (r : ℕ × Cursor). r.1.rest) g.1 in
@@ -154,10 +154,10 @@ number_again w wide p n rest lt e =
     ∙ rw (long, take_at (to_be_bytes w n) rest (byte_len w) len, drop_at (to_be_bytes w n) rest (byte_len w) len, wide.again n lt, len) refl
 
 number_fails : (w : Width) (p : Cursor) (n : ℕ) → read_number w p ≡ Err n → n ≡ p.at
-number_fails w p n e = sym (guard_err (ltb (length p.rest) (byte_len w)) p.at n (from_be_bytes w (take (byte_len w) p.rest), behind (byte_len w) p) e).1
+number_fails w p n e = sym (guard_err (ltb (length p.rest) (byte_len w)) p.at n (from_be_bytes w (take (byte_len w) p.rest), advanced (byte_len w) p) e).1
 
 number_onward : (w : Width) (p : Cursor) → p.at ≤ reach (read_number w p)
-number_onward w p = elim (ltb (length p.rest) (byte_len w)) as (λ b. p.at ≤ reach (cond b (failed p.at) (done (from_be_bytes w (take (byte_len w) p.rest), behind (byte_len w) p)))) [ true ↦ omega arith | false ↦ omega arith ]
+number_onward w p = elim (ltb (length p.rest) (byte_len w)) as (λ b. p.at ≤ reach (cond b (failed p.at) (done (from_be_bytes w (take (byte_len w) p.rest), advanced (byte_len w) p)))) [ true ↦ omega arith | false ↦ omega arith ]
 
 pub number_format : (w : Width) → IsWide w → IsFormat (number w)
 number_format w wide = field_format (number w) (to_be_bytes w) (record {
@@ -202,7 +202,7 @@ signed_format w wide = field_format (signed_number w) (signed_word w) (record {
       ∙ ap (λ y. done (y, record { at = p.at + length (signed_word w z); rest = rest })) (to_z-of_z w z h);
   fails = λ p n e.
       ⊎_elim {C = n ≡ p.at} (λ f. number_fails w p n f) (λ s. absurd (done_not_failed (cast_signed w s.0.0, s.0.1) n s.2)) (bind_err (read_number w p) (λ m. done (cast_signed w m.0, m.1)) n e);
-  onward = λ p. elim (ltb (length p.rest) (byte_len w)) as (λ b. p.at ≤ reach (◌>>=◌ {A = ℕ × Cursor} (cond b (failed p.at) (done (from_be_bytes w (take (byte_len w) p.rest), behind (byte_len w) p))) (λ n. done (cast_signed w n.0, n.1)))) [ true ↦ omega arith | false ↦ omega arith ];
+  onward = λ p. elim (ltb (length p.rest) (byte_len w)) as (λ b. p.at ≤ reach (◌>>=◌ {A = ℕ × Cursor} (cond b (failed p.at) (done (from_be_bytes w (take (byte_len w) p.rest), advanced (byte_len w) p))) (λ n. done (cast_signed w n.0, n.1)))) [ true ↦ omega arith | false ↦ omega arith ];
 })
 
 abbrev text_word : Text → List ℕ
@@ -229,7 +229,7 @@ text_guard_err true d n x e = absurd cc
 text_guard_err false d n x e = cc
 
 text_onward : (p : Cursor) (n : ℕ) (m : Cursor) → p.at ≤ m.at → p.at ≤ reach (read_text p (n, m))
-text_onward p n m le = elim (is_text n m.rest) as (λ b. p.at ≤ reach (cond b (done (take n m.rest, behind n m)) (failed p.at))) [ true ↦ omega arith | false ↦ omega arith ]
+text_onward p n m le = elim (is_text n m.rest) as (λ b. p.at ≤ reach (cond b (done (take n m.rest, advanced n m)) (failed p.at))) [ true ↦ omega arith | false ↦ omega arith ]
 
 pub text_format : IsFormat text
 text_format = field_format text text_word (record {
@@ -241,7 +241,7 @@ text_format = field_format text text_word (record {
       let n : ℕ = s.0.0 in
       let m : Cursor = s.0.1 in
       let k = number_takes w64 wide64 p m n b s.1 in
-      let g = text_guard (is_text n m.rest) p.at (take n m.rest, behind n m) (t, q) s.2 in
+      let g = text_guard (is_text n m.rest) p.at (take n m.rest, advanced n m) (t, q) s.2 in
       let u = is_text-true n m.rest g.0 in
       let len : length (take n m.rest) ≡ n = let l = length-take n m.rest in let le = u.0 in omega (arith, l, le) in
       let made : (IsUtf8 (take n m.rest) × (length (take n m.rest) < 2 ^ 64)) × (p.rest ≡ text_word (take n m.rest) ++ drop n m.rest) × (m.at + n ≡ p.at + length (text_word (take n m.rest))) = (
@@ -256,10 +256,10 @@ text_format = field_format text text_word (record {
       let at : p.at + length (to_be_bytes w64 (length t)) + length t ≡ p.at + length (text_word t) = let la = length-append (to_be_bytes w64 (length t)) t in omega (arith, la) in
       ap (λ r. r >>= read_text p) k ∙ rw (is_text-made t rest h.0, take_at t rest (length t) refl, drop_at t rest (length t) refl) (ap (λ a. done (t, record { at = a; rest = rest })) at);
   fails = λ p n e.
-      ⊎_elim {C = n ≡ p.at} (λ f. number_fails w64 p n f) (λ s. sym (text_guard_err (is_text s.0.0 s.0.1.rest) p.at n (take s.0.0 s.0.1.rest, behind s.0.0 s.0.1) s.2)) (bind_err (read_number w64 p) (read_text p) n e);
-  onward = λ p. elim (ltb (length p.rest) (byte_len w64)) as (λ b. p.at ≤ reach (cond b (failed p.at) (done (from_be_bytes w64 (take (byte_len w64) p.rest), behind (byte_len w64) p)) >>= read_text p)) [
+      ⊎_elim {C = n ≡ p.at} (λ f. number_fails w64 p n f) (λ s. sym (text_guard_err (is_text s.0.0 s.0.1.rest) p.at n (take s.0.0 s.0.1.rest, advanced s.0.0 s.0.1) s.2)) (bind_err (read_number w64 p) (read_text p) n e);
+  onward = λ p. elim (ltb (length p.rest) (byte_len w64)) as (λ b. p.at ≤ reach (cond b (failed p.at) (done (from_be_bytes w64 (take (byte_len w64) p.rest), advanced (byte_len w64) p)) >>= read_text p)) [
     | true ↦ omega arith
-    | false ↦ text_onward p (from_be_bytes w64 (take (byte_len w64) p.rest)) (behind (byte_len w64) p) (omega arith)
+    | false ↦ text_onward p (from_be_bytes w64 (take (byte_len w64) p.rest)) (advanced (byte_len w64) p) (omega arith)
   ];
 })
 

@@ -21,12 +21,12 @@ parted (x ∷ xs) ys (f ∷ fs) gs e =
     ⊎_elim {C = ((t : List (List ℕ)) × (x ∷ xs ≡ (f ∷ fs) ++ t)) ⊎ ((t : List (List ℕ)) × (f ∷ fs ≡ (x ∷ xs) ++ t) × (ys ≡ t ++ gs))}
     (λ k. inl (k.0, ap₂ (λ (a : List ℕ) (b : List (List ℕ)). a ∷ b) h k.1)) (λ k. inr (k.0, ap₂ (λ (a : List ℕ) (b : List (List ℕ)). a ∷ b) (sym h) k.1, k.2)) (parted xs ys fs gs t)
 
-AreBytes-behind : (a b : List ℕ) → AreBytes (a ++ b) → AreBytes b
-AreBytes-behind [] b h = h
-AreBytes-behind (x ∷ a) b h = AreBytes-behind a b (λ i. h (suc i))
+AreBytes-advanced : (a b : List ℕ) → AreBytes (a ++ b) → AreBytes b
+AreBytes-advanced [] b h = h
+AreBytes-advanced (x ∷ a) b h = AreBytes-advanced a b (λ i. h (suc i))
 
 pub taken_bytes : {X : Type 0} (f : Format X) (p : Cursor) (x : X) (q : Cursor) → ReadsValue f p x q → AreBytes p.rest → AreBytes q.rest
-taken_bytes f p x q t b = AreBytes-behind (spelling f x) q.rest (subst AreBytes t.rest b)
+taken_bytes f p x q t b = AreBytes-advanced (spelling f x) q.rest (subst AreBytes t.rest b)
 
 -- reading never goes back
 pub onward : {X : Type 0} (f : Format X) → IsFormat f → (p : Cursor) → p.at ≤ reach (f.read p)

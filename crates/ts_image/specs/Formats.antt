@@ -13,8 +13,8 @@ pub record Cursor : Type 0 where
   pub rest : List ℕ
 
 -- n bytes further
-abbrev pub behind : ℕ → Cursor → Cursor
-behind n p = record { at = p.at + n; rest = drop n p.rest }
+abbrev pub advanced : ℕ → Cursor → Cursor
+advanced n p = record { at = p.at + n; rest = drop n p.rest }
 
 -- the bytes of all fields
 abbrev pub concat : List (List ℕ) → List ℕ
@@ -37,7 +37,7 @@ spelling f x = concat (f.fields x)
 -- ---- one field
 
 abbrev pub read_number : Width → Cursor → Read ℕ
-read_number w p = if nat_lt (length p.rest) (byte_len w) then Err p.at else Ok (from_be_bytes w (take (byte_len w) p.rest), behind (byte_len w) p)
+read_number w p = if nat_lt (length p.rest) (byte_len w) then Err p.at else Ok (from_be_bytes w (take (byte_len w) p.rest), advanced (byte_len w) p)
 
 -- an unsigned number, its highest byte first
 abbrev pub number : Width → Format ℕ
@@ -52,7 +52,7 @@ abbrev pub is_text : ℕ → List ℕ → Bool
 is_text n bytes = if nat_lt (length bytes) n then false else is_utf8 (take n bytes)
 
 abbrev pub read_text : Cursor → ℕ × Cursor → Read Text
-read_text p n = if is_text n.0 n.1.rest then Ok (take n.0 n.1.rest, behind n.0 n.1) else Err p.at
+read_text p n = if is_text n.0 n.1.rest then Ok (take n.0 n.1.rest, advanced n.0 n.1) else Err p.at
 
 -- a text: its length, and its UTF-8 bytes. The two are one field
 abbrev pub text : Format Text

@@ -16,7 +16,7 @@ use Rattle.ts_core.specs.text.Numbers.{is_number, is_from_to, whole_of}
 use Rattle.ts_line.specs.Parts.{LinePart}
 use Rattle.ts_line.specs.Scan.{is_stop, end_of}
 use Rattle.ts_line.specs.PartTexts.{unescaped, piece_at}
-use Rattle.ts_line.specs.Values.{is_integer, is_unsigned, is_boolean, is_float, behind_quotes, is_value_end, then_is, integer_value, value_begun_at, integer_by}
+use Rattle.ts_line.specs.Values.{is_integer, is_unsigned, is_boolean, is_float, after_quotes, is_value_end, then_is, integer_value, value_begun_at, integer_by}
 use Rattle.ts_line.specs.Fields.{next_field, with_field, fields_at}
 use Rattle.ts_core.specs.text.Steps.{◌>>=◌}
 use Rattle.ts_line.specs.Spelling.{is_closed, written_piece, field_spelling, more_fields_text, IsWrittenField, field_from, with_fields}
@@ -105,8 +105,8 @@ plain_told start line n value end le e done =
 value_at_by : (start : ℕ) (line : Text) (n : ℕ) (v : ℤ × ℕ) (quote : Bool) → eqb (slice_index line n) 34 ≡ quote → n ≤ length line → value_begun_at start line n ≡ Ok v → IsValueAt line n v.0 v.1
 unfolding value_begun_at
 value_at_by start line n v true e le done =
-    let no : cond (then_is (behind_quotes false (drop (n + 1) line)) is_value_end) (Err (fault_at FieldType start)) (Err (fault_at BadField start)) ≡ Ok v = rw e at done in
-    absurd (faulty (then_is (behind_quotes false (drop (n + 1) line)) is_value_end) (fault_at FieldType start) (fault_at BadField start) v no)
+    let no : cond (then_is (after_quotes false (drop (n + 1) line)) is_value_end) (Err (fault_at FieldType start)) (Err (fault_at BadField start)) ≡ Ok v = rw e at done in
+    absurd (faulty (then_is (after_quotes false (drop (n + 1) line)) is_value_end) (fault_at FieldType start) (fault_at BadField start) v no)
 value_at_by start line n v false e le done =
     let read : (integer_value start (slice_range line n (end_of Plain line n)) >>= λ x. Ok (x, end_of Plain line n)) ≡ Ok v = rw e at done in
     let b = bind_ok (integer_value start (slice_range line n (end_of Plain line n))) (λ x. Ok (x, end_of Plain line n)) v read in

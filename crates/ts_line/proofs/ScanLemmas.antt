@@ -10,7 +10,7 @@ use Rattle.ts_core.specs.facts.Facts.{Text}
 use Rattle.ts_line.specs.declared.scan.Stops.{Stops}
 use Rattle.ts_line.specs.declared.scan.Stops.TheVariants.{Space, Comma, Equals, Plain}
 use Rattle.ts_line.specs.Scan.{is_stop, is_backslash, ends, part_len, spaces}
-use Rattle.ts_line.specs.EscapeLaws.{unescaped_behind, len_from}
+use Rattle.ts_line.specs.EscapeLaws.{unescaped_after, len_from}
 
 pub part_len_step : (stops : Stops) (before : ℕ) (line : Text) (i : ℕ) → i < length line
     → part_len stops before (drop i line) ≡ cond (ends stops before (get_or line i 0)) 0 (part_len stops (get_or line i 0) (drop (i + 1) line) + 1)
@@ -62,7 +62,7 @@ pub bare_step : (stops : Stops) (line : Text) (i : ℕ) → i < length line → 
 bare_step stops line i lt stop slash = bare_by stops (get_or line i 0) (drop (i + 1) line) 0 (part_len stops 0 (drop i line)) stop slash (part_len_step stops 0 line i lt)
 
 pub bare_end : (stops : Stops) (line : Text) (i : ℕ) → i < length line → is_stop stops (get_or line i 0) ≡ true → part_len stops 0 (drop i line) ≡ 0
-bare_end stops line i lt stop = part_len_step stops 0 line i lt ∙ rw (stop, unescaped_behind stops 0 refl) refl
+bare_end stops line i lt stop = part_len_step stops 0 line i lt ∙ rw (stop, unescaped_after stops 0 refl) refl
 
 pub stop_ascii : (stops : Stops) (byte : ℕ) → is_stop stops byte ≡ true → byte < 128
-stop_ascii stops byte e = ends_ascii stops 0 byte (rw (e, unescaped_behind stops 0 refl) refl)
+stop_ascii stops byte e = ends_ascii stops 0 byte (rw (e, unescaped_after stops 0 refl) refl)

@@ -39,23 +39,23 @@ stop_is_other Comma b e = grind (arith, nat_tests)
 stop_is_other Equals b e = grind (arith, nat_tests)
 stop_is_other Plain b e = grind (arith, nat_tests)
 
-pub unescaped_behind : (stops : Stops) (before : ℕ) → is_backslash before ≡ false → is_escaped stops before ≡ false
-unescaped_behind Space before e = e
-unescaped_behind Comma before e = e
-unescaped_behind Equals before e = e
-unescaped_behind Plain before e = refl
+pub unescaped_after : (stops : Stops) (before : ℕ) → is_backslash before ≡ false → is_escaped stops before ≡ false
+unescaped_after Space before e = e
+unescaped_after Comma before e = e
+unescaped_after Equals before e = e
+unescaped_after Plain before e = refl
 
 -- of the byte before the first, only a backslash matters
 pub len_from : (stops : Stops) (before : ℕ) (bs : Text) → is_backslash before ≡ false → part_len stops before bs ≡ part_len stops 0 bs
 len_from stops before [] e = refl
-len_from stops before (b ∷ bs) e = rw (unescaped_behind stops before e, unescaped_behind stops 0 refl) refl
+len_from stops before (b ∷ bs) e = rw (unescaped_after stops before e, unescaped_after stops 0 refl) refl
 
 -- after any byte, a delimiter that isn't escapable ends a part
-ends_behind : (stops : Stops) (b c : ℕ) → is_escapable stops c ≡ false → ends stops b c ≡ is_stop stops c
-ends_behind Space b c n = rw n refl
-ends_behind Comma b c n = rw n refl
-ends_behind Equals b c n = rw n refl
-ends_behind Plain b c n = and-true (is_stop Plain c)
+ends_plainly : (stops : Stops) (b c : ℕ) → is_escapable stops c ≡ false → ends stops b c ≡ is_stop stops c
+ends_plainly Space b c n = rw n refl
+ends_plainly Comma b c n = rw n refl
+ends_plainly Equals b c n = rw n refl
+ends_plainly Plain b c n = and-true (is_stop Plain c)
 
 ends_escaped : (stops : Stops) (b c : ℕ) → is_backslash b ≡ true → is_escapable stops c ≡ true → ends stops b c ≡ false
 ends_escaped Space b c w e = rw w (and-false (is_stop Space c))
@@ -70,7 +70,7 @@ escapable_stop Equals c e = e
 escapable_stop Plain c e = absurd cc
 
 starts_bare : (stops : Stops) (b : ℕ) → ends stops 0 b ≡ is_stop stops b
-starts_bare stops b = rw (unescaped_behind stops 0 refl) (and-true (is_stop stops b))
+starts_bare stops b = rw (unescaped_after stops 0 refl) (and-true (is_stop stops b))
 
 -- ---- lengths
 
@@ -81,7 +81,7 @@ len_by stops b c bs false true true s-is w-is e-is one two =
     let rest : part_len stops c bs ≡ pair_len stops bs = len_from stops c bs (stop_is_other stops c (escapable_stop stops c e-is)) ∙ one in
     rw (starts_bare stops b, s-is, w-is, e-is, ends_escaped stops b c w-is e-is) (omega (arith, rest))
 len_by stops b c bs false true false s-is w-is e-is one two =
-    let same : ends stops b c ≡ ends stops 0 c = ends_behind stops b c e-is ∙ sym (starts_bare stops c) in
+    let same : ends stops b c ≡ ends stops 0 c = ends_plainly stops b c e-is ∙ sym (starts_bare stops c) in
     rw (starts_bare stops b, s-is, w-is, e-is, same) (ap (λ n. n + 1) two)
 len_by stops b c bs false false e s-is w-is e-is one two =
     rw (starts_bare stops b, s-is, w-is) (ap (λ n. n + 1) (len_from stops b (c ∷ bs) w-is ∙ two))

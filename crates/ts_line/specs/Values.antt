@@ -28,14 +28,14 @@ is_boolean text = bytes_eq text (codes "t") || bytes_eq text (codes "T") || byte
     || bytes_eq text (codes "f") || bytes_eq text (codes "F") || bytes_eq text (codes "false") || bytes_eq text (codes "False") || bytes_eq text (codes "FALSE")
 
 -- the rest after one or more leading digits
-abbrev pub behind_digits : Bool → Text → Option Text
-behind_digits some [] = if some then Some [] else None
-behind_digits some (b ∷ bs) = if is_ascii_digit b then behind_digits true bs else (if some then Some (b ∷ bs) else None)
+abbrev pub after_digits : Bool → Text → Option Text
+after_digits some [] = if some then Some [] else None
+after_digits some (b ∷ bs) = if is_ascii_digit b then after_digits true bs else (if some then Some (b ∷ bs) else None)
 
 -- skips a point and digits, or nothing (own: digits must follow the point, though the reference also shows `1.e+78`)
-abbrev pub behind_fraction : Text → Option Text
-behind_fraction [] = Some []
-behind_fraction (b ∷ bs) = if b == 46 then behind_digits false bs else Some (b ∷ bs)
+abbrev pub after_fraction : Text → Option Text
+after_fraction [] = Some []
+after_fraction (b ∷ bs) = if b == 46 then after_digits false bs else Some (b ∷ bs)
 
 abbrev pub without_sign : Text → Text
 without_sign [] = []
@@ -51,15 +51,15 @@ then_is None is_rest = false
 then_is (Some rest) is_rest = is_rest rest
 
 abbrev pub is_float : Text → Bool
-is_float text = then_is (behind_digits false (without_minus text)) (λ rest. then_is (behind_fraction rest) is_exponent)
+is_float text = then_is (after_digits false (without_minus text)) (λ rest. then_is (after_fraction rest) is_exponent)
 
 -- The rest after a string's closing quote, from the byte after its opening quote. A backslash followed by a quote or a
 -- backslash is skipped as a pair.
-abbrev pub behind_quotes : Bool → Text → Option Text
-behind_quotes escaped [] = None
-behind_quotes escaped (b ∷ bs) =
-    if escaped && (b == 34 || b == 92) then behind_quotes false bs else
-    (if b == 34 then Some bs else behind_quotes (b == 92) bs)
+abbrev pub after_quotes : Bool → Text → Option Text
+after_quotes escaped [] = None
+after_quotes escaped (b ∷ bs) =
+    if escaped && (b == 34 || b == 92) then after_quotes false bs else
+    (if b == 34 then Some bs else after_quotes (b == 92) bs)
 
 -- a comma, a space or the end
 abbrev pub is_value_end : Text → Bool
@@ -82,5 +82,5 @@ integer_value start text =
 unfoldable pub value_begun_at : ℕ → Text → ℕ → Result (ℤ × ℕ) LineFault
 value_begun_at start line at =
     if slice_index line at == 34
-    then (if then_is (behind_quotes false (drop (at + 1) line)) is_value_end then Err (fault_at FieldType start) else Err (fault_at BadField start))
+    then (if then_is (after_quotes false (drop (at + 1) line)) is_value_end then Err (fault_at FieldType start) else Err (fault_at BadField start))
     else (integer_value start (slice_range line at (end_of Plain line at)) >>= λ n. Ok (n, end_of Plain line at))

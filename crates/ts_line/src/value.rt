@@ -4,7 +4,7 @@ ghost use Rattle.std.specs.Str.{IsCharBoundary};
 ghost use Rattle.ts_core.specs.text.Cursors.{IsOffsetFrom};
 ghost use Rattle.ts_line.specs.FaultText.{fault_at};
 ghost use Rattle.ts_core.specs.text.Numbers.{are_digits};
-ghost use Rattle.ts_line.specs.Values.{is_unsigned, is_boolean, is_float, behind_digits, behind_fraction, is_exponent, without_sign, behind_quotes, is_value_end, then_is, integer_value, value_begun_at};
+ghost use Rattle.ts_line.specs.Values.{is_unsigned, is_boolean, is_float, after_digits, after_fraction, is_exponent, without_sign, after_quotes, is_value_end, then_is, integer_value, value_begun_at};
 
 use crate::fault::{LineFault, LineFaultKind};
 use crate::scan::{Stops, end_at};
@@ -31,8 +31,8 @@ fn is_boolean(text: &str) -> bool
 
 /// Skips one or more digits; returns the rest, or `None` if there is no digit.
 #[tactic(auto, using(crate::proofs::ValueLemmas::digits_step, crate::proofs::ValueLemmas::digits_end))]
-fn behind_digits(text: &[u8]) -> Option<&[u8]>
-    ensures { option_map (λ rest. rest.now) result ≡ behind_digits false text.now }
+fn after_digits(text: &[u8]) -> Option<&[u8]>
+    ensures { option_map (λ rest. rest.now) result ≡ after_digits false text.now }
 {
     let mut rest = text;
     let mut some = false;
@@ -46,11 +46,11 @@ fn behind_digits(text: &[u8]) -> Option<&[u8]>
     if some { Some(rest) } else { None }
 }
 
-fn behind_fraction(text: &[u8]) -> Option<&[u8]>
-    ensures { option_map (λ rest. rest.now) result ≡ behind_fraction text.now }
+fn after_fraction(text: &[u8]) -> Option<&[u8]>
+    ensures { option_map (λ rest. rest.now) result ≡ after_fraction text.now }
 {
     match text {
-        [b'.', digits @ ..] => behind_digits(digits),
+        [b'.', digits @ ..] => after_digits(digits),
         _ => Some(text),
     }
 }
@@ -77,8 +77,8 @@ fn is_exponent(text: &[u8]) -> bool
 fn is_float(text: &[u8]) -> bool
     ensures { result ≡ is_float text.now }
 {
-    match behind_digits(after_minus(text)) {
-        Some(rest) => match behind_fraction(rest) {
+    match after_digits(after_minus(text)) {
+        Some(rest) => match after_fraction(rest) {
             Some(rest) => is_exponent(rest),
             None => false,
         },
@@ -89,8 +89,8 @@ fn is_float(text: &[u8]) -> bool
 /// Skips a string, from the byte after its opening quote; returns the rest after its closing quote, or `None` if it is
 /// unclosed.
 #[tactic(auto, using(crate::proofs::ValueLemmas::quotes_step, crate::proofs::ValueLemmas::quotes_end))]
-fn behind_quotes(text: &[u8]) -> Option<&[u8]>
-    ensures { option_map (λ rest. rest.now) result ≡ behind_quotes false text.now }
+fn after_quotes(text: &[u8]) -> Option<&[u8]>
+    ensures { option_map (λ rest. rest.now) result ≡ after_quotes false text.now }
 {
     let mut rest = text;
     let mut escaped = false;
@@ -135,9 +135,9 @@ fn integer_value(start: usize, text: &str) -> Result<i64, LineFault>
 /// Returns the error of a field whose value begins with a double quote: `FieldType` if it is a string, else `BadField`.
 /// `text` begins after the quote.
 fn quoted(start: usize, text: &[u8]) -> LineFault
-    ensures { result ≡ (if then_is (behind_quotes false text.now) is_value_end then fault_at LineFaultKind.FieldType start else fault_at LineFaultKind.BadField start) }
+    ensures { result ≡ (if then_is (after_quotes false text.now) is_value_end then fault_at LineFaultKind.FieldType start else fault_at LineFaultKind.BadField start) }
 {
-    match behind_quotes(text) {
+    match after_quotes(text) {
         Some(rest) if is_value_end(rest) => LineFaultKind::FieldType.at(start),
         _ => LineFaultKind::BadField.at(start),
     }

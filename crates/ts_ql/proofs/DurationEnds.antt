@@ -163,16 +163,16 @@ more_reached from (t ∷ u ∷ us) rest w =
 record Begins (text : Text) (from end : ℕ) : Type 0 where
   terms : List Term
   are_terms : AreTerms terms
-  behind : Text
-  parts : text ≡ spelled terms ++ behind
+  after : Text
+  parts : text ≡ spelled terms ++ after
   ends : end ≡ from + length (spelled terms)
 
 begins_same : (text other : Text) (from end then : ℕ) → text ≡ other → end ≡ then → Begins text from end → Begins other from then
 begins_same text other from end then e f b =
-    record { terms = b.terms; are_terms = b.are_terms; behind = b.behind; parts = sym e ∙ b.parts; ends = sym f ∙ b.ends }
+    record { terms = b.terms; are_terms = b.are_terms; after = b.after; parts = sym e ∙ b.parts; ends = sym f ∙ b.ends }
 
 begins_none : (text : Text) (from end : ℕ) → end ≡ from → Begins text from end
-begins_none text from end e = record { terms = []; are_terms = tt; behind = text; parts = refl; ends = omega arith }
+begins_none text from end e = record { terms = []; are_terms = tt; after = text; parts = refl; ends = omega arith }
 
 begins_term : (ds name text : Text) (unit : TimeUnit) (from end : ℕ) → IsNumeral 10 ds → duration_unit_of name ≡ Some unit
     → Begins text (from + length ds + length name) end → Begins (ds ++ (name ++ text)) from end
@@ -182,8 +182,8 @@ begins_term ds name text unit from end number called b =
     record {
       terms = term ∷ b.terms;
       are_terms = (record { number = number; called = called }, b.are_terms);
-      behind = b.behind;
-      parts = ap (λ (t : Text). ds ++ (name ++ t)) b.parts ∙ sym (regrouped ds name (spelled b.terms) b.behind);
+      after = b.after;
+      parts = ap (λ (t : Text). ds ++ (name ++ t)) b.parts ∙ sym (regrouped ds name (spelled b.terms) b.after);
       ends = omega (arith, b.ends);
     }
 
@@ -287,7 +287,7 @@ unfolding DurationsEndLast duration_end
 durations_end_last text from =
     let b : Begins (drop from text) from (parts_end from false (from + 0) (drop from text)) = (found (drop from text)).0 from [] tt in
     let same : parts_end from false (from + 0) (drop from text) ≡ parts_end from false from (drop from text) = ap (λ (n : ℕ). parts_end from false n (drop from text)) (omega arith) in (
-      record { terms = b.terms; are_terms = b.are_terms; behind = b.behind; parts = b.parts; ends = sym same ∙ b.ends },
-      λ end t. let reached : from + length (spelled t.terms) ≤ parts_end from false from (drop from text) = rw t.parts (more_reached from t.terms t.behind t.are_terms) in
+      record { terms = b.terms; are_terms = b.are_terms; after = b.after; parts = b.parts; ends = sym same ∙ b.ends },
+      λ end t. let reached : from + length (spelled t.terms) ≤ parts_end from false from (drop from text) = rw t.parts (more_reached from t.terms t.after t.are_terms) in
           omega (arith, t.ends),
     )

@@ -235,7 +235,7 @@ first_fault now ts f e =
     record {
       before = w.front;
       token = w.token;
-      behind = w.back;
+      after = w.back;
       parts = w.parts;
       begins = begins now w.before w.front w.runs;
       ends = refused_ends now w.before w.front w.token f w.runs w.refused;
@@ -258,8 +258,8 @@ refused_as now ts f w s runs (Ok n) e =
 refused_as now ts f w s runs (Err g) e =
     let same : f ≡ g = same_fault now ts f w s runs g e w.known (known now s w.before w.token g runs e) in
     let short : run now start_progress (w.before ++ w.token ∷ []) ≡ Err g = run_refused now s w.before w.token g runs e in
-    let whole : (w.before ++ w.token ∷ []) ++ w.behind ≡ ts = append_assoc w.before (w.token ∷ []) w.behind ∙ sym w.parts in
-    ap (λ (xs : List Lexeme). run now start_progress xs) (sym whole) ∙ run-append_err now start_progress (w.before ++ w.token ∷ []) w.behind g short ∙ ap Err (sym same)
+    let whole : (w.before ++ w.token ∷ []) ++ w.after ≡ ts = append_assoc w.before (w.token ∷ []) w.after ∙ sym w.parts in
+    ap (λ (xs : List Lexeme). run now start_progress xs) (sym whole) ∙ run-append_err now start_progress (w.before ++ w.token ∷ []) w.after g short ∙ ap Err (sym same)
 
 pub fault_only : (now : ℤ) (ts : List Lexeme) (f : Fault) → IsFirstQueryFault now ts f → run now start_progress ts ≡ Err f
 fault_only now ts f w =

@@ -56,7 +56,7 @@ token_twice text at = ap (λ (x : ℕ). shaped text x (shape_at text x)) (end_tw
 abbrev pub SelectsOn : State → Text → ℕ → Progress → Type 0
 SelectsOn p text at s = (columns : List Projection) → Selects text columns at p s.builder.selection → HasColumns text s.start columns
 
--- in SELECT or FROM, the columns that the text selects are those of the statement; behind FROM, it has them
+-- in SELECT or FROM, the columns that the text selects are those of the statement; after FROM, it has them
 abbrev SelectsBy : Bool → Bool → State → Text → ℕ → Progress → Type 0
 SelectsBy true outside p text at s = SelectsOn p text at s
 SelectsBy false true p text at s = HasColumns text s.start s.builder.selection.columns
@@ -112,7 +112,7 @@ selects_before : (text : Text) (columns : List Projection) (at : ℕ) (p : State
 selects_before text columns at p s q before e (n, w) = (suc n, rw (before, e) w)
 
 selects_all : (text : Text) (at : ℕ) (p : State) (s : Selected) → has_from p ≡ true → Selects text s.columns at p s
-selects_all text at p s behind = (1, rw behind refl)
+selects_all text at p s after = (1, rw after refl)
 
 -- ---- within a statement
 
@@ -126,9 +126,9 @@ selection_keeps : (text : Text) (at : ℕ) (p : State) (s : Progress) (r : Resul
 selection_keeps text at p s (Ok q) false before e picks h =
     on_selecting q.0 text (token_at text at).end (record s { state = q.0; builder = record s.builder { selection = q.1 } }) picks.0
     (λ columns selects. h columns (selects_before text columns at p s.builder.selection q before e selects))
-selection_keeps text at p s (Ok q) true behind e picks h =
+selection_keeps text at p s (Ok q) true after e picks h =
     has_outside q.0 text (token_at text at).end (record s { state = q.0; builder = record s.builder { selection = q.1 } }) picks.0
-    (subst (λ (columns : List Projection). HasColumns text s.start columns) (sym picks.1) (h s.builder.selection.columns (selects_all text at p s.builder.selection behind)))
+    (subst (λ (columns : List Projection). HasColumns text s.start columns) (sym picks.1) (h s.builder.selection.columns (selects_all text at p s.builder.selection after)))
 selection_keeps text at p s (Err fault) false from e picks h = tt
 selection_keeps text at p s (Err fault) true from e picks h = tt
 
@@ -367,7 +367,7 @@ finished_outside : (p : State) (k : Kind) (d : BuilderState) (q : State × Build
 finished_outside states.AfterMoment k d q e outside = refl
 finished_outside p k d q e outside = let same : q.0 ≡ p = cc in rw same at outside
 
--- a statement that may end now, or once its time expression has ended, is behind its FROM
+-- a statement that may end now, or once its time expression has ended, is after its FROM
 pub ends_outside : (p : State) (k : Kind) (d : BuilderState) (q : State × BuilderState) → finish_time_step p k d ≡ Ok q → may_end q.0 ≡ true → is_outside p ≡ true
 unfolding finish_time_step
 ends_outside p k d q e ends = finished_outside p k d q e (may_end_outside q.0 ends)

@@ -62,8 +62,8 @@ HasFault now before token fault =
 pub record IsFirstQueryFault (now : ℤ) (ts : List Lexeme) (fault : Fault) : Type 0 where
   pub before : List Lexeme
   pub token : Lexeme
-  pub behind : List Lexeme
-  pub parts : ts ≡ before ++ token ∷ behind
+  pub after : List Lexeme
+  pub parts : ts ≡ before ++ token ∷ after
   pub begins : MayBecome now before
   pub ends : MayBecome now (before ++ token ∷ []) → ⊥
   pub examined : (other : Fault) → HasFault now before token other → fault ≡ other
@@ -136,8 +136,8 @@ pub record LiteralsCount : Type 0 where
 pub record TermsEndAt (text : Text) (from end : ℕ) : Type 0 where
   pub terms : List Term
   pub are_terms : AreTerms terms
-  pub behind : Text
-  pub parts : drop from text ≡ spelled terms ++ behind
+  pub after : Text
+  pub parts : drop from text ≡ spelled terms ++ after
   pub ends : end ≡ from + length (spelled terms)
 
 -- a duration ends at the last offset at which terms from its start end

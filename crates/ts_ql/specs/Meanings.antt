@@ -112,15 +112,15 @@ abbrev pub start_or : Option Lexeme → Lexeme → ℕ
 start_or None l = l.start
 start_or (Some minus) l = minus.start
 
-abbrev pub value_behind : Option Lexeme → Lexeme → Option ℤ
-value_behind None l = literal false l.text
-value_behind (Some minus) l = literal true l.text
+abbrev pub value_after : Option Lexeme → Lexeme → Option ℤ
+value_after None l = literal false l.text
+value_after (Some minus) l = literal true l.text
 
 abbrev pub signed_start : Signed → ℕ
 signed_start s = start_or s.minus s.number
 
 abbrev pub signed_value : Signed → Option ℤ
-signed_value s = value_behind s.minus s.number
+signed_value s = value_after s.minus s.number
 
 abbrev pub buckets_of : Option ℤ → Option Buckets
 buckets_of None = None

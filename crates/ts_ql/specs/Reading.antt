@@ -162,7 +162,7 @@ may_end states.AfterItem = true
 may_end states.AfterFill = true
 may_end state = false
 
--- within a statement, behind its SELECT and FROM
+-- within a statement, after its SELECT and FROM
 abbrev pub is_outside : State → Bool
 is_outside states.Statement = false
 is_outside states.Function = false
@@ -203,7 +203,7 @@ abbrev pub FindsState : Result (Unit {0}) QlFault → Progress → Advance → T
 FindsState (Ok u) s step = step ≡ Ok s
 FindsState (Err fault) s step = step ≡ Err (as_fault fault)
 
--- behind its FROM, the columns of the current statement are those of the text
+-- after its FROM, the columns of the current statement are those of the text
 abbrev pub HasColumnsOf : Text → Progress → Type 0
 HasColumnsOf text s = is_outside s.state ≡ true → HasColumns text s.start s.builder.selection.columns
 

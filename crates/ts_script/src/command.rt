@@ -72,7 +72,7 @@ pub fn is_skipped(line: &[u8]) -> bool
 }
 
 /// Returns the text after the name, or `None` if the line doesn't begin with it.
-fn rest_behind<'a>(line: &'a str, name: &str) -> Option<&'a str>
+fn rest_after<'a>(line: &'a str, name: &str) -> Option<&'a str>
     ensures { MatchOption result (starts_with nat_eq line.now name.now ≡ false) (λ rest. (starts_with nat_eq line.now name.now ≡ true) × (rest.now ≡ drop (length name.now) line.now)) }
 {
     line.strip_prefix(name)
@@ -168,19 +168,19 @@ impl<'a> Command<'a> {
     pub fn parse(line: &'a str) -> Command<'a>
         ensures { command_view result ≡ command_of line.entry.now }
     {
-        if let Some(rest) = rest_behind(line, "write ") {
+        if let Some(rest) = rest_after(line, "write ") {
             return Command::Write(rest);
         }
-        if let Some(rest) = rest_behind(line, "settings ") {
+        if let Some(rest) = rest_after(line, "settings ") {
             return Command::SetSettings(rest);
         }
-        if let Some(rest) = rest_behind(line, "at ") {
+        if let Some(rest) = rest_after(line, "at ") {
             return at(rest);
         }
-        if let Some(rest) = rest_behind(line, "precision ") {
+        if let Some(rest) = rest_after(line, "precision ") {
             return precision(rest);
         }
-        if let Some(rest) = rest_behind(line, "epoch ") {
+        if let Some(rest) = rest_after(line, "epoch ") {
             return epoch(rest);
         }
         if line == "retain" {
@@ -195,25 +195,25 @@ impl<'a> Command<'a> {
         if line == "reload" {
             return Command::Reload;
         }
-        if let Some(rest) = rest_behind(line, "rule ") {
+        if let Some(rest) = rest_after(line, "rule ") {
             return Command::AddRule(rest);
         }
-        if let Some(rest) = rest_behind(line, "drop ") {
+        if let Some(rest) = rest_after(line, "drop ") {
             return Command::DropRule(rest);
         }
-        if let Some(rest) = rest_behind(line, "cert ") {
+        if let Some(rest) = rest_after(line, "cert ") {
             return Command::SetCertificate(rest);
         }
-        if let Some(rest) = rest_behind(line, "query ") {
+        if let Some(rest) = rest_after(line, "query ") {
             return Command::Query(rest);
         }
-        if let Some(rest) = rest_behind(line, "explain ") {
+        if let Some(rest) = rest_after(line, "explain ") {
             return Command::Explain(rest);
         }
         if line == "live" {
             return Command::Live;
         }
-        if let Some(rest) = rest_behind(line, "count ") {
+        if let Some(rest) = rest_after(line, "count ") {
             return count(rest);
         }
         Command::Unknown

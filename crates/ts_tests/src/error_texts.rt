@@ -214,7 +214,7 @@ const QUERY_KINDS: [Row<QlFaultKind<'static>>; 9] = [
     ),
 ];
 
-/// Faults in a query, at the first byte and behind the last.
+/// Faults in a query, at the first byte and after the last.
 const QUERIES: [Row<QlFault<'static>>; 2] = [
     (
         QlFault {

@@ -154,7 +154,7 @@ fn first_wrong_end(alloc: Global, image: &[u8]) -> Option<usize> {
     }
 }
 
-/// Returns true if an image with one more byte has a fault behind its last field.
+/// Returns true if an image with one more byte has a fault after its last field.
 fn ends_before(alloc: Global, image: Vec<u8>) -> bool {
     let mut image = image;
     image.push(0).is_ok() && ends_in_field(alloc, &image, IMAGE_LEN)

@@ -87,9 +87,9 @@ pub(crate) fn interval(text: &str) -> Option<i64>
 pub(crate) fn offset(text: &str) -> Option<i64>
     ensures { result ≡ offset_of text.now }
 {
-    let (first, behind) = text.as_bytes().split_first()?;
+    let (first, after) = text.as_bytes().split_first()?;
     if *first == b'-' {
-        return 0i64.checked_sub_unsigned(nanoseconds(behind)?);
+        return 0i64.checked_sub_unsigned(nanoseconds(after)?);
     }
     span(text.as_bytes())
 }

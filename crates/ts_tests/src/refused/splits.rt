@@ -8,7 +8,7 @@ use ts_testkit::Refusing;
 /// More requests for memory than a write makes.
 const MANY: u64 = 100;
 
-/// Lines of one column, of the even seconds from 0 on: as many as fill a block and the buffer behind it.
+/// Lines of one column, of the even seconds from 0 on: as many as fill a block and the buffer after it.
 const LINES: i64 = 600;
 
 /// A line of a point in the middle of the first block.

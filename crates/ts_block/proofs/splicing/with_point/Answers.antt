@@ -4,7 +4,7 @@ use Rattle.ts_block.specs.Varints.{number_text, zigzag}
 use Rattle.ts_block.specs.Appending.{last_time}
 use Rattle.ts_block.specs.Splicing.{text_to, count_with, steps_after, IsBlockWith}
 use Rattle.ts_block.proofs.DecodingLemmas.{one_reading}
-use Rattle.ts_block.proofs.SplicingLemmas.{count_byte, behind, value_there, with_one, count_few}
+use Rattle.ts_block.proofs.SplicingLemmas.{count_byte, after, value_there, with_one, count_few}
 use Rattle.ts_block.proofs.splicing.with_point.Given.{Over}
 use Rattle.ts_block.proofs.splicing.with_point.Goals.{After-from-limit}
 use Rattle.ts_block.proofs.splicing.with_point.Goals as goal
@@ -24,8 +24,8 @@ push_to-requires-clause-few g c =
     let few = c.requires.3 in
     subst (λ m. m < 256) (sym c.count_after.ensures) (count_few c.from-limit.result c.find-place.result c.args.point.now.0 (omega arith))
 
-pub push_to-requires-clause-behind : goal.push_to-requires-clause-behind
-push_to-requires-clause-behind g c = behind c.requires.0 c.requires.1.points_are c.args.point.now.0 c.args.point.now.1 c.from-limit.result c.find-place.result (c.find-place.ensures c.requires.0 c.requires.1)
+pub push_to-requires-clause-after : goal.push_to-requires-clause-after
+push_to-requires-clause-after g c = after c.requires.0 c.requires.1.points_are c.args.point.now.0 c.args.point.now.1 c.from-limit.result c.find-place.result (c.find-place.ensures c.requires.0 c.requires.1)
 
 pub rest_after-requires : goal.rest_after-requires
 rest_after-requires g c = value_there c.requires.0 c.requires.1.points_are c.args.point.now.0 c.args.point.now.1 c.from-limit.result c.find-place.result (c.find-place.ensures c.requires.0 c.requires.1)

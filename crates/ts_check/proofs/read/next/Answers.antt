@@ -8,4 +8,4 @@ returns-in_default-clause-fault c = uncut_stops c.args.rest.now c.in_default.ens
 
 pub returns-in-None-clause-fault : goal.returns-in-None-clause-fault
 returns-in-None-clause-fault c =
-    other_stops c.args.rest.now c.in-Some.line.now c.in-Some.behind.now c.in-Some.ensures.found c.in-Some.ensures.first (other_text _ _ (sym c.if-eq.false ∙ c.eq.ensures)) c.in-None.ensures
+    other_stops c.args.rest.now c.in-Some.line.now c.in-Some.after.now c.in-Some.ensures.found c.in-Some.ensures.first (other_text _ _ (sym c.if-eq.false ∙ c.eq.ensures)) c.in-None.ensures

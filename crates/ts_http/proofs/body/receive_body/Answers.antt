@@ -15,7 +15,7 @@ returns-then-branch-clause-taken g c =
     let back = written_back c.in-Ok.body.len nb c.in-Ok.body.items whole in
     let made : nb ≡ c.front_of-front.result.now ++ w.0 = w.1 ∙ ap (λ (l : Text). l ++ w.0) (ap (take (length c.front_of-front.result.now)) same ∙ b.1) in
     record {
-      body = (w.0, w.2, taken_whole c.args.len c.args.behind.now c.front_of-front.result.now w.0 (unwrap_or c.read_body.new.source.remaining []) _ c.front_of-front.ensures (back ∙ made) (ap length back ∙ r.size ∙ size));
+      body = (w.0, w.2, taken_whole c.args.len c.args.after.now c.front_of-front.result.now w.0 (unwrap_or c.read_body.new.source.remaining []) _ c.front_of-front.ensures (back ∙ made) (ap length back ∙ r.size ∙ size));
       ends = rw c.if-branch.true at r.ends;
       failures = search rules;
       reads = omega (arith, r.reads, size);

@@ -9,7 +9,7 @@ pub returns-then-len-eq0-clause-acted : goal.returns-then-len-eq0-clause-acted
 returns-then-len-eq0-clause-acted g c =
     let none : c.args.len ≡ 0 = c.if-len-eq0.true in
     record {
-      acted = ([], Consumes-nil c.args.source.now.remaining, inl ([], c.args.head.now.behind.now ++ ([] ++ unwrap_or c.args.source.now.remaining []), refl, sym none, refl, c.act.ensures));
+      acted = ([], Consumes-nil c.args.source.now.remaining, inl ([], c.args.head.now.after.now ++ ([] ++ unwrap_or c.args.source.now.remaining []), refl, sym none, refl, c.act.ensures));
       unread = tt;
       failures = search rules;
       reads = omega arith;
@@ -18,7 +18,7 @@ returns-then-len-eq0-clause-acted g c =
 pub returns-in-Whole-clause-acted : goal.returns-in-Whole-clause-acted
 returns-in-Whole-clause-acted g c =
     let t = c.in_ok-body.ensures.taken in
-    let told = subst (TellsBody c.args.len (c.args.head.now.behind.now ++ (t.body.0 ++ unwrap_or c.receive_body.new.source.remaining []))) c.in-Whole.is t.body.2 in
+    let told = subst (TellsBody c.args.len (c.args.head.now.after.now ++ (t.body.0 ++ unwrap_or c.receive_body.new.source.remaining []))) c.in-Whole.is t.body.2 in
     let did = subst (λ (b : Text). ActsAs c.args.now c.args.head.now.route c.args.head.now.method c.args.head.now.query.now b c.args.store.now c.act-in-Whole.result c.act-in-Whole.new.store) c.deref.ensures.value c.act-in-Whole.ensures in
     let quiet = rw c.in-Whole.is at t.ends in
     record {

@@ -70,11 +70,11 @@ returns-in_ok-outcome-in-Ok-clause-served g c =
     let told = subst (TellsHead (request_of came c.read_head.new.source) came spans) c.in-Whole.is h.head in
     let got = a.acted.0 in
     let more = got ++ unwrap_or source.remaining [] in
-    let whole : IsWholeHead (request_of (came ++ got) source) told.1.0 (q.result.behind.now ++ more) =
-    subst (λ (b : Text). IsWholeHead b told.1.0 (q.result.behind.now ++ more)) (sym (append_assoc came got (unwrap_or source.remaining [])))
-    (subst (λ (b : Text). IsWholeHead (came ++ more) told.1.0 (b ++ more)) (sym q.ensures.behind) (whole_more came more _ _ spans found told.1.0 told.1.1 told.1.2)) in
+    let whole : IsWholeHead (request_of (came ++ got) source) told.1.0 (q.result.after.now ++ more) =
+    subst (λ (b : Text). IsWholeHead b told.1.0 (q.result.after.now ++ more)) (sym (append_assoc came got (unwrap_or source.remaining [])))
+    (subst (λ (b : Text). IsWholeHead (came ++ more) told.1.0 (b ++ more)) (sym q.ensures.after) (whole_more came more _ _ spans found told.1.0 told.1.1 told.1.2)) in
     sent_told c.args.now c.args.store.now c.act_on_body.new.store c.args.source.now source c.args.sink.now c.reply-in-Ok.new.sink c.in_ok-outcome-in-Ok.outcome q.result.route _ (came ++ got) c.reply-in-Ok.result c.reply-in-Ok.ensures
     (Consumes-trans c.args.source.now.remaining c.read_head.new.source.remaining source.remaining came got h.bytes a.acted.1)
-    (asks_taken came spans found told.1.0 told.1.1 (request_of (came ++ got) source) (q.result.behind.now ++ more) c.args.now q.result.route q.result.method q.result.query.now c.in-Ok.len (source.ends ≡ c.read_head.new.source.ends) (source.ends ≡ c.args.source.now.ends) c.args.store.now c.act_on_body.new.store c.in_ok-outcome-in-Ok.outcome whole
+    (asks_taken came spans found told.1.0 told.1.1 (request_of (came ++ got) source) (q.result.after.now ++ more) c.args.now q.result.route q.result.method q.result.query.now c.in-Ok.len (source.ends ≡ c.read_head.new.source.ends) (source.ends ≡ c.args.source.now.ends) c.args.store.now c.act_on_body.new.store c.in_ok-outcome-in-Ok.outcome whole
     q.ensures.route q.ensures.method q.ensures.query c.in-Ok.ensures.0 c.in-Ok.ensures.1 (λ quiet. quiet ∙ rw c.in-Whole.is at h.ends) a.acted.2)
     (omega (arith, h.failures, a.failures)) (omega (arith, h.reads, a.reads, c.in-Ok.ensures.2))

@@ -1,9 +1,9 @@
 use Rattle.std.proofs.Common.{◌≡◌, false, length}
-use Rattle.ts_line.specs.Values.{behind_digits}
-use Rattle.ts_line.proofs.value.behind_digits.Given as goal
+use Rattle.ts_line.specs.Values.{after_quotes}
+use Rattle.ts_line.proofs.value.after_quotes.Given as goal
 
 abbrev pub invariant-loop-rest : goal.invariant-loop-rest
-invariant-loop-rest l = behind_digits l.some l.rest ≡ behind_digits false l.text
+invariant-loop-rest l = after_quotes l.escaped l.rest ≡ after_quotes false l.text
 
 abbrev pub decreases-loop-rest : goal.decreases-loop-rest
 decreases-loop-rest l = length l.rest

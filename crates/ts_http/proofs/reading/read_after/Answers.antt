@@ -2,7 +2,7 @@ use Rattle.std.proofs.Common.{rules, ◌≡◌, length, ◌-◌, ◌≤◌, take
 use Rattle.std.proofs.lemmas.List.{length-take-le}
 use Rattle.std.proofs.lemmas.Slice.{take-put_mid_below}
 use Rattle.ts_http.proofs.ReadLemmas.{stands_behind, same_size, no_end}
-use Rattle.ts_http.proofs.reading.read_behind.Goals as goal
+use Rattle.ts_http.proofs.reading.read_after.Goals as goal
 
 pub returns-in-Ok-clause-read : goal.returns-in-Ok-clause-read
 returns-in-Ok-clause-read g c =
