@@ -9,7 +9,7 @@ use Rattle.std.specs.List.{AllByRecursion, copy_within}
 use Rattle.ts_raw.specs.declared.block_handle.BlockHandle.{BlockHandle}
 use Rattle.ts_raw.specs.CodedPoints.{block_text_at, block_points_at, blocks_at, IsBlockHandle, AreBlocks, AllEndBy, LieApart, AreApart}
 use Rattle.ts_raw.specs.BlockColumns.{size_of_blocks}
-use Rattle.ts_raw.specs.Sliding.{bytes_in_blocks, IsNext, NoneStartBetween, AllStartBefore}
+use Rattle.ts_raw.specs.Sliding.{bytes_in_blocks, IsNextBlock, NoneStartBetween, AllStartBefore}
 use Rattle.ts_raw.proofs.PushLemmas.{mark_moved, blocks_before}
 use Rattle.ts_raw.proofs.BlockLists.{mark_at, take_next, text_size}
 
@@ -220,12 +220,12 @@ each_of P (m ∷ ms) f = (f 0 m (omega arith), each_of P ms (λ k d l. f (suc k)
 pub least_none : (from : ℕ) (ms : List BlockHandle) → IsLeast from ms (length ms) None → AllStartBefore from ms
 least_none from ms h = each_of (λ (m : BlockHandle). m.start < from) ms h
 
-pub least_next : (from : ℕ) (ms : List BlockHandle) (x : ℕ × ℕ) → IsLeast from ms (length ms) (Some x) → IsNext from ms x.0
+pub least_next : (from : ℕ) (ms : List BlockHandle) (x : ℕ × ℕ) → IsLeast from ms (length ms) (Some x) → IsNextBlock from ms x.0
 least_next from ms x h =
     (h.0, λ d. let e = h.2 d in (let l = h.1 in omega arith, subst (λ s. NoneStartBetween from s ms) (sym e) (each_of (λ (m : BlockHandle). (m.start < from) ⊎ (x.1 ≤ m.start)) ms h.3)))
 
 -- a block that starts at the offset is the next one
-pub exact_next : (from : ℕ) (ms : List BlockHandle) (at : ℕ) (m : BlockHandle) → slice_get ms at ≡ Some m → m.start ≡ from → IsNext from ms at
+pub exact_next : (from : ℕ) (ms : List BlockHandle) (at : ℕ) (m : BlockHandle) → slice_get ms at ≡ Some m → m.start ≡ from → IsNextBlock from ms at
 exact_next from ms at m is e =
     (slice_get_within ms at m is, λ d. let s : from ≡ (get_or ms at d).start = sym e ∙ ap (λ (x : BlockHandle). x.start) (sym (get_or_from_slice_get ms at m d is)) in (omega arith, subst (λ n. NoneStartBetween from n ms) s (none_between ms)))
   where
@@ -270,7 +270,7 @@ sliding_first bytes ms b a = record { marked = b; apart = a; blocks = refl; part
     none_moved [] = refl
     none_moved (m ∷ ms) = (0, none_moved ms, inr refl)
 
-pub sliding_next : (old : List ℕ) (was : List BlockHandle) (bytes new : List ℕ) (ms : List BlockHandle) (to from at : ℕ) (m n : BlockHandle) → AreSliding old was bytes ms to from → IsNext from ms at → m ≡ get_or ms at m → new ≡ copy_within bytes m.start m.end to
+pub sliding_next : (old : List ℕ) (was : List BlockHandle) (bytes new : List ℕ) (ms : List BlockHandle) (to from at : ℕ) (m n : BlockHandle) → AreSliding old was bytes ms to from → IsNextBlock from ms at → m ≡ get_or ms at m → new ≡ copy_within bytes m.start m.end to
     → n.start ≡ to → n.end ≡ to + (m.end - m.start) → n.values ≡ m.values → n.count ≡ m.count → n.last ≡ m.last → n.summary ≡ m.summary → AreSliding old was new (set ms at n) (to + (m.end - m.start)) m.end
 sliding_next old was bytes new ms to from at m n s next there is start end values count last summary =
     let within = next.0 in

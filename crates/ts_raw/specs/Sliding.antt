@@ -17,5 +17,5 @@ abbrev pub NoneStartBetween : ℕ → ℕ → List BlockHandle → Type 0
 NoneStartBetween from to ms = AllByRecursion (λ (m : BlockHandle). (m.start < from) ⊎ (to ≤ m.start)) ms
 
 -- the block at this index is the first in the bytes that starts at the offset or after it
-abbrev pub IsNext : ℕ → List BlockHandle → ℕ → Type 0
-IsNext from ms at = (at < length ms) × ((d : BlockHandle) → (from ≤ (slice_index_or ms at d).start) × NoneStartBetween from (slice_index_or ms at d).start ms)
+abbrev pub IsNextBlock : ℕ → List BlockHandle → ℕ → Type 0
+IsNextBlock from ms at = (at < length ms) × ((d : BlockHandle) → (from ≤ (slice_index_or ms at d).start) × NoneStartBetween from (slice_index_or ms at d).start ms)

@@ -1,7 +1,7 @@
 //! Slides coded blocks down in place, so that no bytes lie between them.
 ghost use Rattle.std.specs.Prelude.{◌≡◌, ◌≤◌, ◌*◌, length, None, IfSome};
 ghost use Rattle.ts_raw.specs.CodedPoints.{AreBlocks, AreApart, blocks_at};
-ghost use Rattle.ts_raw.specs.Sliding.{IsNext, AllStartBefore, bytes_in_blocks};
+ghost use Rattle.ts_raw.specs.Sliding.{IsNextBlock, AllStartBefore, bytes_in_blocks};
 
 use crate::block_handle::BlockHandle;
 use crate::relocating::blocks_size;
@@ -10,7 +10,7 @@ use std::alloc::Allocator;
 /// Searches for the first block in the bytes that starts at an offset or after it. Returns its index.
 #[cold]
 fn search_next(handles: &[BlockHandle], from: usize) -> Option<usize>
-    ensures next { IfSome result (λ at. IsNext from handles.now at) }
+    ensures next { IfSome result (λ at. IsNextBlock from handles.now at) }
     ensures none { result ≡ None → AllStartBefore from handles.now }
 {
     let mut next: Option<(usize, usize)> = None;
@@ -34,7 +34,7 @@ fn search_next(handles: &[BlockHandle], from: usize) -> Option<usize>
 /// Returns the index of the first block in the bytes that starts at an offset or after it. Tries the index `guess`
 /// first: blocks that were appended follow one another.
 fn next_block(handles: &[BlockHandle], from: usize, guess: usize) -> Option<usize>
-    ensures next { IfSome result (λ at. IsNext from handles.now at) }
+    ensures next { IfSome result (λ at. IsNextBlock from handles.now at) }
     ensures none { result ≡ None → AllStartBefore from handles.now }
 {
     match handles.get(guess) {

@@ -4,7 +4,7 @@ use Rattle.std.proofs.Math.ListN.{drop_of_length-le}
 use Rattle.std.specs.List.{copy_within}
 use Rattle.ts_raw.specs.declared.block_handle.BlockHandle.{BlockHandle}
 use Rattle.ts_raw.specs.CodedPoints.{AreBlocks, blocks_at}
-use Rattle.ts_raw.specs.Sliding.{IsNext, AllStartBefore, bytes_in_blocks}
+use Rattle.ts_raw.specs.Sliding.{IsNextBlock, AllStartBefore, bytes_in_blocks}
 use Rattle.ts_raw.proofs.SlidingLemmas.{sliding_first, sliding_next, slid_marked, slid_blocks, slid_packed}
 use Rattle.ts_raw.proofs.sliding.slide.Given.{Over}
 use Rattle.ts_raw.proofs.sliding.slide.Goals.{After-shrink_to_fit-2}
@@ -19,7 +19,7 @@ loop-at-preserved g c =
     let ms : List BlockHandle = c.loop-at.handles.items in
     let m : BlockHandle = c.index-handle.result.now in
     let copied : List ℕ = c.copy_within.new.self in
-    let next : IsNext c.loop-at.from ms c.in-Some.at = subst (λ (x : List BlockHandle). IsNext c.loop-at.from x c.in-Some.at) c.as_slice.ensures.value c.in-Some.ensures.next in
+    let next : IsNextBlock c.loop-at.from ms c.in-Some.at = subst (λ (x : List BlockHandle). IsNextBlock c.loop-at.from x c.in-Some.at) c.as_slice.ensures.value c.in-Some.ensures.next in
     let is : copied ≡ copy_within bytes m.start m.end c.loop-at.to = c.copy_within.ensures.after ∙ ap (λ (x : List ℕ). copy_within x m.start m.end c.loop-at.to) c.as_mut_slice.ensures.value in
     let n : BlockHandle = record m { start = c.loop-at.to; end = c.loop-at.to + (m.end - m.start) } in
     let size = ap length c.as_mut_slice.ensures.value in
