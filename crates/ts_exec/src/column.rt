@@ -6,9 +6,8 @@ ghost use Rattle.ts_exec.specs.declared.aggregate_parts.AggregateParts.TheVarian
 ghost use Rattle.ts_exec.specs.RowParts.{with_counted, with_point_parts};
 
 use crate::aggregate_parts::AggregateParts;
-use crate::bounded::Bounded;
 use crate::buckets::BucketCursor;
-use crate::fold::{Counted, Fold, Summed};
+use crate::fold::{Bounded, Counted, Fold, Summed};
 use crate::rows::{add_part, add_runs, can_add};
 use std::alloc::Allocator;
 use ts_core::Agg;

@@ -123,7 +123,7 @@ fn slot_of<'a, A: Allocator + Copy>(
 }
 
 /// Returns the group's slot, inserting an empty one if needed. Tries `guess` first.
-fn expect<'a, A: Allocator + Copy>(
+fn slot_near<'a, A: Allocator + Copy>(
     slots: &mut Vec<Slot<'a, A>, A>,
     guess: usize,
     values: &GroupValues<'_, 'a>,
@@ -189,7 +189,7 @@ impl<'a, A: Allocator + Copy> Groups<'a, A> {
     }
 
     /// Returns the group's slot, inserting an empty one if needed.
-    pub(crate) fn expect(&mut self, values: &GroupValues<'_, 'a>) -> Result<usize, AllocError>
+    pub(crate) fn slot_of(&mut self, values: &GroupValues<'_, 'a>) -> Result<usize, AllocError>
         ensures { self.new ≡ self.old }
     {
         slot_of(&mut self.slots, values)
@@ -213,7 +213,7 @@ impl<'a, A: Allocator + Copy> Groups<'a, A> {
         ensures { OnOk result (self.new ≡ with_cell_part width values.now row_index part self.old) }
     {
         let next = self.next_slot();
-        let at = expect(&mut self.slots, next, values)?;
+        let at = slot_near(&mut self.slots, next, values)?;
         self.last = at;
         self.slots[at].add_part(width, row_index, part)
     }
@@ -237,7 +237,7 @@ impl<'a, A: Allocator + Copy> Groups<'a, A> {
         if points.len() == 0 {
             return Ok(());
         }
-        let at = expect(&mut self.slots, guess, values)?;
+        let at = slot_near(&mut self.slots, guess, values)?;
         self.slots[at].add_points(parts, width, buckets, range, points)
     }
 }

@@ -24,7 +24,6 @@
 #![tactic(auto)]
 
 mod aggregate_parts;
-mod bounded;
 mod buckets;
 mod cell_piece;
 mod column;

@@ -69,7 +69,7 @@ fn sorted_by_group<'a, A: Allocator + Copy>(
 
 /// Inserts the groups of all columns up front, sorted, so that none is inserted in the middle later. Returns each
 /// column's slot, or an empty list if there are no group tags.
-fn expect_groups<'a, A: Allocator + Copy>(
+fn insert_groups<'a, A: Allocator + Copy>(
     groups: &mut Groups<'a, A>,
     values: &mut GroupValuesBuf<'a, A>,
     alloc: A,
@@ -86,7 +86,7 @@ fn expect_groups<'a, A: Allocator + Copy>(
     for number in sorted_by_group(alloc, tags, columns)? {
         if let Some(column) = columns.get(number) {
             values.read_series(tags, column.key)?;
-            let at = groups.expect(&values.values())?;
+            let at = groups.slot_of(&values.values())?;
             if let Some(slot) = slots.get_mut(number) {
                 *slot = at;
             }
@@ -111,7 +111,7 @@ pub(crate) fn add_raw<'a, A: Allocator + Copy + 'a, V: View<A> + 'a>(
     let alloc = *groups.allocator();
     let tags = scan.query.group_tags();
     let columns = selected_columns(alloc, scan.query, view)?;
-    let slots = expect_groups(groups, &mut scan.values, alloc, tags, &columns)?;
+    let slots = insert_groups(groups, &mut scan.values, alloc, tags, &columns)?;
     // Without group tags these are empty, and the only group has slot 0.
     let mut slots = slots.iter();
     for column in &columns {

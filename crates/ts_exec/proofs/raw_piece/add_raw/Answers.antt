@@ -24,7 +24,7 @@ loop-column-init g c =
     c.deref-column-items.ensures.value
     ∙ subst (λ (x : Query). c.in_ok-columns.columns.items ≡ selected_column_refs x.conditions (column_refs_where (is_of x.measurement x.field) cs)) c.scan.view_is c.in_ok-columns.ensures in
     record {
-      value = ap₂ (λ (ss : List ColumnRef) (t : Table). with_column_refs c.args.parts q cs a b ss t) chosen c.expect_groups.ensures ∙ selected_give c.args.parts q cs a b all c.args.groups.now;
+      value = ap₂ (λ (ss : List ColumnRef) (t : Table). with_column_refs c.args.parts q cs a b ss t) chosen c.insert_groups.ensures ∙ selected_give c.args.parts q cs a b all c.args.groups.now;
       selected = subst (AllByRecursion (IsSelected (length cs) q.conditions)) (sym chosen) (all_selected (length cs) q.conditions all (column_refs-there (is_of q.measurement q.field) cs));
       query = c.scan.view_is;
       scan = c.scan.invariant;

@@ -9,12 +9,12 @@ use Rattle.ts_exec.proofs.groups.Groups.add_part.Goals as goal
 
 pub invariant_of-self-2 : goal.invariant_of-self-2
 invariant_of-self-2 g c =
-    written-slots c.expect.new.slots.items c.expect.ensures.slots c.args.values.now c.in_ok-at.at c.in_ok-at.ensures.slot c.index_mut.result.now c.add_part.new.self c.index_mut.ensures.value c.add_part.ensures.key
+    written-slots c.slot_near.new.slots.items c.slot_near.ensures.slots c.args.values.now c.in_ok-at.at c.in_ok-at.ensures.slot c.index_mut.result.now c.add_part.new.self c.index_mut.ensures.value c.add_part.ensures.key
 
 pub returns : goal.returns
 returns g c =
     let k : List Text = c.args.values.now in
-    let t : Slots = c.expect.new.slots.items in
+    let t : Slots = c.slot_near.new.slots.items in
     on_ok_weaker c.add_part.result (λ rows.
-    written-made t c.expect.ensures.slots k c.in_ok-at.at c.in_ok-at.ensures.slot c.index_mut.result.now c.add_part.new.self c.index_mut.ensures.value c.add_part.ensures.key (with_part c.args.row_index c.args.part) c.args.width rows
-    ∙ ap (λ (x : Table). with_cell_part c.args.width k c.args.row_index c.args.part x) (c.expect.ensures.made ∙ c.self.view_is)) c.add_part.ensures.rows
+    written-made t c.slot_near.ensures.slots k c.in_ok-at.at c.in_ok-at.ensures.slot c.index_mut.result.now c.add_part.new.self c.index_mut.ensures.value c.add_part.ensures.key (with_part c.args.row_index c.args.part) c.args.width rows
+    ∙ ap (λ (x : Table). with_cell_part c.args.width k c.args.row_index c.args.part x) (c.slot_near.ensures.made ∙ c.self.view_is)) c.add_part.ensures.rows

@@ -7,7 +7,7 @@ use Rattle.ts_core.specs.aggregates.OrderLaws.{min-lesser, max-lesser}
 use Rattle.ts_core.specs.aggregates.Aggregates.{Aggregate, merged, IsSpread}
 use Rattle.ts_core.specs.aggregates.SoundLaws.{IsSound-parts, merged-parts, spread_bound}
 use Rattle.ts_exec.specs.RowParts.{bounds}
-use Rattle.ts_exec.proofs.bounded.Bounded.merge.Goals as goal
+use Rattle.ts_exec.proofs.fold.Bounded.merge.Goals as goal
 
 -- the sum of n values of 64 bits
 sum_bound : (n : ℕ) (s a b : ℤ) → IsSpread n s (bounds a b) → SFits w64 a → SFits w64 b → unsigned_abs s ≤ n * 9223372036854775808
