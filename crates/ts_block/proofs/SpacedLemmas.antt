@@ -1,0 +1,89 @@
+-- Steps that are all the same: their bytes repeat the first step.
+use Rattle.std.proofs.Common.{◌≡◌, ℕ, ◌-◌, ◌≤◌, ℤ, List, [], ◌∷◌, ◌++◌, length, IsOk, Ok, take, drop, append_assoc, length-append, refl, sym, ◌∙◌, ap, subst, arith}
+use Rattle.std.proofs.lemmas.List.{take-append-drop}
+use Rattle.std.proofs.Math.Seq.{drop-append_seam, take-append_seam}
+use Rattle.ts_core.specs.facts.Times.{IsTime}
+use Rattle.ts_block.specs.Appending.{values_start}
+use Rattle.ts_block.specs.Varints.{number_text}
+use Rattle.ts_block.specs.NumbersRead.{number_at}
+use Rattle.ts_block.specs.Blocks.{times_of, values_of, head_text, step_between, steps_text, values_text, block_text, AreLater, IsBlockOf}
+use Rattle.ts_block.specs.Decoding.{FollowBy, AreSpaced}
+use Rattle.ts_block.proofs.Choices.{ok_is}
+use Rattle.ts_block.proofs.NumberLaws.{number_again}
+use Rattle.ts_block.proofs.PartLaws.{step_back, step_fits}
+
+-- the first step is read from the bytes of the steps
+pub first_step : (t u : ℤ) (us : List ℤ) (more : List ℕ) → IsTime t → AreLater t (u ∷ us) → number_at (steps_text t (u ∷ us) ++ more) ≡ Ok (step_between t u, steps_text u us ++ more)
+unfolding steps_text
+first_step t u us more is later =
+    ap number_at (append_assoc (number_text (step_between t u)) (steps_text u us) more) ∙ number_again (step_between t u) (steps_text u us ++ more) (step_fits t u is later.1 later.0)
+
+first_alone : (t u : ℤ) (us : List ℤ) → IsTime t → AreLater t (u ∷ us) → number_at (steps_text t (u ∷ us)) ≡ Ok (step_between t u, steps_text u us)
+unfolding steps_text
+first_alone t u us is later = number_again (step_between t u) (steps_text u us) (step_fits t u is later.1 later.0)
+
+-- the bytes after the first step begin as all do
+abbrev pub Repeats : ℤ → ℤ → List ℤ → Type 0
+Repeats t u us = steps_text u us ≡ take (length (steps_text u us)) (steps_text t (u ∷ us))
+
+pub follow_from : (t u : ℤ) (us : List ℤ) → IsTime t → AreLater t (u ∷ us) → Repeats t u us → FollowBy (step_between t u) t (u ∷ us)
+unfolding steps_text
+follow_from t u [] is later r = (sym (step_back t u later.0), tt)
+follow_from t u (w ∷ ws) is later r =
+    let all : List ℕ = steps_text t (u ∷ (w ∷ ws)) in
+    let others : List ℕ = steps_text u (w ∷ ws) in
+    let rest : List ℕ = steps_text w ws in
+    let more : List ℕ = drop (length others) all in
+    let split : others ++ more ≡ all = ap (λ (x : List ℕ). x ++ more) r ∙ take-append-drop (length others) all in
+    let whole : number_at all ≡ Ok (step_between t u, others) = first_alone t u (w ∷ ws) is later in
+    let again : number_at all ≡ Ok (step_between u w, rest ++ more) = ap number_at (sym split) ∙ first_step u w ws more later.1 later.2 in
+    let same = ok_is (step_between t u, others) (step_between u w, rest ++ more) (sym whole ∙ again) in
+    let step : step_between t u ≡ step_between u w = ap (λ (x : ℕ × List ℕ). x.0) same in
+    let front : rest ≡ take (length rest) others = sym (take-append_seam rest more) ∙ ap (take (length rest)) (sym (ap (λ (x : ℕ × List ℕ). x.1) same)) in
+    (sym (step_back t u later.0), subst (λ n. FollowBy n u (w ∷ ws)) (sym step) (follow_from u w ws later.1 later.2 front))
+
+module _ (block : List ℕ) (values : ℕ) where
+  -- the bytes from the head to the values are those of the steps
+  pub steps_of_block : (p : ℤ × ℤ) (ps : List (ℤ × ℤ)) → IsBlockOf block (p ∷ ps) → values ≡ values_start (p ∷ ps) → take (values - 9) (drop 9 block) ≡ steps_text p.0 (times_of ps)
+  unfolding block_text
+  steps_of_block p ps b v =
+      let head : List ℕ = head_text (length ps) p.0 in
+      let steps : List ℕ = steps_text p.0 (times_of ps) in
+      let size : values - 9 ≡ length steps = omega arith in
+      (λ i. take (size i) (drop 9 (b.spelled i)))
+      ∙ ap (take (length steps)) (drop-append_seam head (steps ++ values_text (values_of (p ∷ ps))))
+      ∙ take-append_seam steps (values_text (values_of (p ∷ ps)))
+
+  pub head_before : (points : List (ℤ × ℤ)) → IsBlockOf block points → values ≡ values_start points → 9 ≤ values
+  head_before [] b v = absurd b.points_are
+  head_before (p ∷ ps) b v = omega arith
+
+  pub step_can : (points : List (ℤ × ℤ)) → IsBlockOf block points → values ≡ values_start points → (length (take (values - 9) (drop 9 block)) ≡ 0 → ⊥) → IsOk (number_at (take (values - 9) (drop 9 block)))
+  unfolding steps_text
+  step_can [] b v some = absurd b.points_are
+  step_can (p ∷ []) b v some = absurd (some (ap length (steps_of_block p [] b v)))
+  step_can (p ∷ q ∷ qs) b v some = subst IsOk (sym (ap number_at (steps_of_block p (q ∷ qs) b v) ∙ first_alone p.0 q.0 (times_of qs) b.points_are.1 b.points_are.2)) refl
+
+  pub rest_within : (points : List (ℤ × ℤ)) → IsBlockOf block points → values ≡ values_start points → (length (take (values - 9) (drop 9 block)) ≡ 0 → ⊥) → (n : ℕ) (rest : List ℕ) → Ok (n, rest) ≡ number_at (take (values - 9) (drop 9 block))
+      → length rest ≤ length (take (values - 9) (drop 9 block))
+  unfolding steps_text
+  rest_within [] b v some n rest e = absurd b.points_are
+  rest_within (p ∷ []) b v some n rest e = absurd (some (ap length (steps_of_block p [] b v)))
+  rest_within (p ∷ q ∷ qs) b v some n rest e =
+      let steps = steps_of_block p (q ∷ qs) b v in
+      let first = ok_is (n, rest) (step_between p.0 q.0, steps_text q.0 (times_of qs)) (e ∙ ap number_at steps ∙ first_alone p.0 q.0 (times_of qs) b.points_are.1 b.points_are.2) in
+      let size = ap length steps in
+      let parts = length-append (number_text (step_between p.0 q.0)) (steps_text q.0 (times_of qs)) in
+      let same : length rest ≡ length (steps_text q.0 (times_of qs)) = ap (λ (x : ℕ × List ℕ). length x.1) first in
+      omega arith
+
+  pub spaced_points_are : (points : List (ℤ × ℤ)) → IsBlockOf block points → values ≡ values_start points → (n : ℕ) (rest : List ℕ) → Ok (n, rest) ≡ number_at (take (values - 9) (drop 9 block))
+      → rest ≡ take (length rest) (take (values - 9) (drop 9 block)) → AreSpaced n points
+  spaced_points_are [] b v n rest e same = absurd b.points_are
+  spaced_points_are (p ∷ []) b v n rest e same = tt
+  spaced_points_are (p ∷ q ∷ qs) b v n rest e same =
+      let steps = steps_of_block p (q ∷ qs) b v in
+      let first = ok_is (n, rest) (step_between p.0 q.0, steps_text q.0 (times_of qs)) (e ∙ ap number_at steps ∙ first_alone p.0 q.0 (times_of qs) b.points_are.1 b.points_are.2) in
+      subst (λ k. FollowBy k p.0 (q.0 ∷ times_of qs)) (sym (ap (λ (x : ℕ × List ℕ). x.0) first))
+      (follow_from p.0 q.0 (times_of qs) b.points_are.1 b.points_are.2
+      ((λ i. (ap (λ (x : ℕ × List ℕ). x.1) (sym first)) i) ∙ same ∙ (λ i. take (length ((ap (λ (x : ℕ × List ℕ). x.1) first) i)) (steps i))))

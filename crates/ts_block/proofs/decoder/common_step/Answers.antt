@@ -1,0 +1,28 @@
+use Rattle.std.proofs.Common.{rules, ◌≡◌, ◌==◌, length, take, drop, ◌-◌, ap, sym, ◌∙◌, subst, true≢false}
+use Rattle.std.proofs.lemmas.List.{length-take-le}
+use Rattle.ts_block.specs.Decoding.{AreSpaced}
+use Rattle.ts_block.proofs.DecodingLemmas.{values_inside, one_reading}
+use Rattle.ts_block.proofs.SpacedLemmas.{head_before, step_can, rest_within, spaced_points_are}
+use Rattle.ts_block.proofs.decoder.common_step.Goals.{Else-is_empty}
+use Rattle.ts_block.proofs.decoder.common_step.Goals as goal
+
+pub slice_bounds-steps-end : goal.slice_bounds-steps-end
+slice_bounds-steps-end c = let h = values_inside c.args.block.now c.requires.0 c.requires.1 c.args.values c.requires.2 in let k = head_before c.args.block.now c.args.values c.requires.0 c.requires.1 c.requires.2 in search rules
+
+-- there are steps
+some : (c : Else-is_empty) → length (take (c.args.values - 9) (drop 9 c.args.block.now)) ≡ 0 → ⊥
+some c e = true≢false (sym (ap (λ n. n == 0) e) ∙ sym c.if-is_empty.ensures)
+
+pub decode_number-step-requires : goal.decode_number-step-requires
+decode_number-step-requires c = step_can c.args.block.now c.args.values c.requires.0 c.requires.1 c.requires.2 (some c)
+
+pub slice_bounds-eq-end : goal.slice_bounds-eq-end
+slice_bounds-eq-end c =
+    let at = (goal.at.slice_bounds-eq-end c).Else-is_empty in
+    let within = rest_within c.args.block.now c.args.values c.requires.0 c.requires.1 c.requires.2 (some at) c.decode_number-step.result.0 c.decode_number-step.result.1.now c.decode_number-step.ensures in
+    sym (length-take-le _ _ within)
+
+pub returns-then-eq : goal.returns-then-eq
+returns-then-eq c = λ points b.
+    subst (AreSpaced c.decode_number-step.result.0) (one_reading c.args.block.now c.requires.0 points c.requires.1 b)
+    (spaced_points_are c.args.block.now c.args.values c.requires.0 c.requires.1 c.requires.2 c.decode_number-step.result.0 c.decode_number-step.result.1.now c.decode_number-step.ensures (search rules))
