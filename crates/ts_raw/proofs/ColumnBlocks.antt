@@ -18,19 +18,21 @@ use Rattle.ts_core.proofs.lists.Comparisons.{lt_from}
 use Rattle.ts_core.proofs.lists.Windows.{filter-within, filter-nothing_within}
 use Rattle.ts_block.specs.Blocks.{times_of, ArePoints, last_of}
 use Rattle.ts_block.specs.Appending.{last_time}
+use Rattle.ts_raw.specs.declared.coded_blocks.CodedBlocks.{CodedBlocks}
+use Rattle.ts_raw.specs.CodedBlocks.{AreNone, AreSame}
 use Rattle.ts_raw.specs.declared.block_handle.BlockHandle.{BlockHandle}
 use Rattle.ts_raw.specs.declared.rewriting.Rewritten.{Rewritten}
 use Rattle.ts_raw.specs.Columns.{AreTimed}
 use Rattle.ts_raw.specs.PlainColumns.{IsRising, IsStartOf}
 use Rattle.ts_raw.specs.CodedPoints.{block_text_at, block_points_at, coded_points, blocks_at, IsBlockHandle, AreBlocks, AreOrdered, IsCoded, AreCountedBlocks, count_in_blocks, before_first, AllEndBefore, AreApart, LieFrom, IsLastBefore, CutFits}
 use Rattle.ts_raw.specs.Rewriting.{IsRewritten, blocks_of, handles_replaced, cut_in_block, cut_after}
-use Rattle.ts_raw.specs.BlockColumns.{AreBlocksOf, texts_at, IsColumn}
+use Rattle.ts_raw.specs.BlockColumns.{AreBlocksOf, texts_at, IsStagedIfAny, IsColumn}
 use Rattle.ts_raw.proofs.CodedLemmas.{points_hold}
 use Rattle.ts_raw.proofs.CutLemmas.{first_parts, first_bound, start_behind, is_rising_behind, timed_behind}
 use Rattle.ts_raw.proofs.PointMaps.{rising-put, timed-put, from_sorted-put}
 use Rattle.ts_raw.proofs.PointRanges.{drop-before}
 use Rattle.ts_raw.proofs.PushLemmas.{none_counted, coded_less, all_within}
-use Rattle.ts_raw.proofs.ApartLemmas.{apart_behind, apart_replaced}
+use Rattle.ts_raw.proofs.ApartLemmas.{apart_replaced}
 use Rattle.ts_raw.proofs.BlockLists.{mark_at, mark_stays, take_next, counted_again}
 use Rattle.ts_block.proofs.SplicingLemmas.{put_after}
 use Rattle.ts_raw.proofs.RewriteLemmas.{counts_are, count_front, coded_join, rising_first, put_within, last_after_drop, length_put}
@@ -47,13 +49,13 @@ pub cut_few : (bytes : List ℕ) (ms : List BlockHandle) (cut : ℕ) → AreBloc
 cut_few bytes [] cut marked h = omega arith
 cut_few bytes (m ∷ ms) cut marked h = let a = (few_points (block_points_at bytes m) marked.0.block.points_are).0 in omega arith
 
-pub no_points : (bytes : List ℕ) (ms : List BlockHandle) (capacity handles_capacity : ℕ) → bytes ≡ [] → ms ≡ [] → IsColumn bytes ms 0 0 capacity handles_capacity None None
-no_points bytes ms c d b m = subst (λ (x : List BlockHandle). IsColumn bytes x 0 0 c d None None) (sym m) (record {
-  counted = (none_counted bytes [] b refl).0;
-  apart = tt;
-  cut_fits = refl;
+pub no_points : {A : Type 0} (b : CodedBlocks A) → AreNone b → IsColumn b 0 0 None None
+no_points b n = record {
+  counted = (none_counted b.bytes.items b.handles.items n.no_bytes n.no_handles).0;
+  apart = subst AreApart (sym n.no_handles) tt;
+  cut_fits = subst (λ (x : List BlockHandle). CutFits 0 (blocks_at b.bytes.items x)) (sym n.no_handles) refl;
   is_staged = tt;
-})
+}
 
 -- ---- the blocks' bytes
 
@@ -310,14 +312,11 @@ module _ (bytes : List ℕ) (ms : List BlockHandle) (total cut : ℕ) (p : ℤ �
       same_first [] h l = absurd (omega arith)
       same_first (m ∷ ns) h l = h
 
-  pub replaced_column : (capacity handles_capacity : ℕ) (new : Option Rewritten) → IsTime p.0
-      → IsColumn bytes (handles_replaced r ms) (length (coded_points bytes (handles_replaced r ms))) (cut_after r.at cut) capacity handles_capacity None new
-  replaced_column capacity handles_capacity new is = record {
-    counted = record { coded = replaced_anew is; total_is = refl };
-    apart = w.apart;
-    cut_fits = cut_again r.at refl;
-    is_staged = tt;
-  }
+  pub replaced_counted : IsTime p.0 → AreCountedBlocks bytes (handles_replaced r ms) (length (coded_points bytes (handles_replaced r ms)))
+  replaced_counted is = record { coded = replaced_anew is; total_is = refl }
+
+  pub replaced_cut : CutFits (cut_after r.at cut) (blocks_at bytes (handles_replaced r ms))
+  replaced_cut = cut_again r.at refl
 
 -- ---- points that are removed
 
@@ -451,30 +450,26 @@ module _ (bytes : List ℕ) (ms : List BlockHandle) (cut at : ℕ) (t : ℤ) (c 
       front_fits zero e = absurd (some e)
       front_fits (suc j) e = subst (λ i. cut ≤ length (coded_points bytes (take i ms))) (sym e) (within_front j ms (omega arith) f)
 
-pub dropped_column : (bytes : List ℕ) (ms : List BlockHandle) (total cut at capacity handles_capacity : ℕ) (new : Option Rewritten) → AreCountedBlocks bytes ms total → AreApart ms → CutFits cut (blocks_at bytes (drop at ms))
-    → IsColumn bytes (drop at ms) (length (coded_points bytes (drop at ms))) cut capacity handles_capacity None new
-dropped_column bytes ms total cut at capacity handles_capacity new c o f =
+pub dropped_counted : (bytes : List ℕ) (ms : List BlockHandle) (total at : ℕ) → AreCountedBlocks bytes ms total → AreCountedBlocks bytes (drop at ms) (length (coded_points bytes (drop at ms)))
+dropped_counted bytes ms total at c =
     let split : coded_points bytes ms ≡ coded_points bytes (take at ms) ++ coded_points bytes (drop at ms) = ap (coded_points bytes) (sym (take-append-drop at ms)) ∙ coded_join bytes (take at ms) (drop at ms) in
     let rising = rising_rest (coded_points bytes (take at ms)) (coded_points bytes (drop at ms)) (subst IsRising split c.coded.rising) in
     let timed = timed_rest (coded_points bytes (take at ms)) (coded_points bytes (drop at ms)) (subst AreTimed split c.coded.timed) in
-    record {
-      counted = record { coded = coded_anew bytes (drop at ms) (blocks_behind bytes at ms c.coded.marked) rising timed; total_is = refl };
-      apart = apart_behind at ms o;
-      cut_fits = f;
-      is_staged = tt;
-    }
+    record { coded = coded_anew bytes (drop at ms) (blocks_behind bytes at ms c.coded.marked) rising timed; total_is = refl }
   where
     timed_rest : (ps qs : List (ℤ × ℤ)) → AreTimed (ps ++ qs) → AreTimed qs
     timed_rest [] qs h = h
     timed_rest (p ∷ ps) qs h = timed_rest ps qs h.1
 
+pub none_staged : {A : Type 0} (b : CodedBlocks A) (total cut : ℕ) (staged : Option (ℤ × ℤ)) (r : Option Rewritten) → staged ≡ None → IsStagedIfAny b total cut staged r
+none_staged b total cut staged r e = subst (λ s. IsStagedIfAny b total cut s r) (sym e) tt
+
 -- the same blocks elsewhere
-pub column_again : (old new : List ℕ) (ms ns : List BlockHandle) (total cut capacity handles_capacity capacity_now handles_capacity_now : ℕ) (r : Option Rewritten) → IsColumn old ms total cut capacity handles_capacity None r → AreBlocks new ns → AreApart ns → blocks_at new ns ≡ blocks_at old ms
-    → IsColumn new ns total cut capacity_now handles_capacity_now None r
-column_again old new ms ns total cut capacity handles_capacity capacity_now handles_capacity_now r h marked apart same = record {
-  counted = counted_again old new ms ns total h.counted marked same;
-  apart = apart;
-  cut_fits = subst (CutFits cut) (sym same) h.cut_fits;
+pub column_again : {A : Type 0} (old new : CodedBlocks A) (total cut : ℕ) (r : Option Rewritten) → AreCountedBlocks old.bytes.items old.handles.items total → CutFits cut (blocks_at old.bytes.items old.handles.items) → AreSame old new → IsColumn new total cut None r
+column_again old new total cut r counted fits same = record {
+  counted = counted_again old.bytes.items new.bytes.items old.handles.items new.handles.items total counted same.laid.marked same.blocks;
+  apart = same.laid.apart;
+  cut_fits = subst (CutFits cut) (sym same.blocks) fits;
   is_staged = tt;
 }
 

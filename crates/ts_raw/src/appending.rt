@@ -1,9 +1,11 @@
 //! Appends points to coded blocks.
 ghost use Rattle.std.specs.Prelude.{◌≡◌, ◌↔◌, ◌+◌, ◌<◌, ◌≤◌, ◌<ℤ◌, ℕ, [], ◌∷◌, ◌++◌, length, take, vec_len, vec_capacity, IsTrue, false};
-ghost use Rattle.ts_raw.specs.CodedPoints.{IsCoded, AreOrdered, AllEndBefore, IsBlockHandle, HasRoom, LastGrows, AreApart, IsLastBefore, CutFits, block_points_at, coded_points, blocks_at};
+ghost use Rattle.ts_raw.specs.CodedPoints.{IsCoded, AreOrdered, AllEndBefore, IsBlockHandle, LastGrows, AreApart, IsLastBefore, CutFits, block_points_at, coded_points, blocks_at};
+ghost use Rattle.ts_raw.specs.CodedBlocks.{HasRoom, HasSpare};
 ghost use Rattle.ts_raw.specs.Rewriting.{IsEncoded};
 
 use crate::block_handle::BlockHandle;
+use crate::coded_blocks::CodedBlocks;
 use std::alloc::Allocator;
 use ts_block::{append, begin};
 use ts_core::{Agg, Partial, Time};
@@ -44,36 +46,6 @@ pub(crate) fn can_grow(handles: &[BlockHandle], size: usize) -> bool
     }
 }
 
-/// Appends a point as a block of its own. There must be capacity.
-#[cold]
-fn push_block<A: Allocator>(
-    bytes: &mut Vec<u8, A>,
-    handles: &mut Vec<BlockHandle, A>,
-    point: &(Time, i64),
-)
-    requires coded { IsCoded bytes.old.items handles.old.items }
-    requires apart { AreApart handles.old.items }
-    requires later { AllEndBefore handles.old.items point.now.0 }
-    requires bytes_spare { vec_len bytes.old + 20 ≤ vec_capacity bytes.old }
-    requires handles_spare { vec_len handles.old < vec_capacity handles.old }
-    ensures coded { IsCoded bytes.new.items handles.new.items }
-    ensures apart { AreApart handles.new.items }
-    ensures points { coded_points bytes.new.items handles.new.items ≡ coded_points bytes.old.items handles.old.items ++ point.now ∷ [] }
-    ensures blocks { blocks_at bytes.new.items handles.new.items ≡ blocks_at bytes.old.items handles.old.items ++ ((point.now ∷ []) ∷ []) }
-{
-    let start = bytes.len();
-    begin(bytes, point);
-    let handle = BlockHandle {
-        start,
-        values: 9,
-        end: bytes.len(),
-        count: 1,
-        last: point.0,
-        summary: Agg::single(point.0, point.1),
-    };
-    handles.push_reserved(handle);
-}
-
 /// Appends a point to the block that ends the bytes, in place. There must be capacity.
 fn push_last<A: Allocator>(bytes: &mut Vec<u8, A>, handle: &mut BlockHandle, point: &(Time, i64))
     requires marked { IsBlockHandle bytes.old.items handle.old }
@@ -98,27 +70,50 @@ fn push_last<A: Allocator>(bytes: &mut Vec<u8, A>, handle: &mut BlockHandle, poi
     handle.summary = handle.summary.merge(Agg::single(point.0, point.1));
 }
 
-/// Appends a point after all others, to the last block if it can grow in place, else as a block of its own. There must
-/// be capacity.
-pub(crate) fn push_later<A: Allocator>(
-    bytes: &mut Vec<u8, A>,
-    handles: &mut Vec<BlockHandle, A>,
-    point: &(Time, i64),
-)
-    requires coded { IsCoded bytes.old.items handles.old.items }
-    requires apart { AreApart handles.old.items }
-    requires later { AllEndBefore handles.old.items point.now.0 }
-    requires bytes_spare { vec_len bytes.old + 20 ≤ vec_capacity bytes.old }
-    requires room { HasRoom bytes.old.items handles.old.items (vec_capacity handles.old) }
-    ensures coded { IsCoded bytes.new.items handles.new.items }
-    ensures apart { AreApart handles.new.items }
-    ensures points { coded_points bytes.new.items handles.new.items ≡ coded_points bytes.old.items handles.old.items ++ point.now ∷ [] }
-    ensures cut { (cut : ℕ) → CutFits cut (blocks_at bytes.old.items handles.old.items) → CutFits cut (blocks_at bytes.new.items handles.new.items) }
-{
-    if !can_grow(handles.as_slice(), bytes.len()) {
-        push_block(bytes, handles, point);
-        return;
+impl<A: Allocator> CodedBlocks<A> {
+    /// Appends a point as a block of its own. There must be capacity.
+    #[cold]
+    fn push_block(&mut self, point: &(Time, i64))
+        requires coded { IsCoded self.old.bytes.items self.old.handles.items }
+        requires apart { AreApart self.old.handles.items }
+        requires later { AllEndBefore self.old.handles.items point.now.0 }
+        requires spare { HasSpare 20 self.old }
+        requires handles_spare { vec_len self.old.handles < vec_capacity self.old.handles }
+        ensures coded { IsCoded self.new.bytes.items self.new.handles.items }
+        ensures apart { AreApart self.new.handles.items }
+        ensures points { coded_points self.new.bytes.items self.new.handles.items ≡ coded_points self.old.bytes.items self.old.handles.items ++ point.now ∷ [] }
+        ensures blocks { blocks_at self.new.bytes.items self.new.handles.items ≡ blocks_at self.old.bytes.items self.old.handles.items ++ ((point.now ∷ []) ∷ []) }
+    {
+        let start = self.bytes.len();
+        begin(&mut self.bytes, point);
+        let handle = BlockHandle {
+            start,
+            values: 9,
+            end: self.bytes.len(),
+            count: 1,
+            last: point.0,
+            summary: Agg::single(point.0, point.1),
+        };
+        self.handles.push_reserved(handle);
     }
-    let at = handles.len() - 1;
-    push_last(bytes, &mut handles[at], point);
+
+    /// Appends a point after all others, to the last block if it can grow in place, else as a block of its own. There
+    /// must be capacity.
+    pub(crate) fn push_later(&mut self, point: &(Time, i64))
+        requires coded { IsCoded self.old.bytes.items self.old.handles.items }
+        requires apart { AreApart self.old.handles.items }
+        requires later { AllEndBefore self.old.handles.items point.now.0 }
+        requires room { HasRoom self.old }
+        ensures coded { IsCoded self.new.bytes.items self.new.handles.items }
+        ensures apart { AreApart self.new.handles.items }
+        ensures points { coded_points self.new.bytes.items self.new.handles.items ≡ coded_points self.old.bytes.items self.old.handles.items ++ point.now ∷ [] }
+        ensures cut { (cut : ℕ) → CutFits cut (blocks_at self.old.bytes.items self.old.handles.items) → CutFits cut (blocks_at self.new.bytes.items self.new.handles.items) }
+    {
+        if !can_grow(self.handles.as_slice(), self.bytes.len()) {
+            self.push_block(point);
+            return;
+        }
+        let at = self.handles.len() - 1;
+        push_last(&mut self.bytes, &mut self.handles[at], point);
+    }
 }

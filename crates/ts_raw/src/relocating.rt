@@ -1,38 +1,24 @@
 //! Copies coded blocks: the last one to the end of the bytes, where it can grow, or all into new bytes without gaps.
-ghost use Rattle.std.specs.Prelude.{◌≡◌, ◌+◌, ◌≤◌, vec_len, vec_capacity, IfOk, OnOk};
+ghost use Rattle.std.specs.Prelude.{◌≡◌, ◌≤◌, IfOk, OnOk};
 ghost use Rattle.ts_raw.specs.CodedPoints.{AreBlocks, AreApart, blocks_at};
+ghost use Rattle.ts_raw.specs.CodedBlocks.{AreLaid, AreSame, HasSpare};
 ghost use Rattle.ts_raw.specs.Sliding.{bytes_in_blocks};
 
 use crate::block_handle::BlockHandle;
+use crate::coded_blocks::CodedBlocks;
 use crate::walk::text_of;
 use std::alloc::{AllocError, Allocator};
 use ts_core::reserve_eighth;
 
-/// Copies the last block to the end of the bytes, so that it can grow in place.
-pub(crate) fn move_last<A: Allocator>(
-    bytes: &mut Vec<u8, A>,
-    handles: &mut Vec<BlockHandle, A>,
-) -> Result<(), AllocError>
-    requires marked { AreBlocks bytes.old.items handles.old.items }
-    requires apart { AreApart handles.old.items }
-    ensures marked { AreBlocks bytes.new.items handles.new.items }
-    ensures blocks { blocks_at bytes.new.items handles.new.items ≡ blocks_at bytes.old.items handles.old.items }
-    ensures apart { AreApart handles.new.items }
+/// Returns the number of bytes of all blocks.
+pub(crate) fn blocks_size(handles: &[BlockHandle]) -> usize
+    ensures { result ≤ bytes_in_blocks handles.now }
 {
-    let Some(handle) = handles.last() else {
-        return Ok(());
-    };
-    reserve_eighth(bytes, handle.end - handle.start)?;
-    let start = bytes.len();
-    let handle = handles.pop().unwrap();
-    bytes.extend_from_within(handle.start..handle.end).unwrap();
-    let moved = BlockHandle {
-        start,
-        end: bytes.len(),
-        ..handle
-    };
-    handles.push(moved).unwrap();
-    Ok(())
+    let mut size: usize = 0;
+    for handle in handles {
+        size = size.saturating_add(handle.end.saturating_sub(handle.start));
+    }
+    size
 }
 
 /// Copies the blocks into new bytes, in the order of time.
@@ -62,75 +48,74 @@ fn copy_blocks<A: Allocator + Copy>(
     Ok((new_bytes, new_handles))
 }
 
-/// Returns the number of bytes of all blocks.
-pub(crate) fn blocks_size(handles: &[BlockHandle]) -> usize
-    ensures { result ≤ bytes_in_blocks handles.now }
-{
-    let mut size: usize = 0;
-    for handle in handles {
-        size = size.saturating_add(handle.end.saturating_sub(handle.start));
+impl<A: Allocator> CodedBlocks<A> {
+    /// Copies the last block to the end of the bytes, so that it can grow in place.
+    pub(crate) fn move_last(&mut self) -> Result<(), AllocError>
+        requires laid { AreLaid self.old }
+        ensures same { AreSame self.old self.new }
+    {
+        let Some(handle) = self.handles.last() else {
+            return Ok(());
+        };
+        reserve_eighth(&mut self.bytes, handle.end - handle.start)?;
+        let start = self.bytes.len();
+        let handle = self.handles.pop().unwrap();
+        self.bytes
+            .extend_from_within(handle.start..handle.end)
+            .unwrap();
+        let moved = BlockHandle {
+            start,
+            end: self.bytes.len(),
+            ..handle
+        };
+        self.handles.push(moved).unwrap();
+        Ok(())
     }
-    size
 }
 
-/// Copies the blocks into new bytes without gaps, which will number `size`.
-fn compact<A: Allocator + Copy>(
-    bytes: &mut Vec<u8, A>,
-    handles: &mut Vec<BlockHandle, A>,
-    size: usize,
-) -> Result<(), AllocError>
-    requires marked { AreBlocks bytes.old.items handles.old.items }
-    requires apart { AreApart handles.old.items }
-    ensures marked { AreBlocks bytes.new.items handles.new.items }
-    ensures blocks { blocks_at bytes.new.items handles.new.items ≡ blocks_at bytes.old.items handles.old.items }
-    ensures apart { AreApart handles.new.items }
-{
-    let alloc = *bytes.allocator();
-    let (new_bytes, new_handles) = copy_blocks(alloc, bytes.as_slice(), handles.as_slice(), size)?;
-    *bytes = new_bytes;
-    *handles = new_handles;
-    Ok(())
-}
-
-/// Adds capacity for `size` bytes. If more than a quarter of the bytes is of no block, the blocks are copied into new
-/// bytes without gaps, with capacity for half as many more: so the copied bytes are few by comparison with those that
-/// came in between.
-#[cold]
-fn add_capacity<A: Allocator + Copy>(
-    bytes: &mut Vec<u8, A>,
-    handles: &mut Vec<BlockHandle, A>,
-    size: usize,
-) -> Result<(), AllocError>
-    requires marked { AreBlocks bytes.old.items handles.old.items }
-    requires apart { AreApart handles.old.items }
-    ensures marked { AreBlocks bytes.new.items handles.new.items }
-    ensures blocks { blocks_at bytes.new.items handles.new.items ≡ blocks_at bytes.old.items handles.old.items }
-    ensures apart { AreApart handles.new.items }
-    ensures spare { OnOk result (vec_len bytes.new + size ≤ vec_capacity bytes.new) }
-{
-    let used = blocks_size(handles.as_slice());
-    if bytes.len() - used.min(bytes.len()) > bytes.len() / 4 {
-        compact(bytes, handles, used.saturating_add(used / 2))?;
+impl<A: Allocator + Copy> CodedBlocks<A> {
+    /// Copies the blocks into new bytes without gaps, which will number `size`.
+    fn compact(&mut self, size: usize) -> Result<(), AllocError>
+        requires laid { AreLaid self.old }
+        ensures same { AreSame self.old self.new }
+    {
+        let alloc = *self.bytes.allocator();
+        let (bytes, handles) = copy_blocks(
+            alloc,
+            self.bytes.as_slice(),
+            self.handles.as_slice(),
+            size,
+        )?;
+        *self = CodedBlocks { bytes, handles };
+        Ok(())
     }
-    reserve_eighth(bytes, size)
-}
 
-/// Reserves capacity for `size` bytes.
-#[inline]
-pub(crate) fn reserve_bytes<A: Allocator + Copy>(
-    bytes: &mut Vec<u8, A>,
-    handles: &mut Vec<BlockHandle, A>,
-    size: usize,
-) -> Result<(), AllocError>
-    requires marked { AreBlocks bytes.old.items handles.old.items }
-    requires apart { AreApart handles.old.items }
-    ensures marked { AreBlocks bytes.new.items handles.new.items }
-    ensures blocks { blocks_at bytes.new.items handles.new.items ≡ blocks_at bytes.old.items handles.old.items }
-    ensures apart { AreApart handles.new.items }
-    ensures spare { OnOk result (vec_len bytes.new + size ≤ vec_capacity bytes.new) }
-{
-    if bytes.capacity() - bytes.len() >= size {
-        return Ok(());
+    /// Adds capacity for `size` bytes. If more than a quarter of the bytes is of no block, the blocks are copied into
+    /// new bytes without gaps, with capacity for half as many more: so the copied bytes are few by comparison with those
+    /// that came in between.
+    #[cold]
+    fn add_capacity(&mut self, size: usize) -> Result<(), AllocError>
+        requires laid { AreLaid self.old }
+        ensures same { AreSame self.old self.new }
+        ensures spare { OnOk result (HasSpare size self.new) }
+    {
+        let used = blocks_size(self.handles.as_slice());
+        if self.bytes.len() - used.min(self.bytes.len()) > self.bytes.len() / 4 {
+            self.compact(used.saturating_add(used / 2))?;
+        }
+        reserve_eighth(&mut self.bytes, size)
     }
-    add_capacity(bytes, handles, size)
+
+    /// Reserves capacity for `size` bytes.
+    #[inline]
+    pub(crate) fn reserve_bytes(&mut self, size: usize) -> Result<(), AllocError>
+        requires laid { AreLaid self.old }
+        ensures same { AreSame self.old self.new }
+        ensures spare { OnOk result (HasSpare size self.new) }
+    {
+        if self.bytes.capacity() - self.bytes.len() >= size {
+            return Ok(());
+        }
+        self.add_capacity(size)
+    }
 }

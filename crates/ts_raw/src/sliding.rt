@@ -1,9 +1,10 @@
 //! Slides coded blocks down in place, so that no bytes lie between them.
 ghost use Rattle.std.specs.Prelude.{◌≡◌, ◌≤◌, ◌*◌, length, None, IfSome};
-ghost use Rattle.ts_raw.specs.CodedPoints.{AreBlocks, AreApart, blocks_at};
+ghost use Rattle.ts_raw.specs.CodedBlocks.{AreLaid, AreSame};
 ghost use Rattle.ts_raw.specs.Sliding.{IsNextBlock, AllStartBefore, bytes_in_blocks};
 
 use crate::block_handle::BlockHandle;
+use crate::coded_blocks::CodedBlocks;
 use crate::relocating::blocks_size;
 use std::alloc::Allocator;
 
@@ -43,51 +44,47 @@ fn next_block(handles: &[BlockHandle], from: usize, guess: usize) -> Option<usiz
     }
 }
 
-/// Slides the blocks down in place, in the order of their bytes, so that no bytes lie between them, and releases unused
-/// capacity. Needs no memory.
-#[cold]
-fn slide<A: Allocator>(bytes: &mut Vec<u8, A>, handles: &mut Vec<BlockHandle, A>)
-    requires marked { AreBlocks bytes.old.items handles.old.items }
-    requires apart { AreApart handles.old.items }
-    ensures marked { AreBlocks bytes.new.items handles.new.items }
-    ensures apart { AreApart handles.new.items }
-    ensures blocks { blocks_at bytes.new.items handles.new.items ≡ blocks_at bytes.old.items handles.old.items }
-    ensures packed { length bytes.new.items ≤ bytes_in_blocks handles.new.items }
-{
-    let mut from = 0;
-    let mut to = 0;
-    let mut guess = 0;
-    while let Some(at) = next_block(handles.as_slice(), from, guess) {
-        let handle = handles[at];
-        let end = to + (handle.end - handle.start);
-        bytes
-            .as_mut_slice()
-            .copy_within(handle.start..handle.end, to);
-        handles[at] = BlockHandle {
-            start: to,
-            end,
-            ..handle
-        };
-        from = handle.end;
-        to = end;
-        guess = at + 1;
+impl<A: Allocator> CodedBlocks<A> {
+    /// Slides the blocks down in place, in the order of their bytes, so that no bytes lie between them, and releases
+    /// unused capacity. Needs no memory.
+    #[cold]
+    fn slide(&mut self)
+        requires laid { AreLaid self.old }
+        ensures same { AreSame self.old self.new }
+        ensures packed { length self.new.bytes.items ≤ bytes_in_blocks self.new.handles.items }
+    {
+        let mut from = 0;
+        let mut to = 0;
+        let mut guess = 0;
+        while let Some(at) = next_block(self.handles.as_slice(), from, guess) {
+            let handle = self.handles[at];
+            let end = to + (handle.end - handle.start);
+            self.bytes
+                .as_mut_slice()
+                .copy_within(handle.start..handle.end, to);
+            self.handles[at] = BlockHandle {
+                start: to,
+                end,
+                ..handle
+            };
+            from = handle.end;
+            to = end;
+            guess = at + 1;
+        }
+        self.bytes.truncate(to);
+        self.bytes.shrink_to_fit();
+        self.handles.shrink_to_fit();
     }
-    bytes.truncate(to);
-    bytes.shrink_to_fit();
-    handles.shrink_to_fit();
-}
 
-/// Slides the blocks down if more bytes are of no block than of blocks. Needs no memory.
-pub(crate) fn pack<A: Allocator>(bytes: &mut Vec<u8, A>, handles: &mut Vec<BlockHandle, A>)
-    requires marked { AreBlocks bytes.old.items handles.old.items }
-    requires apart { AreApart handles.old.items }
-    ensures marked { AreBlocks bytes.new.items handles.new.items }
-    ensures apart { AreApart handles.new.items }
-    ensures blocks { blocks_at bytes.new.items handles.new.items ≡ blocks_at bytes.old.items handles.old.items }
-    ensures few_dead { length bytes.new.items ≤ 2 * bytes_in_blocks handles.new.items }
-{
-    let used = blocks_size(handles.as_slice());
-    if bytes.len().saturating_sub(used) > used {
-        slide(bytes, handles);
+    /// Slides the blocks down if more bytes are of no block than of blocks. Needs no memory.
+    pub(crate) fn pack(&mut self)
+        requires laid { AreLaid self.old }
+        ensures same { AreSame self.old self.new }
+        ensures few_dead { length self.new.bytes.items ≤ 2 * bytes_in_blocks self.new.handles.items }
+    {
+        let used = blocks_size(self.handles.as_slice());
+        if self.bytes.len().saturating_sub(used) > used {
+            self.slide();
+        }
     }
 }

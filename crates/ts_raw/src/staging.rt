@@ -1,110 +1,16 @@
 //! Stages a point: allocates all that its insertion needs.
-ghost use Rattle.std.specs.Prelude.{◌≡◌, ◌+◌, ◌<◌, ◌≤◌, length, take, vec_len, vec_capacity, option_map, IfOk, OnOk};
-ghost use Rattle.ts_raw.specs.CodedPoints.{AreBlocks, AreApart, AreCountedBlocks, HasRoom, blocks_at, AllEndBefore, IsLastBefore, CutFits};
+ghost use Rattle.std.specs.Prelude.{◌≡◌, ◌<◌, ◌≤◌, length, vec_len, vec_capacity, option_map, IfOk, OnOk};
+ghost use Rattle.ts_raw.specs.CodedPoints.{AreApart, AreCountedBlocks, blocks_at, IsLastBefore, CutFits};
+ghost use Rattle.ts_raw.specs.CodedBlocks.{AreLaid, AreSame, HasSpare, HasRoom};
 ghost use Rattle.ts_raw.specs.BlockColumns.{IsStaged};
 ghost use Rattle.ts_raw.specs.Rewriting.{IsRewritten};
 
 use crate::appending::{POINT_BYTES, blocks_before, can_grow, is_full};
 use crate::block_handle::BlockHandle;
-use crate::relocating::{move_last, reserve_bytes};
+use crate::coded_blocks::CodedBlocks;
 use crate::rewriting::{Rewritten, cut_of, rewrite};
 use std::alloc::{AllocError, Allocator};
 use ts_core::{Time, reserve_eighth};
-
-/// Moves the last block to the end of the bytes if it isn't full and can't grow where it is. Keeps capacity for a point.
-fn open_last<A: Allocator>(
-    bytes: &mut Vec<u8, A>,
-    handles: &mut Vec<BlockHandle, A>,
-) -> Result<(), AllocError>
-    requires marked { AreBlocks bytes.old.items handles.old.items }
-    requires apart { AreApart handles.old.items }
-    requires spare { vec_len bytes.old + 20 ≤ vec_capacity bytes.old }
-    ensures marked { AreBlocks bytes.new.items handles.new.items }
-    ensures blocks { blocks_at bytes.new.items handles.new.items ≡ blocks_at bytes.old.items handles.old.items }
-    ensures apart { AreApart handles.new.items }
-    ensures spare { OnOk result (vec_len bytes.new + 20 ≤ vec_capacity bytes.new) }
-{
-    let Some(handle) = handles.last() else {
-        return Ok(());
-    };
-    if is_full(handle) || handle.end == bytes.len() {
-        return Ok(());
-    }
-    move_last(bytes, handles)?;
-    reserve_eighth(bytes, POINT_BYTES)
-}
-
-/// Reserves capacity for a handle if a point after all others will be a block of its own.
-fn stage_last<A: Allocator>(
-    bytes: &mut Vec<u8, A>,
-    handles: &mut Vec<BlockHandle, A>,
-    time: Time,
-) -> Result<(), AllocError>
-    requires marked { AreBlocks bytes.old.items handles.old.items }
-    requires apart { AreApart handles.old.items }
-    requires later { AllEndBefore handles.old.items time }
-    requires spare { vec_len bytes.old + 20 ≤ vec_capacity bytes.old }
-    ensures marked { AreBlocks bytes.new.items handles.new.items }
-    ensures blocks { blocks_at bytes.new.items handles.new.items ≡ blocks_at bytes.old.items handles.old.items }
-    ensures apart { AreApart handles.new.items }
-    ensures later { AllEndBefore handles.new.items time }
-    ensures spare { OnOk result (vec_len bytes.new + 20 ≤ vec_capacity bytes.new) }
-    ensures room { OnOk result (HasRoom bytes.new.items handles.new.items (vec_capacity handles.new)) }
-{
-    open_last(bytes, handles)?;
-    if can_grow(handles.as_slice(), bytes.len()) {
-        return Ok(());
-    }
-    reserve_eighth(handles, 1)
-}
-
-/// Encodes the block of a point anew. `at` is the index of the first block that doesn't end before the point, `cut` the
-/// number of removed points.
-fn stage_among<A: Allocator + Copy>(
-    bytes: &mut Vec<u8, A>,
-    handles: &mut Vec<BlockHandle, A>,
-    at: usize,
-    cut: usize,
-    point: &(Time, i64),
-) -> Result<Rewritten, AllocError>
-    requires marked { AreBlocks bytes.old.items handles.old.items }
-    requires apart { AreApart handles.old.items }
-    requires cut { CutFits cut (blocks_at bytes.old.items handles.old.items) }
-    requires at { IsLastBefore point.now.0 handles.old.items at }
-    requires within { at < length handles.old.items }
-    ensures items { handles.new.items ≡ handles.old.items }
-    ensures kept { take (vec_len bytes.old) bytes.new.items ≡ bytes.old.items }
-    ensures handles_spare { OnOk result (vec_len handles.new < vec_capacity handles.new) }
-    ensures rewritten { IfOk result (λ new. IsRewritten bytes.new.items handles.new.items cut point.now new) }
-{
-    reserve_eighth(handles, 1)?;
-    let handle = handles[at];
-    rewrite(bytes, &handle, at, cut_of(at, cut), point)
-}
-
-/// As `stage_among`, with the new blocks in a box.
-#[cold]
-fn stage_boxed<A: Allocator + Copy>(
-    bytes: &mut Vec<u8, A>,
-    handles: &mut Vec<BlockHandle, A>,
-    at: usize,
-    cut: usize,
-    point: &(Time, i64),
-) -> Result<Box<Rewritten, A>, AllocError>
-    requires marked { AreBlocks bytes.old.items handles.old.items }
-    requires apart { AreApart handles.old.items }
-    requires cut { CutFits cut (blocks_at bytes.old.items handles.old.items) }
-    requires at { IsLastBefore point.now.0 handles.old.items at }
-    requires within { at < length handles.old.items }
-    ensures items { handles.new.items ≡ handles.old.items }
-    ensures kept { take (vec_len bytes.old) bytes.new.items ≡ bytes.old.items }
-    ensures handles_spare { OnOk result (vec_len handles.new < vec_capacity handles.new) }
-    ensures rewritten { IfOk result (λ new. IsRewritten bytes.new.items handles.new.items cut point.now new.value) }
-{
-    let new = stage_among(bytes, handles, at, cut, point)?;
-    let alloc = *bytes.allocator();
-    Ok(Box::new(alloc, new)?)
-}
 
 /// Returns about as many bytes as the copy of a point's block takes with the point.
 #[cold]
@@ -129,32 +35,108 @@ fn needed_bytes(handles: &[BlockHandle], time: Time) -> usize
     }
 }
 
-/// Stages a point: reserves the capacity to append it, or copies its block with the point and returns the new blocks.
-/// The first `cut` points of `total` were removed.
-pub(crate) fn stage<A: Allocator + Copy>(
-    bytes: &mut Vec<u8, A>,
-    handles: &mut Vec<BlockHandle, A>,
-    total: usize,
-    cut: usize,
-    point: (Time, i64),
-) -> Result<Option<Box<Rewritten, A>>, AllocError>
-    requires counted { AreCountedBlocks bytes.old.items handles.old.items total }
-    requires apart { AreApart handles.old.items }
-    requires cut { CutFits cut (blocks_at bytes.old.items handles.old.items) }
-    ensures counted { AreCountedBlocks bytes.new.items handles.new.items total }
-    ensures blocks { blocks_at bytes.new.items handles.new.items ≡ blocks_at bytes.old.items handles.old.items }
-    ensures apart { AreApart handles.new.items }
-    ensures staged { IfOk result (λ new. IsStaged bytes.new.items handles.new.items total cut (vec_capacity bytes.new) (vec_capacity handles.new) point (option_map (λ b. b.value) new)) }
-{
-    if total == usize::MAX {
-        return Err(AllocError);
+impl<A: Allocator> CodedBlocks<A> {
+    /// Moves the last block to the end of the bytes if it isn't full and can't grow where it is. Keeps capacity for a
+    /// point.
+    fn open_last(&mut self) -> Result<(), AllocError>
+        requires laid { AreLaid self.old }
+        requires spare { HasSpare 20 self.old }
+        ensures same { AreSame self.old self.new }
+        ensures spare { OnOk result (HasSpare 20 self.new) }
+    {
+        let Some(handle) = self.handles.last() else {
+            return Ok(());
+        };
+        if is_full(handle) || handle.end == self.bytes.len() {
+            return Ok(());
+        }
+        self.move_last()?;
+        reserve_eighth(&mut self.bytes, POINT_BYTES)
     }
-    reserve_bytes(bytes, handles, needed_bytes(handles.as_slice(), point.0))?;
-    let at = blocks_before(handles.as_slice(), point.0);
-    if at == handles.len() {
-        stage_last(bytes, handles, point.0)?;
-        return Ok(None);
+
+    /// Reserves capacity for a handle if a point after all others will be a block of its own.
+    fn stage_last(&mut self) -> Result<(), AllocError>
+        requires laid { AreLaid self.old }
+        requires spare { HasSpare 20 self.old }
+        ensures same { AreSame self.old self.new }
+        ensures room { OnOk result (HasRoom self.new) }
+    {
+        self.open_last()?;
+        if can_grow(self.handles.as_slice(), self.bytes.len()) {
+            return Ok(());
+        }
+        reserve_eighth(&mut self.handles, 1)
     }
-    let new = stage_boxed(bytes, handles, at, cut, &point)?;
-    Ok(Some(new))
+}
+
+impl<A: Allocator + Copy> CodedBlocks<A> {
+    /// Encodes the block of a point anew. `at` is the index of the first block that doesn't end before the point, `cut`
+    /// the number of removed points.
+    fn stage_among(
+        &mut self,
+        at: usize,
+        cut: usize,
+        point: &(Time, i64),
+    ) -> Result<Rewritten, AllocError>
+        requires laid { AreLaid self.old }
+        requires cut { CutFits cut (blocks_at self.old.bytes.items self.old.handles.items) }
+        requires at { IsLastBefore point.now.0 self.old.handles.items at }
+        requires within { at < length self.old.handles.items }
+        ensures same { AreSame self.old self.new }
+        ensures spare { OnOk result (vec_len self.new.handles < vec_capacity self.new.handles) }
+        ensures rewritten { IfOk result (λ new. IsRewritten self.new.bytes.items self.new.handles.items cut point.now new) }
+    {
+        reserve_eighth(&mut self.handles, 1)?;
+        let handle = self.handles[at];
+        rewrite(&mut self.bytes, &handle, at, cut_of(at, cut), point)
+    }
+
+    /// As `stage_among`, with the new blocks in a box.
+    #[cold]
+    fn stage_boxed(
+        &mut self,
+        at: usize,
+        cut: usize,
+        point: &(Time, i64),
+    ) -> Result<Box<Rewritten, A>, AllocError>
+        requires laid { AreLaid self.old }
+        requires cut { CutFits cut (blocks_at self.old.bytes.items self.old.handles.items) }
+        requires at { IsLastBefore point.now.0 self.old.handles.items at }
+        requires within { at < length self.old.handles.items }
+        ensures same { AreSame self.old self.new }
+        ensures spare { OnOk result (vec_len self.new.handles < vec_capacity self.new.handles) }
+        ensures rewritten { IfOk result (λ new. IsRewritten self.new.bytes.items self.new.handles.items cut point.now new.value) }
+    {
+        let new = self.stage_among(at, cut, point)?;
+        let alloc = *self.bytes.allocator();
+        Ok(Box::new(alloc, new)?)
+    }
+
+    /// Stages a point: reserves the capacity to append it, or copies its block with the point and returns the new
+    /// blocks. The first `cut` points of `total` were removed.
+    pub(crate) fn stage(
+        &mut self,
+        total: usize,
+        cut: usize,
+        point: (Time, i64),
+    ) -> Result<Option<Box<Rewritten, A>>, AllocError>
+        requires counted { AreCountedBlocks self.old.bytes.items self.old.handles.items total }
+        requires apart { AreApart self.old.handles.items }
+        requires cut { CutFits cut (blocks_at self.old.bytes.items self.old.handles.items) }
+        ensures same { AreSame self.old self.new }
+        ensures staged { IfOk result (λ new. IsStaged self.new total cut point (option_map (λ b. b.value) new)) }
+    {
+        if total == usize::MAX {
+            return Err(AllocError);
+        }
+        let needed = needed_bytes(self.handles.as_slice(), point.0);
+        self.reserve_bytes(needed)?;
+        let at = blocks_before(self.handles.as_slice(), point.0);
+        if at == self.handles.len() {
+            self.stage_last()?;
+            return Ok(None);
+        }
+        let new = self.stage_boxed(at, cut, &point)?;
+        Ok(Some(new))
+    }
 }

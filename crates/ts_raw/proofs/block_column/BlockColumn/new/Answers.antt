@@ -6,7 +6,9 @@ use Rattle.ts_raw.proofs.ColumnBlocks.{no_points}
 use Rattle.ts_raw.proofs.block_column.BlockColumn.new.Goals as goal
 
 pub invariant_of-result : goal.invariant_of-result
-invariant_of-result g c = no_points c.new.result.items c.new-2.result.items _ _ c.new.ensures.items c.new-2.ensures.items
+invariant_of-result g c = no_points c.new.result c.new.ensures.none
 
 pub returns-clause-points : goal.returns-clause-points
-returns-clause-points g c = from_sorted-nothing int_cmp (coded_points c.new.result.items c.new-2.result.items) (none_counted c.new.result.items c.new-2.result.items c.new.ensures.items c.new-2.ensures.items).1
+returns-clause-points g c =
+    let none = c.new.ensures.none in
+    from_sorted-nothing int_cmp (coded_points c.new.result.bytes.items c.new.result.handles.items) (none_counted c.new.result.bytes.items c.new.result.handles.items none.no_bytes none.no_handles).1

@@ -10,7 +10,7 @@ use Rattle.ts_raw.proofs.block_column.BlockColumn.window.Goals as goal
 
 pub between-requires-clause-few : goal.between-requires-clause-few
 between-requires-clause-few g c =
-    let same : length (coded_points c.self.inside.bytes.items c.self.inside.handles.items) ≡ length (coded_points c.as_slice.result.now c.as_slice-2.result.now) = λ i. length (coded_points (sym c.as_slice.ensures.value i) (sym c.as_slice-2.ensures.value i)) in
+    let same : length (coded_points c.self.inside.blocks.bytes.items c.self.inside.blocks.handles.items) ≡ length (coded_points c.as_slice.result.now c.as_slice-2.result.now) = λ i. length (coded_points (sym c.as_slice.ensures.value i) (sym c.as_slice-2.ensures.value i)) in
     let total = c.self.invariant.counted.total_is in
     let fits : Fits w64 c.self.inside.total = search rules in
     let top = fits.fits in
@@ -18,7 +18,7 @@ between-requires-clause-few g c =
 
 pub returns-clause-points : goal.returns-clause-points
 returns-clause-points g c =
-    let all : List (ℤ × ℤ) = coded_points c.self.inside.bytes.items c.self.inside.handles.items in
+    let all : List (ℤ × ℤ) = coded_points c.self.inside.blocks.bytes.items c.self.inside.blocks.handles.items in
     let points : List (ℤ × ℤ) = drop c.self.inside.cut all in
     let within : ℤ → ℤ → List (ℤ × ℤ) → List (ℤ × ℤ) = λ a b ps. filter (λ (p : ℤ × ℤ). is_within a b p.0) ps in
     let from_fits : SFits w64 c.args.from = search rules in
@@ -30,6 +30,6 @@ returns-clause-points g c =
 
 pub returns-clause-all_timed : goal.returns-clause-all_timed
 returns-clause-all_timed g c =
-    let all : List (ℤ × ℤ) = coded_points c.self.inside.bytes.items c.self.inside.handles.items in
+    let all : List (ℤ × ℤ) = coded_points c.self.inside.blocks.bytes.items c.self.inside.blocks.handles.items in
     subst AreTimed (sym (entries-from_sorted int_cmp (drop c.self.inside.cut all) (is_rising_behind c.self.inside.cut all c.self.invariant.counted.coded.rising)) ∙ ap (λ (s : BlockColumnState). map.entries s.points) c.self.view_is)
     (timed_behind c.self.inside.cut all c.self.invariant.counted.coded.timed)

@@ -8,12 +8,12 @@ use Rattle.ts_raw.proofs.block_column.BlockColumnColumn.live.Goals as goal
 
 pub overflow_sub-result : goal.overflow_sub-result
 overflow_sub-result g c =
-    let fits = cut_within c.self.inside.bytes.items c.self.inside.handles.items c.self.inside.cut c.self.invariant.cut_fits in
+    let fits = cut_within c.self.inside.blocks.bytes.items c.self.inside.blocks.handles.items c.self.inside.cut c.self.invariant.cut_fits in
     let total = c.self.invariant.counted.total_is in
     omega arith
 
 pub returns : goal.returns
 returns g c =
     ap (λ n. n - c.self.inside.cut) c.self.invariant.counted.total_is
-    ∙ sym (cut_length c.self.inside.cut (coded_points c.self.inside.bytes.items c.self.inside.handles.items) c.self.invariant.counted.coded.rising)
+    ∙ sym (cut_length c.self.inside.cut (coded_points c.self.inside.blocks.bytes.items c.self.inside.blocks.handles.items) c.self.invariant.counted.coded.rising)
     ∙ ap (λ (s : BlockColumnState). map.len s.points) c.self.view_is
