@@ -8,15 +8,13 @@ ghost use Rattle.ts_core.specs.lists.Numbered.{IsAt};
 ghost use Rattle.ts_core.specs.settings.Settings.{Rule as RuleValue};
 ghost use Rattle.ts_core.specs.store.StoreStates.{column_of};
 ghost use Rattle.ts_cells.specs.Grids.{cell_at, rollup_series_named};
-ghost use Rattle.ts_raw.specs.Columns.{AreTimed};
-ghost use Rattle.ts_raw.specs.PlainColumns.{IsRising};
 ghost use Rattle.ts_store.specs.image.Building.{cell_map_at};
 ghost use Rattle.ts_store.specs.rollup.Rollups.{AreRollups, cells_of};
 
 use crate::store::column_facts::{ColumnFacts, StoredColumn};
 use crate::write::columns::make_column;
 use std::alloc::{AllocError, Allocator};
-use ts_core::{Agg, KeyRef, Rule, Time};
+use ts_core::{Agg, KeyRef, Rule};
 use ts_raw::SeriesId;
 
 impl<A: Allocator + Copy> ColumnFacts<A> {
@@ -40,20 +38,17 @@ impl<A: Allocator + Copy> ColumnFacts<A> {
         rules: &[Rule<A>],
         series: SeriesId,
         field: &str,
-        points: Vec<(Time, i64), A>,
+        points: StoredColumn<A>,
     ) -> Result<(), AllocError>
         requires registered { series < length self.old.series }
         requires absent { (s : Series) → IsAt self.old.series series s → Among (record { series = s; field = field.now }) (map column_of self.old.columns) → ⊥ }
-        requires rising { IsRising points.items }
-        requires timed { AreTimed points.items }
         requires rollups { AreRollups rules.now (map column_of self.old.columns) self.old.rollups }
-        ensures ok { (s : Series) → IsAt self.old.series series s → OnOk result (self.new.columns ≡ self.old.columns ++ record { column = record { series = s; field = field.now }; points = points.items } ∷ []) }
+        ensures ok { (s : Series) → IsAt self.old.series series s → OnOk result (self.new.columns ≡ self.old.columns ++ record { column = record { series = s; field = field.now }; points = finmap.entries points.points } ∷ []) }
         ensures err { OnErr result (self.new.columns ≡ self.old.columns) }
         ensures series { self.new.series ≡ self.old.series }
         ensures rollups { AreRollups rules.now (map column_of self.new.columns) self.new.rollups }
         ensures cells { cells_of self.new.rollups ≡ cells_of self.old.rollups }
     {
-        let points = StoredColumn::from_points(points)?;
         let column = make_column(
             &mut self.index,
             &mut self.columns,

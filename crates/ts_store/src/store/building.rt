@@ -7,17 +7,15 @@ ghost use Rattle.ts_core.specs.lists.Numbered.{IsAt};
 ghost use Rattle.ts_core.specs.store.StoreStates.{column_of};
 ghost use Rattle.ts_line.specs.Names.{IsKey, IsStatable};
 ghost use Rattle.ts_cells.specs.Grids.{cell_at, rollup_series_named};
-ghost use Rattle.ts_raw.specs.Columns.{AreTimed};
-ghost use Rattle.ts_raw.specs.PlainColumns.{IsRising};
 ghost use Rattle.ts_store.specs.image.Building.{new_built, with_built_series, with_built_column, with_built_cell, cell_map_at, IsBuildable, IsBuiltFrom};
 
 use crate::retain::run::Run;
 use crate::store::Store;
-use crate::store::column_facts::ColumnFacts;
+use crate::store::column_facts::{ColumnFacts, StoredColumn};
 use std::alloc::{AllocError, Allocator};
 use std::hash::RandomState;
 use std::marker::Model;
-use ts_core::{Agg, KeyRef, Marks, Settings, Time};
+use ts_core::{Agg, KeyRef, Marks, Settings};
 use ts_raw::SeriesId;
 
 /// A store under construction. Parts are added one by one; live parts of cells are computed at the end.
@@ -80,21 +78,19 @@ impl<A: Allocator + Copy> StoreBuilder<A> {
         self.facts.add_series(key)
     }
 
-    /// Adds a column, which must be new, with its points. These must be in the order of time, each time once. `waits`
-    /// is true if the column waits for the open run. On allocation failure, nothing changes.
+    /// Adds a column, which must be new, with its points. `waits` is true if the column waits for the open run. On
+    /// allocation failure, nothing changes.
     pub fn add_column(
         &mut self,
         series: SeriesId,
         field: &str,
         waits: bool,
-        points: Vec<(Time, i64), A>,
+        points: StoredColumn<A>,
     ) -> Result<(), AllocError>
         requires registered { series < length self.old.series }
         requires absent { (s : Series) → IsAt self.old.series series s → Among (record { series = s; field = field.now }) (map column_of self.old.columns) → ⊥ }
         requires key { IsKey field.now }
-        requires rising { IsRising points.items }
-        requires timed { AreTimed points.items }
-        ensures ok { (s : Series) → IsAt self.old.series series s → OnOk result (self.new ≡ with_built_column (record { column = record { series = s; field = field.now }; points = points.items }) waits self.old) }
+        ensures ok { (s : Series) → IsAt self.old.series series s → OnOk result (self.new ≡ with_built_column (record { column = record { series = s; field = field.now }; points = finmap.entries points.points }) waits self.old) }
         ensures err { OnErr result (self.new ≡ self.old) }
     {
         self.passed.reserve(1)?;

@@ -1,4 +1,5 @@
 use Rattle.std.proofs.Common.{◌≡◌, ◌<◌, ◌∙◌, ◌++◌, [], ◌∷◌, Bool, not, List, length, map, get_or, cond, is_ok, ap, sym, subst}
+use Rattle.std.specs.FinMap as finmap
 use Rattle.std.proofs.lemmas.Option.{slice_get-get_or}
 use Rattle.ts_core.specs.facts.Facts.{Series}
 use Rattle.ts_core.specs.lists.Numbered.{IsAt}
@@ -17,7 +18,7 @@ invariant_of-self-2 g c =
     let within : c.args.series < length i.facts.series = subst (λ (b : Built). c.args.series < length b.series) (sym c.self.view_is) c.requires.registered in
     let s : Series = get_or i.facts.series c.args.series no_series in
     let at : IsAt i.facts.series c.args.series s = slice_get-get_or i.facts.series c.args.series no_series within in
-    let x : ColumnPoints = record { column = record { series = s; field = c.args.field.now }; points = c.args.points.items } in
+    let x : ColumnPoints = record { column = record { series = s; field = c.args.field.now }; points = finmap.entries c.args.points.points } in
     let before : List Bool = c.reserve.new.self.items in
     let w : Bool = not c.args.waits in
     let flags : c.push.new.self.items ≡ i.passed.items ++ w ∷ [] =
@@ -29,7 +30,7 @@ pub returns-clause-ok : goal.returns-clause-ok
 returns-clause-ok g c = λ s at.
     let i = c.self.inside in
     let at' : IsAt i.facts.series c.args.series s = subst (λ (b : Built). IsAt b.series c.args.series s) (sym c.self.view_is) at in
-    let x : ColumnPoints = record { column = record { series = s; field = c.args.field.now }; points = c.args.points.items } in
+    let x : ColumnPoints = record { column = record { series = s; field = c.args.field.now }; points = finmap.entries c.args.points.points } in
     let before : List Bool = c.reserve.new.self.items in
     let w : Bool = not c.args.waits in
     let flags : c.push.new.self.items ≡ i.passed.items ++ w ∷ [] =

@@ -1,4 +1,5 @@
-use Rattle.std.proofs.Common.{◌≡◌, ◌<◌, ◌∙◌, ◌++◌, [], ◌∷◌, ℕ, List, length, map, set, ap, sym, subst, arith}
+use Rattle.std.proofs.Common.{◌≡◌, ◌<◌, ◌∙◌, ◌++◌, [], ◌∷◌, ℕ, List, length, map, set, ap, refl, sym, subst, arith}
+use Rattle.std.specs.FinMap as finmap
 use Rattle.std.proofs.lemmas.List.{with_items_is}
 use Rattle.std.proofs.lemmas.Result.{IfOk-from_err}
 use Rattle.ts_core.specs.facts.Facts.{Column}
@@ -34,11 +35,11 @@ invariant_of-self g c = column_refused c.self.inside.index c.make_column.new.ind
 
 pub returns-in_err-column-clause-err : goal.returns-in_err-column-clause-err
 returns-in_err-column-clause-err g c =
-    on_any_err c.from_residual-in_err-column.result
+    on_any_err c.from_residual.result
     (columns_refused c.self.inside.index c.make_column.new.index c.self.inside.columns.items c.make_column.new.columns.items c.in_err-column.ensures.column.kept ∙ ap (λ (h : StoreContent). h.columns) c.self.view_is)
 
 pub returns-in_err-column-clause-ok : goal.returns-in_err-column-clause-ok
-returns-in_err-column-clause-ok g c = λ s at. IfOk-from_err c.from_residual-in_err-column.result _ c.from_residual-in_err-column.ensures.0
+returns-in_err-column-clause-ok g c = λ s at. IfOk-from_err c.from_residual.result _ c.from_residual.ensures.0
 
 pub returns-in_err-column-clause-series : goal.returns-in_err-column-clause-series
 returns-in_err-column-clause-series g c = c.in_err-column.ensures.column.series ∙ ap (λ (h : StoreContent). h.series) c.self.view_is
@@ -76,22 +77,22 @@ index_mut-requires g c =
 pub invariant_of-self-2 : goal.invariant_of-self-2
 invariant_of-self-2 g c =
     let ss' : List ColumnState = c.make_column.new.columns.items in
-    subst (λ (k : ℕ). IsSoundContent c.make_column.new.index (set ss' k c.in_ok-points.points)) (sym c.number.ensures)
+    subst (λ (k : ℕ). IsSoundContent c.make_column.new.index (set ss' k c.args.points)) (sym c.number.ensures)
     (column_held _ c.self.inside.index c.make_column.new.index c.self.inside.columns.items ss' c.args.series c.in_ok-column.column c.args.field.now c.self.invariant
     (its_absent c.self.inside.index c.self.inside.columns.items c.self.inside.rollups.items c.args.self.now c.args.series c.args.field.now c.self.invariant c.self.view_is c.requires.registered c.requires.absent)
-    c.in_ok-points.points c.in_ok-column.ensures.column)
+    c.args.points c.in_ok-column.ensures.column)
 
 pub returns-clause-ok : goal.returns-clause-ok
 returns-clause-ok g c = λ s at.
     let index : Indexed = c.self.inside.index in
     let after : Indexed = c.make_column.new.index in
     let ss' : List ColumnState = c.make_column.new.columns.items in
-    let x : ColumnPoints = record { column = record { series = s; field = c.args.field.now }; points = c.args.points.items } in
+    let x : ColumnPoints = record { column = record { series = s; field = c.args.field.now }; points = finmap.entries c.args.points.points } in
     let at' : IsAt index.series c.args.series s = subst (λ (h : StoreContent). IsAt h.series c.args.series s) (sym c.self.view_is) at in
-    ap (λ (k : ℕ). columns_in after (set ss' k c.in_ok-points.points)) c.number.ensures
+    ap (λ (k : ℕ). columns_in after (set ss' k c.args.points)) c.number.ensures
     ∙ column_added _ index after c.self.inside.columns.items ss' c.args.series c.in_ok-column.column c.args.field.now c.self.invariant
     (its_absent index c.self.inside.columns.items c.self.inside.rollups.items c.args.self.now c.args.series c.args.field.now c.self.invariant c.self.view_is c.requires.registered c.requires.absent)
-    c.in_ok-points.points s c.args.points.items at' c.in_ok-points.ensures.entries c.in_ok-column.ensures.column
+    c.args.points s (finmap.entries c.args.points.points) at' refl c.in_ok-column.ensures.column
     ∙ ap (λ (h : StoreContent). h.columns ++ x ∷ []) c.self.view_is
 
 pub returns-clause-series : goal.returns-clause-series
@@ -104,13 +105,13 @@ returns-clause-rollups g c =
     let ss' : List ColumnState = c.make_column.new.columns.items in
     let counted = c.self.inside.rollups.ok.0 in
     let long : length vs ≡ c.self.inside.rollups.len = cc (c.make_column.auto.rollups, c.as_mut_slice.ensures.value, counted) in
-    let held : IsSoundContent after (set ss' c.number.result c.in_ok-points.points) =
-    subst (λ (k : ℕ). IsSoundContent after (set ss' k c.in_ok-points.points)) (sym c.number.ensures)
+    let held : IsSoundContent after (set ss' c.number.result c.args.points) =
+    subst (λ (k : ℕ). IsSoundContent after (set ss' k c.args.points)) (sym c.number.ensures)
     (column_held _ c.self.inside.index after c.self.inside.columns.items ss' c.args.series c.in_ok-column.column c.args.field.now c.self.invariant
     (its_absent c.self.inside.index c.self.inside.columns.items c.self.inside.rollups.items c.args.self.now c.args.series c.args.field.now c.self.invariant c.self.view_is c.requires.registered c.requires.absent)
-    c.in_ok-points.points c.in_ok-column.ensures.column) in
-    subst (AreRollups c.args.rules.now (map column_of (columns_in after (set ss' c.number.result c.in_ok-points.points)))) (sym (with_items_is c.self.inside.rollups vs long))
-    (subst (λ (cs : List Column). AreRollups c.args.rules.now cs vs) (sym (names_held after (set ss' c.number.result c.in_ok-points.points) held.each)) c.in_ok-column.ensures.rollups)
+    c.args.points c.in_ok-column.ensures.column) in
+    subst (AreRollups c.args.rules.now (map column_of (columns_in after (set ss' c.number.result c.args.points)))) (sym (with_items_is c.self.inside.rollups vs long))
+    (subst (λ (cs : List Column). AreRollups c.args.rules.now cs vs) (sym (names_held after (set ss' c.number.result c.args.points) held.each)) c.in_ok-column.ensures.rollups)
 
 pub returns-clause-cells : goal.returns-clause-cells
 returns-clause-cells g c =
