@@ -24,6 +24,7 @@ pub mod Testing
 pub mod MadeSettings
 pub mod Loading
 pub mod Rising
+pub mod PartedPoints
 pub mod Lending
 pub mod ColumnMaking
 pub mod SeriesMaking

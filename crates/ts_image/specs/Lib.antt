@@ -9,6 +9,7 @@ pub mod ImageTests
 pub mod ImageFaults
 pub mod Pictures
 pub mod PointParts
+pub mod PointsParts
 pub mod SeriesParts
 pub mod CellParts
 pub mod HeadReading

@@ -5,10 +5,9 @@ use Rattle.ts_image.specs.declared.series_reading.ColumnParts.{ColumnParts}
 use Rattle.ts_image.specs.declared.series_reading.KeyParts.{KeyParts}
 use Rattle.ts_image.specs.declared.series_reading.SeriesParts.{SeriesParts}
 use Rattle.ts_image.specs.Images.{ImageColumn, ImageSeries}
-use Rattle.ts_image.specs.PointParts.{points_of_parts}
 
 abbrev pub column_of_parts : {A : Type 0} → ColumnParts A → ImageColumn
-column_of_parts c = record { field = string_bytes c.field; waits = c.waits; points = points_of_parts c.points }
+column_of_parts c = record { field = string_bytes c.field; waits = c.waits; points = c.points }
 
 abbrev pub column_parts_of : {A : Type 0} → Vec (ColumnParts A) A → List ImageColumn
 column_parts_of v = map column_of_parts v.items

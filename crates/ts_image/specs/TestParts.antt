@@ -1,5 +1,5 @@
 -- Keys of the parts of images, and tests of parts. (Own rules.)
-use Rattle.std.specs.Prelude.{◌≡◌, ◌≢◌, ◌+◌, ◌<◌, ◌≤◌, ◌≤ℤ◌, ◌^◌, pos, ℕ, List, ◌∷◌, map, length, Option, Some, None, if◌then◌else◌, ℤ, [], string_bytes, String}
+use Rattle.std.specs.Prelude.{◌≡◌, ◌≢◌, ◌+◌, ◌<◌, ◌≤◌, ◌≤ℤ◌, ◌^◌, pos, ℕ, List, ◌∷◌, map, length, Option, Some, None, if◌then◌else◌, [], string_bytes, String}
 use Rattle.ts_core.specs.facts.Facts.{Text, Series, same_text, series_cmp}
 use Rattle.ts_core.specs.store.Cells.{Cell}
 use Rattle.ts_core.specs.declared.aggregates.aggregate.Extremes.{Extremes}
@@ -24,9 +24,6 @@ key_of_tag t = string_bytes t.0
 
 abbrev pub field_of : {A : Type 0} → ColumnParts A → Text
 field_of c = string_bytes c.field
-
-abbrev pub time_of_parts : ℤ × ℤ → ℤ
-time_of_parts p = p.0
 
 abbrev pub series_key_of : {A : Type 0} → SeriesParts A → Series
 series_key_of s = key_of s.key

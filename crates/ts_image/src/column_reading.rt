@@ -4,10 +4,11 @@ ghost use Rattle.ts_core.specs.io.ReadingAhead.{EndIsEnd};
 ghost use Rattle.ts_image.specs.Formats.{times, list_of};
 ghost use Rattle.ts_image.specs.Images.{image_point};
 ghost use Rattle.ts_image.specs.FieldReading.{ReadsField};
-ghost use Rattle.ts_image.specs.PointParts.{points_of_parts, point_of};
+ghost use Rattle.ts_image.specs.PointParts.{point_of};
 
 use crate::field_fault::FieldFault;
 use crate::field_reader::FieldReader;
+use crate::points_parts::PointsParts;
 use std::alloc::Allocator;
 use std::io::Read;
 use ts_core::Source;
@@ -25,17 +26,17 @@ pub(crate) fn read_point<R: Read, A: Allocator + Copy>(
     Ok((time, value))
 }
 
-/// Reads `count` points. Allocates for points that were read, not by `count`.
+/// Reads `count` points into coded blocks. Allocates for points that were read, not by `count`.
 fn read_points<R: Read, A: Allocator + Copy>(
     alloc: A,
     reader: &mut FieldReader<A>,
     source: &mut Source<R>,
     count: u64,
-) -> Result<Vec<(i64, i64), A>, FieldFault>
+) -> Result<PointsParts<A>, FieldFault>
     requires { EndIsEnd reader.old.ahead source.old }
-    ensures { ReadsField (times count image_point) points_of_parts reader.old source.old result reader.new source.new }
+    ensures { ReadsField (times count image_point) (λ points. points) reader.old source.old result reader.new source.new }
 {
-    let mut points = Vec::new(alloc);
+    let mut points = PointsParts::new(alloc);
     for _ in 0..count {
         let point = read_point(reader, source)?;
         points.push(point)?;
@@ -48,9 +49,9 @@ pub(crate) fn read_counted_points<R: Read, A: Allocator + Copy>(
     alloc: A,
     reader: &mut FieldReader<A>,
     source: &mut Source<R>,
-) -> Result<Vec<(i64, i64), A>, FieldFault>
+) -> Result<PointsParts<A>, FieldFault>
     requires { EndIsEnd reader.old.ahead source.old }
-    ensures { ReadsField (list_of w64 image_point) points_of_parts reader.old source.old result reader.new source.new }
+    ensures { ReadsField (list_of w64 image_point) (λ points. points) reader.old source.old result reader.new source.new }
 {
     let count = reader.u64(source)?;
     read_points(alloc, reader, source, count)

@@ -17,11 +17,10 @@ fn subtract_columns<A: Allocator>(mut left: u64, columns: &[ColumnParts<A>]) -> 
     ensures { IsSubtracted left (sum_by (λ (c : ImageColumn). length c.points) (map column_of_parts columns.now)) result }
 {
     for column in columns {
-        let points = column.points.len() as u64;
-        if points > left {
-            return None;
+        match column.points.subtract_from(left) {
+            Some(rest) => left = rest,
+            None => return None,
         }
-        left -= points;
     }
     Some(left)
 }

@@ -7,6 +7,8 @@
 //! data of its image, and stands for each history that the saved store stood for. A save fails only if a write fails
 //! or when out of memory.
 //!
+//! A load codes the points of a column as it reads them, and hands the column to the store as it is.
+//!
 //! ```text
 //! TSIM version
 //! raw_duration count { rule }                      rule: name measurement interval offset duration count { tag }
@@ -43,6 +45,7 @@ mod image_reading;
 mod laws;
 mod load_fault;
 mod part_making;
+mod points_parts;
 mod rule_checks;
 mod rule_reading;
 mod save_fault;
@@ -63,6 +66,7 @@ pub use laws::{
     images_are_exact, images_of_version_1_are_loaded, reloads, saved_images_are_possible,
 };
 pub use load_fault::LoadFault;
+pub use points_parts::PointsParts;
 pub use rule_reading::{RuleParts, SettingsParts};
 pub use save_fault::SaveFault;
 pub use saving::save;

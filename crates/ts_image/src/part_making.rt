@@ -1,9 +1,8 @@
-//! Creates marks, tags, points and frozen parts from the parts of an image.
+//! Creates marks, tags and frozen parts from the parts of an image.
 ghost use Rattle.std.specs.Prelude.{◌≡◌, ◌≤◌, [], length, map, string_bytes, IfOk};
 ghost use Rattle.ts_core.specs.text.Texts.{borrowed_pairs};
 ghost use Rattle.ts_core.specs.facts.Times.{IsTime};
 ghost use Rattle.ts_cells.specs.Grids.{borrowed_texts};
-ghost use Rattle.ts_raw.specs.Columns.{AreTimed};
 ghost use Rattle.ts_image.specs.CellParts.{marks_of_parts, cell_of_parts};
 ghost use Rattle.ts_image.specs.PartsMade.{HasPart};
 ghost use Rattle.ts_image.specs.Pictures.{cell_part_of};
@@ -65,21 +64,6 @@ fn make_point(point: (i64, i64)) -> (Time, i64)
     ensures { result ≡ point_of point }
 {
     (Time::new(point.0).unwrap(), point.1)
-}
-
-/// Creates points. Their times must be valid.
-pub(crate) fn make_points<A: Allocator + Copy>(
-    alloc: A,
-    points: &[(i64, i64)],
-) -> Result<Vec<(Time, i64), A>, AllocError>
-    requires { AreTimed (map point_of points.now) }
-    ensures { IfOk result (λ v. v.items ≡ map point_of points.now) }
-{
-    let mut made = Vec::with_capacity(alloc, points.len())?;
-    for point in points {
-        made.push(make_point(*point))?;
-    }
-    Ok(made)
 }
 
 /// Creates the frozen part of a cell that was tested.

@@ -1,15 +1,13 @@
 //! Tests series, columns and points of an image for contradictions. Does not allocate.
 ghost use Rattle.std.specs.Prelude.{◌≡◌, ◌↔◌, map, IsTrue};
-ghost use Rattle.std.specs.Ordering.{int_cmp};
 ghost use Rattle.std.specs.List.{AllByRecursion};
 ghost use Rattle.ts_core.specs.facts.Facts.{Series, text_cmp, series_cmp};
 ghost use Rattle.ts_core.specs.facts.Times.{IsTime};
 ghost use Rattle.ts_image.specs.Images.{ImageColumn, ImageSeries};
-ghost use Rattle.ts_image.specs.ImageTests.{IsKeyName, IsImagePoint, IsImageColumn, IsImageSeriesKey, IsImageSeries};
+ghost use Rattle.ts_image.specs.ImageTests.{IsKeyName, IsImageColumn, IsImageSeriesKey, IsImageSeries};
 ghost use Rattle.ts_store.specs.image.SavedContent.{AreRising};
-ghost use Rattle.ts_image.specs.PointParts.{point_of};
 ghost use Rattle.ts_image.specs.SeriesParts.{tag_of, key_of, column_of_parts, series_of_parts};
-ghost use Rattle.ts_image.specs.TestParts.{IsTag, key_of_tag, field_of, time_of_parts, series_key_of};
+ghost use Rattle.ts_image.specs.TestParts.{IsTag, key_of_tag, field_of, series_key_of};
 
 use crate::series_reading::{ColumnParts, KeyParts, SeriesParts};
 use std::alloc::Allocator;
@@ -62,36 +60,13 @@ pub(crate) fn is_time(nanos: &i64) -> bool
     *nanos >= LEAST_TIME && *nanos <= GREATEST_TIME
 }
 
-fn is_point(mark: &i64, waits: u8, point: &(i64, i64)) -> bool
-    ensures { IsTrue result ↔ IsImagePoint mark.now waits (point_of point.now) }
-{
-    is_time(&point.0) && (waits == 1 || *mark <= point.0)
-}
-
-fn are_points(mark: &i64, waits: u8, points: &[(i64, i64)]) -> bool
-    ensures { IsTrue result ↔ AllByRecursion (IsImagePoint mark.now waits) (map point_of points.now) }
-{
-    for point in points {
-        if !is_point(mark, waits, point) {
-            return false;
-        }
-    }
-    true
-}
-
-fn are_points_rising(points: &[(i64, i64)]) -> bool
-    ensures { IsTrue result ↔ AreRising int_cmp (map time_of_parts points.now) }
-{
-    points.is_sorted_by(|a, b| a.0 < b.0)
-}
-
 fn is_column<A: Allocator>(mark: &i64, runs: u8, column: &ColumnParts<A>) -> bool
     ensures { IsTrue result ↔ IsImageColumn mark.now runs (column_of_parts column.now) }
 {
     if !is_name(column.field.as_str()) || column.waits > runs {
         return false;
     }
-    are_points(mark, column.waits, &column.points) && are_points_rising(&column.points)
+    column.points.are_possible(mark, column.waits)
 }
 
 fn are_columns<A: Allocator>(mark: &i64, runs: u8, columns: &[ColumnParts<A>]) -> bool

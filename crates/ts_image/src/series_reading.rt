@@ -9,17 +9,18 @@ ghost use Rattle.ts_image.specs.SeriesParts.{tag_of, tags_of_parts, key_of, colu
 use crate::column_reading::read_counted_points;
 use crate::field_fault::FieldFault;
 use crate::field_reader::FieldReader;
+use crate::points_parts::PointsParts;
 use crate::version::Version;
 use std::alloc::Allocator;
 use std::io::Read;
-use ts_core::Source;
+use ts_core::{Source, reserve_eighth};
 
 /// A column in an image, untested.
 #[derive(Drop)]
 pub struct ColumnParts<A: Allocator> {
     pub field: String<A>,
     pub waits: u8,
-    pub points: Vec<(i64, i64), A>,
+    pub points: PointsParts<A>,
 }
 
 /// The key of a series in an image, untested.
@@ -85,7 +86,8 @@ fn read_columns<R: Read, A: Allocator + Copy>(
     let mut columns = Vec::new(alloc);
     for _ in 0..count {
         let column = read_column(alloc, reader, source, version)?;
-        columns.push(column)?;
+        reserve_eighth(&mut columns, 1)?;
+        columns.push_reserved(column);
     }
     Ok(columns)
 }
@@ -192,7 +194,8 @@ fn read_all_series<R: Read, A: Allocator + Copy>(
     let mut series = Vec::new(alloc);
     for _ in 0..count {
         let one = read_series(alloc, reader, source, version)?;
-        series.push(one)?;
+        reserve_eighth(&mut series, 1)?;
+        series.push_reserved(one);
     }
     Ok(series)
 }

@@ -23,7 +23,7 @@ ghost use Rattle.ts_image.specs.StoresMade.{IsAddedColumn, AreAddedColumns, IsAd
 use crate::cell_reading::CellParts;
 use crate::image_loading::LoadedImage;
 use crate::image_reading::ImageParts;
-use crate::part_making::{borrow_strings, borrow_tags, make_marks, make_part, make_points};
+use crate::part_making::{borrow_strings, borrow_tags, make_marks, make_part};
 use crate::series_reading::{ColumnParts, KeyParts, SeriesParts};
 use arrayvec::ArrayVec;
 use std::alloc::{AllocError, Allocator};
@@ -34,7 +34,6 @@ use ts_store::{Store, StoreBuilder};
 
 /// Adds a column of a series. Consumes its parts.
 fn add_column<A: Allocator + Copy>(
-    alloc: A,
     builder: &mut StoreBuilder<A>,
     series: SeriesId,
     parts: ColumnParts<A>,
@@ -44,13 +43,12 @@ fn add_column<A: Allocator + Copy>(
     requires column { IsAddedColumn (column_of_parts parts) }
     ensures { (s : Series) → IsAt builder.old.series series s → OnOk result (builder.new ≡ with_built_column (image_points_in s (column_of_parts parts)) (is_column_waiting (column_of_parts parts)) builder.old) }
 {
-    let points = make_points(alloc, &parts.points)?;
+    let points = parts.points.into_column();
     builder.add_column(series, parts.field.as_str(), parts.waits == 1, points)
 }
 
 /// Adds the columns of a series that has none. Consumes their parts.
 fn add_columns<A: Allocator + Copy>(
-    alloc: A,
     builder: &mut StoreBuilder<A>,
     series: SeriesId,
     columns: Vec<ColumnParts<A>, A>,
@@ -61,7 +59,7 @@ fn add_columns<A: Allocator + Copy>(
     ensures { (s : Series) → IsAt builder.old.series series s → OnOk result (builder.new ≡ with_image_columns s (column_parts_of columns) builder.old) }
 {
     for parts in columns {
-        add_column(alloc, builder, series, parts)?;
+        add_column(builder, series, parts)?;
     }
     Ok(())
 }
@@ -100,7 +98,6 @@ fn add_key<A: Allocator + Copy>(
 
 /// Adds a series with its columns. Consumes its parts.
 fn add_series<A: Allocator + Copy>(
-    alloc: A,
     builder: &mut StoreBuilder<A>,
     parts: SeriesParts<A>,
 ) -> Result<(), AllocError>
@@ -112,12 +109,11 @@ fn add_series<A: Allocator + Copy>(
 {
     let SeriesParts { key, columns } = parts;
     let series = add_key(builder, &key)?;
-    add_columns(alloc, builder, series, columns)
+    add_columns(builder, series, columns)
 }
 
 /// Adds series to a store that has none. Consumes their parts.
 fn add_all_series<A: Allocator + Copy>(
-    alloc: A,
     builder: &mut StoreBuilder<A>,
     series: Vec<SeriesParts<A>, A>,
 ) -> Result<(), AllocError>
@@ -129,7 +125,7 @@ fn add_all_series<A: Allocator + Copy>(
     ensures { OnOk result (builder.new ≡ with_all_series (all_series_of series) builder.old) }
 {
     for parts in series {
-        add_series(alloc, builder, parts)?;
+        add_series(builder, parts)?;
     }
     Ok(())
 }
@@ -225,7 +221,7 @@ pub(crate) fn make_store<A: Allocator + Copy>(
     } = image;
     let mut builder = begin(alloc, seed, settings, &parts)?;
     let ImageParts { series, cells, .. } = parts;
-    add_all_series(alloc, &mut builder, series)?;
+    add_all_series(&mut builder, series)?;
     add_all_cells(alloc, &mut builder, &cells)?;
     builder.finish()
 }

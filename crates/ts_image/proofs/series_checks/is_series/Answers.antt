@@ -1,4 +1,4 @@
-use Rattle.std.proofs.Common.{rules, List, map, refl, sym, ap, subst, ◌∙◌}
+use Rattle.std.proofs.Common.{List, map, refl, sym, ap, subst, ◌∙◌}
 use Rattle.std.specs.List.{AllByRecursion}
 use Rattle.ts_store.specs.image.SavedContent.{AreRising}
 use Rattle.ts_image.proofs.Testing.{mapped}
@@ -16,7 +16,7 @@ returns-then-are_columns g c =
     let e = ap (map field_of) c.deref-then-are_columns.ensures.value ∙ mapped (λ (x : ImageColumn). x.field) column_of_parts items in
     let all = subst (λ (l : List (ColumnParts g.row.A.Denot)). AllByRecursion (IsImageColumn c.args.mark.now c.args.runs) (map column_of_parts l)) c.deref.ensures.value (c.if-are_columns.ensures.0 refl) in (
       λ h. record {
-        key = search rules;
+        key = c.if-not-is_key.ensures.0 refl;
         columns = all;
         rising = subst (AreRising text_cmp) e (c.are_columns_rising.ensures.0 h);
       },

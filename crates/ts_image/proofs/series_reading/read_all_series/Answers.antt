@@ -21,9 +21,9 @@ returns-in_err-one g c =
     let so_far = subst (λ (k : ℕ). HasRead (image_series c.args.version) c.args.count k (map series_of_parts c.loop.series.items) c.args.reader.now c.args.source.now c.loop.reader c.loop.source) (one_left c.args.count c.loop.counter c.loop-test.true) c.loop.invariant in
     rw (p.1, p.2) (breaks (image_series c.args.version) c.args.count c.args.reader.now c.args.source.now series_of_parts n (map series_of_parts c.loop.series.items) c.loop.reader c.read_series.new.reader c.loop.source c.read_series.new.source so_far all_series_of c.in_err-one.field-0.0 c.in_err-one.ensures)
 
-pub returns-in_err-push : goal.returns-in_err-push
-returns-in_err-push g c =
-    let p = err_from_is_err_and c.from_residual-in_err-push.result c.from_residual-in_err-push.ensures.1 in
+pub returns-in_err-reserve_eighth : goal.returns-in_err-reserve_eighth
+returns-in_err-reserve_eighth g c =
+    let p = err_from_is_err_and c.from_residual-in_err-reserve_eighth.result c.from_residual-in_err-reserve_eighth.ensures.1 in
     let n : ℕ = c.args.count - (c.loop.counter + 1) in
     let so_far = subst (λ (k : ℕ). HasRead (image_series c.args.version) c.args.count k (map series_of_parts c.loop.series.items) c.args.reader.now c.args.source.now c.loop.reader c.loop.source) (one_left c.args.count c.loop.counter c.loop-test.true) c.loop.invariant in
     rw (p.1, p.2) (no_memory_left (image_series c.args.version) c.args.count c.args.reader.now c.args.source.now series_of_parts n (map series_of_parts c.loop.series.items) c.loop.reader c.read_series.new.reader c.loop.source c.read_series.new.source so_far all_series_of c.in_ok-one.one c.in_ok-one.ensures)
@@ -32,7 +32,7 @@ pub loop-preserved : goal.loop-preserved
 loop-preserved g c =
     let n : ℕ = c.args.count - (c.loop.counter + 1) in
     let so_far = subst (λ (k : ℕ). HasRead (image_series c.args.version) c.args.count k (map series_of_parts c.loop.series.items) c.args.reader.now c.args.source.now c.loop.reader c.loop.source) (one_left c.args.count c.loop.counter c.loop-test.true) c.loop.invariant in
-    let pushed : map series_of_parts c.push.new.self.items ≡ map series_of_parts c.loop.series.items ++ series_of_parts c.in_ok-one.one ∷ [] = rw c.in_ok-push.ensures.items (map_push _ c.loop.series.items c.in_ok-one.one) in
+    let pushed : map series_of_parts c.push_reserved.new.self.items ≡ map series_of_parts c.loop.series.items ++ series_of_parts c.in_ok-one.one ∷ [] = rw (c.push_reserved.ensures.items, c.in_ok-reserve_eighth.ensures.items) (map_push _ c.loop.series.items c.in_ok-one.one) in
     subst (λ (xs : List ImageSeries). HasRead (image_series c.args.version) c.args.count n xs c.args.reader.now c.args.source.now c.read_series.new.reader c.read_series.new.source) (sym pushed)
     (goes_on (image_series c.args.version) c.args.count c.args.reader.now c.args.source.now series_of_parts n (map series_of_parts c.loop.series.items) c.loop.reader c.read_series.new.reader c.loop.source c.read_series.new.source so_far c.in_ok-one.one c.in_ok-one.ensures)
 

@@ -21,9 +21,9 @@ returns-in_err-column g c =
     let so_far = subst (λ (k : ℕ). HasRead (image_column c.args.version) c.args.count k (map column_of_parts c.loop.columns.items) c.args.reader.now c.args.source.now c.loop.reader c.loop.source) (one_left c.args.count c.loop.counter c.loop-test.true) c.loop.invariant in
     rw (p.1, p.2) (breaks (image_column c.args.version) c.args.count c.args.reader.now c.args.source.now column_of_parts n (map column_of_parts c.loop.columns.items) c.loop.reader c.read_column.new.reader c.loop.source c.read_column.new.source so_far column_parts_of c.in_err-column.field-0.0 c.in_err-column.ensures)
 
-pub returns-in_err-push : goal.returns-in_err-push
-returns-in_err-push g c =
-    let p = err_from_is_err_and c.from_residual-in_err-push.result c.from_residual-in_err-push.ensures.1 in
+pub returns-in_err-reserve_eighth : goal.returns-in_err-reserve_eighth
+returns-in_err-reserve_eighth g c =
+    let p = err_from_is_err_and c.from_residual-in_err-reserve_eighth.result c.from_residual-in_err-reserve_eighth.ensures.1 in
     let n : ℕ = c.args.count - (c.loop.counter + 1) in
     let so_far = subst (λ (k : ℕ). HasRead (image_column c.args.version) c.args.count k (map column_of_parts c.loop.columns.items) c.args.reader.now c.args.source.now c.loop.reader c.loop.source) (one_left c.args.count c.loop.counter c.loop-test.true) c.loop.invariant in
     rw (p.1, p.2) (no_memory_left (image_column c.args.version) c.args.count c.args.reader.now c.args.source.now column_of_parts n (map column_of_parts c.loop.columns.items) c.loop.reader c.read_column.new.reader c.loop.source c.read_column.new.source so_far column_parts_of c.in_ok-column.column c.in_ok-column.ensures)
@@ -32,7 +32,7 @@ pub loop-preserved : goal.loop-preserved
 loop-preserved g c =
     let n : ℕ = c.args.count - (c.loop.counter + 1) in
     let so_far = subst (λ (k : ℕ). HasRead (image_column c.args.version) c.args.count k (map column_of_parts c.loop.columns.items) c.args.reader.now c.args.source.now c.loop.reader c.loop.source) (one_left c.args.count c.loop.counter c.loop-test.true) c.loop.invariant in
-    let pushed : map column_of_parts c.push.new.self.items ≡ map column_of_parts c.loop.columns.items ++ column_of_parts c.in_ok-column.column ∷ [] = rw c.in_ok-push.ensures.items (map_push _ c.loop.columns.items c.in_ok-column.column) in
+    let pushed : map column_of_parts c.push_reserved.new.self.items ≡ map column_of_parts c.loop.columns.items ++ column_of_parts c.in_ok-column.column ∷ [] = rw (c.push_reserved.ensures.items, c.in_ok-reserve_eighth.ensures.items) (map_push _ c.loop.columns.items c.in_ok-column.column) in
     subst (λ (xs : List ImageColumn). HasRead (image_column c.args.version) c.args.count n xs c.args.reader.now c.args.source.now c.read_column.new.reader c.read_column.new.source) (sym pushed)
     (goes_on (image_column c.args.version) c.args.count c.args.reader.now c.args.source.now column_of_parts n (map column_of_parts c.loop.columns.items) c.loop.reader c.read_column.new.reader c.loop.source c.read_column.new.source so_far c.in_ok-column.column c.in_ok-column.ensures)
 

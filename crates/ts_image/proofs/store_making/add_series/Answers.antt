@@ -3,12 +3,15 @@ use Rattle.std.specs.Prelude.{OnOk}
 use Rattle.ts_core.specs.facts.Facts.{Series}
 use Rattle.ts_core.specs.lists.Members.{Among}
 use Rattle.ts_core.specs.store.StoreStates.{ColumnPoints, column_of}
-use Rattle.ts_core.proofs.lists.NumberedLemmas.{same_at}
+use Rattle.ts_core.proofs.lists.NumberedLemmas.{at_within, same_at}
 use Rattle.ts_store.specs.image.Building.{Built}
 use Rattle.ts_image.specs.SeriesParts.{column_parts_of, key_of, series_of_parts}
 use Rattle.ts_image.specs.StoresMade.{with_image_columns}
 use Rattle.ts_image.proofs.SeriesMaking.{series_added}
 use Rattle.ts_image.proofs.store_making.add_series.Goals as goal
+
+pub add_columns-requires-clause-registered : goal.add_columns-requires-clause-registered
+add_columns-requires-clause-registered g c = at_within c.add_key.new.builder.series c.in_ok-series.series (key_of c.args.parts.key) c.in_ok-series.ensures.number
 
 pub add_columns-requires-clause-none : goal.add_columns-requires-clause-none
 add_columns-requires-clause-none g c s at k a e =

@@ -1,0 +1,28 @@
+-- The points of a column as the code reads them: those in a column, then the others. (Own rules.)
+use Rattle.std.specs.Prelude.{◌≡◌, ◌⊎◌, ◌≤ℤ◌, ◌<ℤ◌, ℤ, List, [], ◌∷◌}
+use Rattle.std.specs.List.{AllByRecursion}
+use Rattle.ts_core.specs.facts.Times.{least_time, IsTime}
+use Rattle.ts_core.specs.lists.Members.{Among}
+use Rattle.ts_raw.specs.Columns.{AreTimed}
+
+-- a point at this time goes into the column
+pub record IsNext (last : ℤ) (others : List (ℤ × ℤ)) (t : ℤ) : Type 0 where
+  pub valid : IsTime t
+  pub later : last <ℤ t
+  pub first : others ≡ []
+
+-- a point at this time can't follow the column's last one
+abbrev pub IsOther : ℤ → ℤ → Type 0
+IsOther last t = (t ≤ℤ last) ⊎ (IsTime t → ⊥)
+
+-- the first other point can't
+abbrev pub IsFirstOther : ℤ → List (ℤ × ℤ) → Type 0
+IsFirstOther last [] = Unit {0}
+IsFirstOther last (p ∷ ps) = IsOther last p.0
+
+-- the column's points are valid, up to its last time
+pub record AreParted (points : List (ℤ × ℤ)) (last : ℤ) (others : List (ℤ × ℤ)) : Type 0 where
+  pub timed : AreTimed points
+  pub before : AllByRecursion (λ (p : ℤ × ℤ). p.0 ≤ℤ last) points
+  pub reached : (last <ℤ least_time) ⊎ ((v : ℤ) × Among (last, v) points)
+  pub apart : IsFirstOther last others
