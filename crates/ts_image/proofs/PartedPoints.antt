@@ -14,7 +14,7 @@ use Rattle.ts_core.proofs.lists.MembersLemmas.{Among-map}
 use Rattle.ts_raw.specs.Columns.{PointMap, AreTimed}
 use Rattle.ts_store.specs.image.SavedContent.{AreRising}
 use Rattle.ts_image.specs.ImageTests.{IsImagePoint}
-use Rattle.ts_image.specs.PointsParts.{IsNext, IsFirstOther, AreParted}
+use Rattle.ts_image.specs.PointParts.{IsNext, IsFirstOther, AreParted}
 use Rattle.ts_image.proofs.Orders.{all_among, among_all, rising_rest, first_before, rising_keys}
 
 abbrev time_of : ℤ × ℤ → ℤ

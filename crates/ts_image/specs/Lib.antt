@@ -9,7 +9,6 @@ pub mod ImageTests
 pub mod ImageFaults
 pub mod Pictures
 pub mod PointParts
-pub mod PointsParts
 pub mod SeriesParts
 pub mod CellParts
 pub mod HeadReading

@@ -6,7 +6,7 @@ ghost use Rattle.std.specs.Ordering.{int_cmp};
 ghost use Rattle.ts_raw.specs.Columns.{AreTimed};
 ghost use Rattle.ts_store.specs.image.SavedContent.{AreRising};
 ghost use Rattle.ts_image.specs.ImageTests.{IsImagePoint};
-ghost use Rattle.ts_image.specs.PointsParts.{IsNext, IsOther};
+ghost use Rattle.ts_image.specs.PointParts.{IsNext, IsOther};
 ghost use Rattle.ts_image.specs.TestParts.{IsSubtracted};
 
 use std::alloc::{AllocError, Allocator};
@@ -27,7 +27,7 @@ pub struct PointsParts<A: Allocator> {
 impl<A: Allocator> Model for PointsParts<A> {
     ghost use Rattle.std.specs.Prelude.{ℤ, List, ◌++◌};
     ghost use Rattle.std.specs.FinMap as finmap;
-    ghost use Rattle.ts_image.specs.PointsParts.{AreParted};
+    ghost use Rattle.ts_image.specs.PointParts.{AreParted};
 
     ghost Value = { List (ℤ × ℤ) };
 

@@ -1,6 +1,6 @@
 use Rattle.std.proofs.Common.{rules, ◌≡◌, ◌++◌, ◌∷◌, [], ℤ, List, SFits, w64, to_z-of_z, ap₂, subst, ◌∙◌}
 use Rattle.std.specs.FinMap as finmap
-use Rattle.ts_image.specs.PointsParts.{IsNext}
+use Rattle.ts_image.specs.PointParts.{IsNext}
 use Rattle.ts_image.proofs.PartedPoints.{next_parted}
 use Rattle.ts_image.proofs.points_parts.PointsParts.push.Goals as goal
 
