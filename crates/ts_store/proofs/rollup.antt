@@ -1,6 +1,7 @@
 -- Rollups
 pub mod RollupsGrow
 pub mod RollupLemmas
+pub mod RollupSteps
 -- LivePoints
 pub mod RollupSeriesPoints
 pub mod LiveParts

@@ -12,7 +12,7 @@ ghost use Rattle.ts_core.specs.lists.Numbered.{IsAt};
 ghost use Rattle.ts_cells.specs.Grids.{rollup_series_of, rollup_series_named, borrowed_texts, cell_at, cell_in};
 ghost use Rattle.ts_cells.specs.Walks.{entry_of, entries_within};
 ghost use Rattle.ts_store.specs.rollup.ColumnLists.{HasCapacityAt};
-ghost use Rattle.ts_store.specs.rollup.Rollups.{new_rollup, Extends, KeepsLists, KeepsCells, HasNext, with_next, with_grid_cells, cell_created_in, frozen_in, added_in, corrected_in, live_part, rollup_series_at, columns_of_rollup_series};
+ghost use Rattle.ts_store.specs.rollup.Rollups.{new_rollup, Extends, IsRollupSeriesOf, KeepsLists, KeepsCells, HasNext, with_next, with_grid_cells, cell_created_in, frozen_in, added_in, corrected_in, live_part, rollup_series_at, columns_of_rollup_series};
 
 use series_columns::SeriesColumns;
 use std::alloc::{AllocError, Allocator};
@@ -120,6 +120,49 @@ fn rollup_series_for<A: Allocator + Copy>(
     Ok(series)
 }
 
+/// Returns the rollup series of a new column, and reserves capacity for the column in its list. `None` if the column is
+/// of another measurement.
+fn next_rollup_series<A: Allocator + Copy>(
+    cells: &mut Cells<Agg, A>,
+    columns: &mut Vec<SeriesColumns<A>, A>,
+    rule: &Rule<A>,
+    key: &Key<A>,
+    field: &str,
+) -> Result<Option<RollupSeriesId>, AllocError>
+    requires each { length columns.old.items ≡ length cells.old.rollup_series }
+    ensures series { IfOk result (IsRollupSeriesOf rule.now (record { series = key.now; field = field.now }) cells.new.rollup_series) }
+    ensures capacity { IfOk result (λ o. IfSome o (HasCapacityAt columns.new.items)) }
+    ensures kept { KeepsLists cells.old columns.old.items cells.new columns.new.items }
+{
+    if key.measurement() != rule.measurement() {
+        return Ok(None);
+    }
+    let group = group_of(*columns.allocator(), rule, key)?;
+    let series = rollup_series_for(cells, columns, field, group.as_slice())?;
+    Ok(Some(series))
+}
+
+/// Creates the cell of a bucket in a rollup series, which must be missing, with this frozen part. On allocation failure,
+/// no cell is created.
+fn add_frozen<A: Allocator + Copy>(
+    cells: &mut Cells<Agg, A>,
+    index: &i128,
+    series: RollupSeriesId,
+    frozen: Agg,
+) -> Result<(), AllocError>
+    requires series { series < length cells.old.rollup_series }
+    requires absent { finmap.get cells.old.cells (cell_in cells.old.rollup_series index.now series) ≡ None }
+    ensures kept { cells.new.rollup_series ≡ cells.old.rollup_series }
+    ensures ok { OnOk result (cells.new.cells ≡ finmap.insert cells.old.cells (cell_in cells.old.rollup_series index.now series) (record { frozen = frozen; live = empty_aggregate })) }
+    ensures err { OnErr result (cells.new.cells ≡ cells.old.cells) }
+{
+    cells.make_room(index, series)?;
+    // for the proof: the contract of `sum` states the bound of the count that `freeze` needs
+    let _ = frozen.sum();
+    cells.freeze(index, series, frozen);
+    Ok(())
+}
+
 impl<A: Allocator + Copy> Rollup<A> {
     /// Creates an empty rollup, with a seed of the hashes of its names. Does not allocate.
     pub(crate) fn new(alloc: A, seed: RandomState) -> Rollup<A>
@@ -145,12 +188,7 @@ impl<A: Allocator + Copy> Rollup<A> {
     {
         self.next = None;
         reserve_eighth(&mut self.series_of_column, 1)?;
-        let series = if key.measurement() == rule.measurement() {
-            let group = group_of(*self.series_of_column.allocator(), rule, key)?;
-            Some(rollup_series_for(&mut self.cells, &mut self.columns, field, group.as_slice())?)
-        } else {
-            None
-        };
+        let series = next_rollup_series(&mut self.cells, &mut self.columns, rule, key, field)?;
         self.next = Some(series);
         Ok(())
     }
@@ -210,11 +248,7 @@ impl<A: Allocator + Copy> Rollup<A> {
     {
         self.next = None;
         let series = listed_rollup_series(&mut self.cells, &mut self.columns, field, group)?;
-        self.cells.make_room(index, series)?;
-        // for the proof: the contract of `sum` states the bound of the count that `freeze` needs
-        let _ = frozen.sum();
-        self.cells.freeze(index, series, frozen);
-        Ok(())
+        add_frozen(&mut self.cells, index, series, frozen)
     }
 
     /// Merges a part into the frozen part of the cell of a column in a bucket. Does nothing if the cell doesn't exist,

@@ -1,4 +1,4 @@
-use Rattle.std.proofs.Common.{◌≡◌, ◌<ℤ◌, ap, sym, ◌∙◌, rules}
+use Rattle.std.proofs.Common.{◌<ℤ◌, ap, sym, ◌∙◌, rules}
 use Rattle.ts_core.specs.aggregates.Aggregates.{merged, aggregate_of_points}
 use Rattle.ts_core.specs.aggregates.Buckets.{bucket_of}
 use Rattle.ts_store.proofs.rollup.LiveParts.{points_none}
