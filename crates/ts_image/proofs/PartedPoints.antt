@@ -14,7 +14,7 @@ use Rattle.ts_core.proofs.lists.MembersLemmas.{Among-map}
 use Rattle.ts_raw.specs.Columns.{PointMap, AreTimed}
 use Rattle.ts_store.specs.image.SavedContent.{AreRising}
 use Rattle.ts_image.specs.ImageTests.{IsImagePoint}
-use Rattle.ts_image.specs.PointParts.{IsNext, IsFirstOther, AreParted}
+use Rattle.ts_image.specs.PointParts.{IsNextPoint, IsFirstOther, AreParted}
 use Rattle.ts_image.proofs.Orders.{all_among, among_all, rising_rest, first_before, rising_keys}
 
 abbrev time_of : ℤ × ℤ → ℤ
@@ -55,7 +55,7 @@ at_most [] t h = tt
 at_most (p ∷ ps) t h = (let l : p.0 <ℤ t = h.0 in let k : p.0 ≤ℤ t = grind (arith, ints) in k, at_most ps t h.1)
 
 -- a point is put into the column
-pub next_parted : (ps others : List (ℤ × ℤ)) (last t v : ℤ) → AreParted ps last others → IsNext last others t → AreParted (ps ++ (t, v) ∷ []) t others
+pub next_parted : (ps others : List (ℤ × ℤ)) (last t v : ℤ) → AreParted ps last others → IsNextPoint last others t → AreParted (ps ++ (t, v) ∷ []) t others
 next_parted ps others last t v h next = record {
   timed = all_push (λ (p : ℤ × ℤ). IsTime p.0) ps (t, v) h.timed next.valid;
   before = all_push (λ (p : ℤ × ℤ). p.0 ≤ℤ t) ps (t, v) (at_most ps t (all_before ps others last t h next.later)) (let k : t ≤ℤ t = grind (arith, ints) in k);

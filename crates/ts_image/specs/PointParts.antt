@@ -10,7 +10,7 @@ abbrev pub point_of : ℤ × ℤ → ℤ × ℤ
 point_of p = (p.0, p.1)
 
 -- a point at this time is put into the column
-pub record IsNext (last : ℤ) (others : List (ℤ × ℤ)) (t : ℤ) : Type 0 where
+pub record IsNextPoint (last : ℤ) (others : List (ℤ × ℤ)) (t : ℤ) : Type 0 where
   pub valid : IsTime t
   pub later : last <ℤ t
   pub first : others ≡ []

@@ -6,7 +6,7 @@ ghost use Rattle.std.specs.Ordering.{int_cmp};
 ghost use Rattle.ts_raw.specs.Columns.{AreTimed};
 ghost use Rattle.ts_store.specs.image.SavedContent.{AreRising};
 ghost use Rattle.ts_image.specs.ImageTests.{IsImagePoint};
-ghost use Rattle.ts_image.specs.PointParts.{IsNext, IsOther};
+ghost use Rattle.ts_image.specs.PointParts.{IsNextPoint, IsOther};
 ghost use Rattle.ts_image.specs.TestParts.{IsSubtracted};
 
 use std::alloc::{AllocError, Allocator};
@@ -38,7 +38,7 @@ impl<A: Allocator> Model for PointsParts<A> {
 
 /// Returns the time of the next point if the point goes into the column.
 fn next_time(last: &i64, others: &[(i64, i64)], nanos: &i64) -> Option<Time>
-    ensures next { IfSome result (λ t. (t ≡ nanos.now) × IsNext last.now others.now t) }
+    ensures next { IfSome result (λ t. (t ≡ nanos.now) × IsNextPoint last.now others.now t) }
     ensures other { result ≡ None → others.now ≡ [] → IsOther last.now nanos.now }
 {
     if others.is_empty() && *last < *nanos {
