@@ -12,7 +12,7 @@ ghost use Rattle.ts_image.specs.TestParts.{IsTag, key_of_tag, field_of, series_k
 use crate::series_reading::{ColumnParts, KeyParts, SeriesParts};
 use std::alloc::Allocator;
 use std::cmp::Ordering;
-use ts_core::{GREATEST_TIME, LEAST_TIME};
+use ts_core::Time;
 
 /// Returns true if a text may be the key of a tag or a field.
 pub(crate) fn is_name(text: &str) -> bool
@@ -57,7 +57,7 @@ fn is_key<A: Allocator>(key: &KeyParts<A>) -> bool
 pub(crate) fn is_time(nanos: &i64) -> bool
     ensures { IsTrue result ↔ IsTime nanos.now }
 {
-    *nanos >= LEAST_TIME && *nanos <= GREATEST_TIME
+    Time::new(*nanos).is_some()
 }
 
 fn is_column<A: Allocator>(mark: &i64, runs: u8, column: &ColumnParts<A>) -> bool
