@@ -19,21 +19,21 @@ use Rattle.ts_core.proofs.lists.Windows.{filter-within, filter-nothing_within}
 use Rattle.ts_block.specs.Blocks.{times_of, ArePoints, last_of}
 use Rattle.ts_block.specs.Appending.{last_time}
 use Rattle.ts_raw.specs.declared.coded_blocks.CodedBlocks.{CodedBlocks}
-use Rattle.ts_raw.specs.CodedBlocks.{AreNone, AreSame}
+use Rattle.ts_raw.specs.CodedBlocks.{AreNone, AreSame, IsSound, points_in}
 use Rattle.ts_raw.specs.declared.block_handle.BlockHandle.{BlockHandle}
 use Rattle.ts_raw.specs.declared.rewriting.Rewritten.{Rewritten}
 use Rattle.ts_raw.specs.Columns.{AreTimed}
 use Rattle.ts_raw.specs.PlainColumns.{IsRising, IsStartOf}
 use Rattle.ts_raw.specs.CodedPoints.{block_text_at, block_points_at, coded_points, blocks_at, IsBlockHandle, AreBlocks, AreOrdered, IsCoded, AreCountedBlocks, count_in_blocks, before_first, AllEndBefore, AreApart, LieFrom, IsLastBefore, CutFits}
 use Rattle.ts_raw.specs.Rewriting.{IsRewritten, blocks_of, handles_replaced, cut_in_block, cut_after}
-use Rattle.ts_raw.specs.BlockColumns.{AreBlocksOf, texts_at, IsStagedIfAny, IsColumn}
+use Rattle.ts_raw.specs.BlockColumns.{AreBlocksOf, texts_at}
 use Rattle.ts_raw.proofs.CodedLemmas.{points_hold}
 use Rattle.ts_raw.proofs.CutLemmas.{first_parts, first_bound, start_behind, is_rising_behind, timed_behind}
 use Rattle.ts_raw.proofs.PointMaps.{rising-put, timed-put, from_sorted-put}
 use Rattle.ts_raw.proofs.PointRanges.{drop-before}
 use Rattle.ts_raw.proofs.PushLemmas.{none_counted, coded_less, all_within}
 use Rattle.ts_raw.proofs.ApartLemmas.{apart_replaced}
-use Rattle.ts_raw.proofs.BlockLists.{mark_at, mark_stays, take_next, counted_again}
+use Rattle.ts_raw.proofs.BlockLists.{mark_at, mark_stays, take_next, counted_again, same_points}
 use Rattle.ts_block.proofs.SplicingLemmas.{put_after}
 use Rattle.ts_raw.proofs.RewriteLemmas.{counts_are, count_front, coded_join, rising_first, put_within, last_after_drop, length_put}
 use Rattle.ts_raw.proofs.SplicedLemmas.{few_points}
@@ -49,13 +49,15 @@ pub cut_few : (bytes : List ℕ) (ms : List BlockHandle) (cut : ℕ) → AreBloc
 cut_few bytes [] cut marked h = omega arith
 cut_few bytes (m ∷ ms) cut marked h = let a = (few_points (block_points_at bytes m) marked.0.block.points_are).0 in omega arith
 
-pub no_points : {A : Type 0} (b : CodedBlocks A) → AreNone b → IsColumn b 0 0 None None
-no_points b n = record {
-  counted = (none_counted b.bytes.items b.handles.items n.no_bytes n.no_handles).0;
+pub sound_none : {A : Type 0} (b : CodedBlocks A) → AreNone b → IsSound b
+sound_none b n = record {
+  counted = subst (AreCountedBlocks b.bytes.items b.handles.items) (sym n.no_points) (none_counted b.bytes.items b.handles.items n.no_bytes n.no_handles).0;
   apart = subst AreApart (sym n.no_handles) tt;
-  cut_fits = subst (λ (x : List BlockHandle). CutFits 0 (blocks_at b.bytes.items x)) (sym n.no_handles) refl;
-  is_staged = tt;
+  cut_fits = subst (λ (x : List BlockHandle). CutFits b.cut (blocks_at b.bytes.items x)) (sym n.no_handles) n.none_cut;
 }
+
+pub points_none : {A : Type 0} (b : CodedBlocks A) → AreNone b → points_in b ≡ []
+points_none b n = (λ i. drop (n.none_cut i) (coded_points b.bytes.items b.handles.items)) ∙ (none_counted b.bytes.items b.handles.items n.no_bytes n.no_handles).1
 
 -- ---- the blocks' bytes
 
@@ -200,7 +202,7 @@ blocks_join : (bytes : List ℕ) (ms ns : List BlockHandle) → AreBlocks bytes 
 blocks_join bytes [] ns h k = k
 blocks_join bytes (m ∷ ms) ns h k = (h.0, blocks_join bytes ms ns h.1 k)
 
-all_dropped : (t : ℤ) (k : ℕ) (ps : List (ℤ × ℤ)) → AllByRecursion (λ (q : ℤ × ℤ). q.0 <ℤ t) ps → AllByRecursion (λ (q : ℤ × ℤ). q.0 <ℤ t) (drop k ps)
+pub all_dropped : (t : ℤ) (k : ℕ) (ps : List (ℤ × ℤ)) → AllByRecursion (λ (q : ℤ × ℤ). q.0 <ℤ t) ps → AllByRecursion (λ (q : ℤ × ℤ). q.0 <ℤ t) (drop k ps)
 all_dropped t zero ps h = h
 all_dropped t (suc k) [] h = h
 all_dropped t (suc k) (p ∷ ps) h = all_dropped t k ps h.1
@@ -461,17 +463,22 @@ dropped_counted bytes ms total at c =
     timed_rest [] qs h = h
     timed_rest (p ∷ ps) qs h = timed_rest ps qs h.1
 
-pub none_staged : {A : Type 0} (b : CodedBlocks A) (total cut : ℕ) (staged : Option (ℤ × ℤ)) (r : Option Rewritten) → staged ≡ None → IsStagedIfAny b total cut staged r
-none_staged b total cut staged r e = subst (λ s. IsStagedIfAny b total cut s r) (sym e) tt
+pub points_rise : {A : Type 0} (b : CodedBlocks A) → IsSound b → IsRising (points_in b)
+points_rise b s = is_rising_behind b.cut (coded_points b.bytes.items b.handles.items) s.counted.coded.rising
+
+pub points_timed : {A : Type 0} (b : CodedBlocks A) → IsSound b → AreTimed (points_in b)
+points_timed b s = timed_behind b.cut (coded_points b.bytes.items b.handles.items) s.counted.coded.timed
 
 -- the same blocks elsewhere
-pub column_again : {A : Type 0} (old new : CodedBlocks A) (total cut : ℕ) (r : Option Rewritten) → AreCountedBlocks old.bytes.items old.handles.items total → CutFits cut (blocks_at old.bytes.items old.handles.items) → AreSame old new → IsColumn new total cut None r
-column_again old new total cut r counted fits same = record {
-  counted = counted_again old.bytes.items new.bytes.items old.handles.items new.handles.items total counted same.laid.marked same.blocks;
+pub sound_again : {A : Type 0} (old new : CodedBlocks A) → IsSound old → AreSame old new → IsSound new
+sound_again old new s same = record {
+  counted = subst (AreCountedBlocks new.bytes.items new.handles.items) (sym same.counts.0) (counted_again old.bytes.items new.bytes.items old.handles.items new.handles.items old.total s.counted same.laid.marked same.blocks);
   apart = same.laid.apart;
-  cut_fits = subst (CutFits cut) (sym same.blocks) fits;
-  is_staged = tt;
+  cut_fits = subst (λ n. CutFits n (blocks_at new.bytes.items new.handles.items)) (sym same.counts.1) (subst (CutFits old.cut) (sym same.blocks) s.cut_fits);
 }
+
+pub points_again : {A : Type 0} (old new : CodedBlocks A) → AreSame old new → points_in new ≡ points_in old
+points_again old new same = λ i. drop (same.counts.1 i) (same_points old.bytes.items new.bytes.items old.handles.items new.handles.items same.blocks i)
 
 pub cut_at_later : (at cut : ℕ) → (at ≡ 0 → ⊥) → (0 ≡ cut_in_block at cut) × (cut ≡ cut_after at cut)
 cut_at_later zero cut n = absurd (n refl)
@@ -486,10 +493,8 @@ pub rest_count : (bytes : List ℕ) (k : ℕ) (ms : List BlockHandle) → AreBlo
 rest_count bytes k ms h = counts_are bytes (drop k ms) (blocks_behind bytes k ms h)
 
 -- a point after all others is inserted at the end
-pub appended_map : (ps : List (ℤ × ℤ)) (cut : ℕ) (p : ℤ × ℤ) → IsRising ps → AllByRecursion (λ (q : ℤ × ℤ). q.0 <ℤ p.0) ps → cut ≤ length ps → map.from_sorted {R = int_cmp} (drop cut (ps ++ p ∷ [])) ≡ map.insert (map.from_sorted (drop cut ps)) p.0 p.1
-appended_map ps cut p s h l =
-    ap (map.from_sorted {R = int_cmp}) (drop-append-le cut ps (p ∷ []) l ∙ sym (put_after p.0 p.1 (drop cut ps) [] (all_dropped p.0 cut ps h)) ∙ ap (put int_cmp p.0 p.1) (append-nil (drop cut ps)))
-    ∙ from_sorted-put int_cmp_total (drop cut ps) (is_rising_behind cut ps s) p.0 p.1
+pub appended_map : (ps : List (ℤ × ℤ)) (p : ℤ × ℤ) → IsRising ps → AllByRecursion (λ (q : ℤ × ℤ). q.0 <ℤ p.0) ps → map.from_sorted {R = int_cmp} (ps ++ p ∷ []) ≡ map.insert (map.from_sorted ps) p.0 p.1
+appended_map ps p s h = ap (map.from_sorted {R = int_cmp}) (sym (put_after p.0 p.1 ps [] h) ∙ ap (put int_cmp p.0 p.1) (append-nil ps)) ∙ from_sorted-put int_cmp_total ps s p.0 p.1
 
 rising_splits : (xs : List (ℤ × ℤ)) (x : ℤ × ℤ) → IsRising (xs ++ (x ∷ [])) → AllByRecursion (λ (q : ℤ × ℤ). q.0 <ℤ x.0) xs
 rising_splits [] x s = tt

@@ -1,7 +1,6 @@
 -- Blocks that slide down in the bytes, in the order of their bytes.
-use Rattle.std.proofs.Common.{◌≡◌, ℕ, zero, suc, ◌+◌, ◌-◌, ◌<◌, ◌≤◌, ◌⊎◌, ℤ, List, [], ◌∷◌, ◌++◌, length, take, drop, set, get_or, slice_get, Option, Some, None, inl, inr, ⊎_elim, length-drop, append_assoc, refl, sym, ◌∙◌, ap, subst, arith}
+use Rattle.std.proofs.Common.{◌≡◌, ℕ, zero, suc, ◌+◌, ◌-◌, ◌<◌, ◌≤◌, ◌⊎◌, ℤ, List, [], ◌∷◌, ◌++◌, length, take, drop, set, get_or, Option, Some, None, inl, inr, ⊎_elim, length-drop, append_assoc, refl, sym, ◌∙◌, ap, subst, arith}
 use Rattle.std.proofs.lemmas.Bool.{cases_lt}
-use Rattle.std.proofs.lemmas.Option.{slice_get_within, get_or_from_slice_get}
 use Rattle.std.proofs.lemmas.List.{length-take-le, drop-drop}
 use Rattle.std.proofs.lemmas.List.Edits.{drop-paste, length-paste}
 use Rattle.std.proofs.Math.Seq.{drop-append_seam, take-append_seam, take-length}
@@ -223,15 +222,6 @@ least_none from ms h = each_of (λ (m : BlockHandle). m.start < from) ms h
 pub least_next : (from : ℕ) (ms : List BlockHandle) (x : ℕ × ℕ) → IsLeast from ms (length ms) (Some x) → IsNextBlock from ms x.0
 least_next from ms x h =
     (h.0, λ d. let e = h.2 d in (let l = h.1 in omega arith, subst (λ s. NoneStartBetween from s ms) (sym e) (each_of (λ (m : BlockHandle). (m.start < from) ⊎ (x.1 ≤ m.start)) ms h.3)))
-
--- a block that starts at the offset is the next one
-pub exact_next : (from : ℕ) (ms : List BlockHandle) (at : ℕ) (m : BlockHandle) → slice_get ms at ≡ Some m → m.start ≡ from → IsNextBlock from ms at
-exact_next from ms at m is e =
-    (slice_get_within ms at m is, λ d. let s : from ≡ (get_or ms at d).start = sym e ∙ ap (λ (x : BlockHandle). x.start) (sym (get_or_from_slice_get ms at m d is)) in (omega arith, subst (λ n. NoneStartBetween from n ms) s (none_between ms)))
-  where
-    none_between : (ms : List BlockHandle) → NoneStartBetween from from ms
-    none_between [] = tt
-    none_between (k ∷ ms) = (cases_lt k.start from, none_between ms)
 
 -- ---- the number of bytes
 

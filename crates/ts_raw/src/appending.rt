@@ -1,7 +1,7 @@
 //! Appends points to coded blocks.
-ghost use Rattle.std.specs.Prelude.{◌≡◌, ◌↔◌, ◌+◌, ◌<◌, ◌≤◌, ◌<ℤ◌, ℕ, [], ◌∷◌, ◌++◌, length, take, vec_len, vec_capacity, IsTrue, false};
+ghost use Rattle.std.specs.Prelude.{◌≡◌, ◌↔◌, ◌+◌, ◌<◌, ◌≤◌, ◌<ℤ◌, ℕ, [], ◌∷◌, ◌++◌, length, take, vec_len, vec_capacity, IsTrue, false, None};
 ghost use Rattle.ts_raw.specs.CodedPoints.{IsCoded, AreOrdered, AllEndBefore, IsBlockHandle, LastGrows, AreApart, IsLastBefore, CutFits, block_points_at, coded_points, blocks_at};
-ghost use Rattle.ts_raw.specs.CodedBlocks.{HasRoom, HasSpare};
+ghost use Rattle.ts_raw.specs.CodedBlocks.{HasRoom, HasSpare, IsSound, IsStaged, KeepsCounts, points_in};
 ghost use Rattle.ts_raw.specs.Rewriting.{IsEncoded};
 
 use crate::block_handle::BlockHandle;
@@ -82,6 +82,7 @@ impl<A: Allocator> CodedBlocks<A> {
         ensures coded { IsCoded self.new.bytes.items self.new.handles.items }
         ensures apart { AreApart self.new.handles.items }
         ensures points { coded_points self.new.bytes.items self.new.handles.items ≡ coded_points self.old.bytes.items self.old.handles.items ++ point.now ∷ [] }
+        ensures counts { KeepsCounts self.old self.new }
         ensures blocks { blocks_at self.new.bytes.items self.new.handles.items ≡ blocks_at self.old.bytes.items self.old.handles.items ++ ((point.now ∷ []) ∷ []) }
     {
         let start = self.bytes.len();
@@ -99,7 +100,7 @@ impl<A: Allocator> CodedBlocks<A> {
 
     /// Appends a point after all others, to the last block if it can grow in place, else as a block of its own. There
     /// must be capacity.
-    pub(crate) fn push_later(&mut self, point: &(Time, i64))
+    fn push_later(&mut self, point: &(Time, i64))
         requires coded { IsCoded self.old.bytes.items self.old.handles.items }
         requires apart { AreApart self.old.handles.items }
         requires later { AllEndBefore self.old.handles.items point.now.0 }
@@ -107,6 +108,7 @@ impl<A: Allocator> CodedBlocks<A> {
         ensures coded { IsCoded self.new.bytes.items self.new.handles.items }
         ensures apart { AreApart self.new.handles.items }
         ensures points { coded_points self.new.bytes.items self.new.handles.items ≡ coded_points self.old.bytes.items self.old.handles.items ++ point.now ∷ [] }
+        ensures counts { KeepsCounts self.old self.new }
         ensures cut { (cut : ℕ) → CutFits cut (blocks_at self.old.bytes.items self.old.handles.items) → CutFits cut (blocks_at self.new.bytes.items self.new.handles.items) }
     {
         if !can_grow(self.handles.as_slice(), self.bytes.len()) {
@@ -115,5 +117,16 @@ impl<A: Allocator> CodedBlocks<A> {
         }
         let at = self.handles.len() - 1;
         push_last(&mut self.bytes, &mut self.handles[at], point);
+    }
+
+    /// Appends a staged point after all others.
+    pub(crate) fn append(&mut self, point: &(Time, i64))
+        requires sound { IsSound self.old }
+        requires staged { IsStaged self.old point.now None }
+        ensures sound { IsSound self.new }
+        ensures points { points_in self.new ≡ points_in self.old ++ point.now ∷ [] }
+    {
+        self.push_later(point);
+        self.total += 1;
     }
 }

@@ -86,13 +86,14 @@ impl<A: Allocator + Copy> CodedBlocks<A> {
             self.handles.as_slice(),
             size,
         )?;
-        *self = CodedBlocks { bytes, handles };
+        self.bytes = bytes;
+        self.handles = handles;
         Ok(())
     }
 
     /// Adds capacity for `size` bytes. If more than a quarter of the bytes is of no block, the blocks are copied into
-    /// new bytes without gaps, with capacity for half as many more: so the copied bytes are few by comparison with those
-    /// that came in between.
+    /// new bytes without gaps, with capacity for half as many more: so the copied bytes are few by comparison with
+    /// those that came in between.
     #[cold]
     fn add_capacity(&mut self, size: usize) -> Result<(), AllocError>
         requires laid { AreLaid self.old }

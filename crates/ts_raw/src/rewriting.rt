@@ -1,15 +1,18 @@
 //! Encodes a block anew, with a point inserted or replaced, and replaces the old block with the new ones.
-ghost use Rattle.std.specs.Prelude.{◌≡◌, ◌+◌, ◌<◌, ◌≤◌, ◌≤ℤ◌, ℕ, ℤ, List, length, take, drop, vec_len, vec_capacity, IfOk};
+ghost use Rattle.std.specs.Prelude.{◌≡◌, ◌+◌, ◌<◌, ◌≤◌, ◌≤ℤ◌, ℕ, ℤ, List, length, take, drop, vec_len, vec_capacity, Some, IfOk};
 ghost use Rattle.std.specs.Ordering.{int_cmp};
 ghost use Rattle.std.specs.FinMap.{put};
 ghost use Rattle.ts_core.specs.aggregates.Aggregates.{aggregate_of_points};
 ghost use Rattle.ts_block.specs.Blocks.{IsBlockOf};
 ghost use Rattle.ts_block.specs.Appending.{values_start, last_time};
 ghost use Rattle.ts_raw.specs.CodedPoints.{IsBlockHandle, AreBlocks, LieFrom, block_points_at, coded_points, count_in_blocks};
+ghost use Rattle.ts_core.specs.facts.Times.{IsTime};
+ghost use Rattle.ts_raw.specs.CodedBlocks.{IsSound, IsStaged, points_in};
 ghost use Rattle.ts_raw.specs.Rewriting.{IsEncoded, AreHalves, blocks_of, handles_replaced, cut_in_block, cut_after};
 
 use crate::block_handle::BlockHandle;
 use crate::coded::count_of;
+use crate::coded_blocks::CodedBlocks;
 use crate::walk::text_of;
 use std::alloc::{AllocError, Allocator};
 use ts_block::{Decoder, first_points, last_points, with_point};
@@ -36,7 +39,7 @@ pub(crate) fn cut_of(at: usize, cut: usize) -> usize
 
 /// Returns the number of removed points after the block at an index was encoded anew: the first one is encoded without
 /// them.
-pub(crate) fn cut_left(at: usize, cut: usize) -> usize
+fn cut_left(at: usize, cut: usize) -> usize
     ensures { result ≡ cut_after at cut }
 {
     if at == 0 { 0 } else { cut }
@@ -291,7 +294,7 @@ fn count_of_new(new: &Rewritten) -> usize
 /// Replaces a block with new ones. There must be capacity for a handle. `total` is the number of all points; returns
 /// their number afterwards.
 #[cold]
-pub(crate) fn replace<A: Allocator>(
+fn replace_handles<A: Allocator>(
     handles: &mut Vec<BlockHandle, A>,
     total: usize,
     new: &Rewritten,
@@ -306,6 +309,19 @@ pub(crate) fn replace<A: Allocator>(
     let others = total - handles[new.at].count;
     insert_blocks(handles, new);
     others + count_of_new(new)
+}
+
+impl<A: Allocator> CodedBlocks<A> {
+    /// Replaces a block with the new ones of a staged point.
+    pub(crate) fn replace(&mut self, new: &Rewritten)
+        requires sound { IsSound self.old }
+        requires staged { (p : ℤ × ℤ) × IsTime p.0 × IsStaged self.old p (Some new.now) }
+        ensures sound { IsSound self.new }
+        ensures points { (p : ℤ × ℤ) → IsStaged self.old p (Some new.now) → points_in self.new ≡ put int_cmp p.0 p.1 (points_in self.old) }
+    {
+        self.total = replace_handles(&mut self.handles, self.total, new);
+        self.cut = cut_left(new.at, self.cut);
+    }
 }
 
 /// Removes the first `count` blocks. `total` is the number of all points; returns the number of those left.

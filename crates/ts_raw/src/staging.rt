@@ -1,8 +1,7 @@
 //! Stages a point: allocates all that its insertion needs.
 ghost use Rattle.std.specs.Prelude.{◌≡◌, ◌<◌, ◌≤◌, length, vec_len, vec_capacity, option_map, IfOk, OnOk};
-ghost use Rattle.ts_raw.specs.CodedPoints.{AreApart, AreCountedBlocks, blocks_at, IsLastBefore, CutFits};
-ghost use Rattle.ts_raw.specs.CodedBlocks.{AreLaid, AreSame, HasSpare, HasRoom};
-ghost use Rattle.ts_raw.specs.BlockColumns.{IsStaged};
+ghost use Rattle.ts_raw.specs.CodedPoints.{blocks_at, IsLastBefore, CutFits};
+ghost use Rattle.ts_raw.specs.CodedBlocks.{AreLaid, AreSame, HasSpare, HasRoom, IsSound, IsStaged};
 ghost use Rattle.ts_raw.specs.Rewriting.{IsRewritten};
 
 use crate::appending::{POINT_BYTES, blocks_before, can_grow, is_full};
@@ -70,25 +69,19 @@ impl<A: Allocator> CodedBlocks<A> {
 }
 
 impl<A: Allocator + Copy> CodedBlocks<A> {
-    /// Encodes the block of a point anew. `at` is the index of the first block that doesn't end before the point, `cut`
-    /// the number of removed points.
-    fn stage_among(
-        &mut self,
-        at: usize,
-        cut: usize,
-        point: &(Time, i64),
-    ) -> Result<Rewritten, AllocError>
+    /// Encodes the block of a point anew. `at` is the index of the first block that doesn't end before the point.
+    fn stage_among(&mut self, at: usize, point: &(Time, i64)) -> Result<Rewritten, AllocError>
         requires laid { AreLaid self.old }
-        requires cut { CutFits cut (blocks_at self.old.bytes.items self.old.handles.items) }
+        requires cut { CutFits self.old.cut (blocks_at self.old.bytes.items self.old.handles.items) }
         requires at { IsLastBefore point.now.0 self.old.handles.items at }
         requires within { at < length self.old.handles.items }
         ensures same { AreSame self.old self.new }
         ensures spare { OnOk result (vec_len self.new.handles < vec_capacity self.new.handles) }
-        ensures rewritten { IfOk result (λ new. IsRewritten self.new.bytes.items self.new.handles.items cut point.now new) }
+        ensures rewritten { IfOk result (λ new. IsRewritten self.new.bytes.items self.new.handles.items self.new.cut point.now new) }
     {
         reserve_eighth(&mut self.handles, 1)?;
         let handle = self.handles[at];
-        rewrite(&mut self.bytes, &handle, at, cut_of(at, cut), point)
+        rewrite(&mut self.bytes, &handle, at, cut_of(at, self.cut), point)
     }
 
     /// As `stage_among`, with the new blocks in a box.
@@ -96,37 +89,32 @@ impl<A: Allocator + Copy> CodedBlocks<A> {
     fn stage_boxed(
         &mut self,
         at: usize,
-        cut: usize,
         point: &(Time, i64),
     ) -> Result<Box<Rewritten, A>, AllocError>
         requires laid { AreLaid self.old }
-        requires cut { CutFits cut (blocks_at self.old.bytes.items self.old.handles.items) }
+        requires cut { CutFits self.old.cut (blocks_at self.old.bytes.items self.old.handles.items) }
         requires at { IsLastBefore point.now.0 self.old.handles.items at }
         requires within { at < length self.old.handles.items }
         ensures same { AreSame self.old self.new }
         ensures spare { OnOk result (vec_len self.new.handles < vec_capacity self.new.handles) }
-        ensures rewritten { IfOk result (λ new. IsRewritten self.new.bytes.items self.new.handles.items cut point.now new.value) }
+        ensures rewritten { IfOk result (λ new. IsRewritten self.new.bytes.items self.new.handles.items self.new.cut point.now new.value) }
     {
-        let new = self.stage_among(at, cut, point)?;
+        let new = self.stage_among(at, point)?;
         let alloc = *self.bytes.allocator();
         Ok(Box::new(alloc, new)?)
     }
 
     /// Stages a point: reserves the capacity to append it, or copies its block with the point and returns the new
-    /// blocks. The first `cut` points of `total` were removed.
+    /// blocks.
     pub(crate) fn stage(
         &mut self,
-        total: usize,
-        cut: usize,
         point: (Time, i64),
     ) -> Result<Option<Box<Rewritten, A>>, AllocError>
-        requires counted { AreCountedBlocks self.old.bytes.items self.old.handles.items total }
-        requires apart { AreApart self.old.handles.items }
-        requires cut { CutFits cut (blocks_at self.old.bytes.items self.old.handles.items) }
+        requires sound { IsSound self.old }
         ensures same { AreSame self.old self.new }
-        ensures staged { IfOk result (λ new. IsStaged self.new total cut point (option_map (λ b. b.value) new)) }
+        ensures staged { IfOk result (λ new. IsStaged self.new point (option_map (λ b. b.value) new)) }
     {
-        if total == usize::MAX {
+        if self.total == usize::MAX {
             return Err(AllocError);
         }
         let needed = needed_bytes(self.handles.as_slice(), point.0);
@@ -136,7 +124,7 @@ impl<A: Allocator + Copy> CodedBlocks<A> {
             self.stage_last()?;
             return Ok(None);
         }
-        let new = self.stage_boxed(at, cut, &point)?;
+        let new = self.stage_boxed(at, &point)?;
         Ok(Some(new))
     }
 }

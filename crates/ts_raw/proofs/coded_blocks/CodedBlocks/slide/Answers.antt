@@ -11,7 +11,10 @@ use Rattle.ts_raw.proofs.coded_blocks.CodedBlocks.slide.Goals.{After-shrink_to_f
 use Rattle.ts_raw.proofs.coded_blocks.CodedBlocks.slide.Goals as goal
 
 pub loop-at-init : goal.loop-at-init
-loop-at-init g c = sliding_first c.args.self.now.bytes.items c.args.self.now.handles.items c.requires.laid.marked c.requires.laid.apart
+loop-at-init g c = record {
+  sliding = sliding_first c.args.self.now.bytes.items c.args.self.now.handles.items c.requires.laid.marked c.requires.laid.apart;
+  counts = (refl, refl);
+}
 
 pub loop-at-preserved : goal.loop-at-preserved
 loop-at-preserved g c =
@@ -24,7 +27,10 @@ loop-at-preserved g c =
     let n : BlockHandle = record m { start = c.loop-at.to; end = c.loop-at.to + (m.end - m.start) } in
     let size = ap length c.as_mut_slice.ensures.value in
     let back = whole copied bytes c.loop-at.self.bytes.len (omega (arith, size, c.copy_within.ensures.len)) (omega (arith, size, c.copy_within.ensures.len, c.loop-at.self.bytes.ok.0)) in
-    sliding_next c.args.self.now.bytes.items c.args.self.now.handles.items bytes _ ms c.loop-at.to c.loop-at.from c.in-Some.at m n c.loop-at.invariant next c.index-handle.ensures (back ∙ is) refl refl refl refl refl refl
+    record {
+      sliding = sliding_next c.args.self.now.bytes.items c.args.self.now.handles.items bytes _ ms c.loop-at.to c.loop-at.from c.in-Some.at m n c.loop-at.invariant.sliding next c.index-handle.ensures (back ∙ is) refl refl refl refl refl refl;
+      counts = c.loop-at.invariant.counts;
+    }
   where
     whole : (xs ys : List ℕ) (n : ℕ) → length xs ≡ length ys → n ≡ length xs → take n (xs ++ drop (length xs) ys) ≡ xs
     whole xs ys n l e = (λ i. take (e i) (xs ++ drop_of_length-le ys (let k : length ys ≤ length xs = omega arith in k) i)) ∙ ap (take (length xs)) (append-nil xs) ∙ take-length xs
@@ -43,18 +49,19 @@ returns-clause-same g c =
     let bytes : List ℕ = c.loop-at.self.bytes.items in
     let new : List ℕ = c.shrink_to_fit.new.self.items in
     let ms : List BlockHandle = c.loop-at.self.handles.items in
-    let sliding = c.loop-at.invariant in
+    let sliding = c.loop-at.invariant.sliding in
     record {
       laid = record {
         marked = subst (AreBlocks new) (sym c.shrink_to_fit-2.ensures.items) (slid_marked old was bytes new ms c.loop-at.to c.loop-at.from sliding (none g at) (cut g at));
         apart = subst AreApart (sym c.shrink_to_fit-2.ensures.items) sliding.apart;
       };
+      counts = c.loop-at.invariant.counts;
       blocks = ap (blocks_at new) c.shrink_to_fit-2.ensures.items ∙ slid_blocks old was bytes new ms c.loop-at.to c.loop-at.from sliding (none g at) (cut g at);
     }
 
 pub returns-clause-packed : goal.returns-clause-packed
 returns-clause-packed g c =
     let at = (goal.at.returns-clause-packed g c).After-shrink_to_fit-2 in
-    let packed = slid_packed c.args.self.now.bytes.items c.args.self.now.handles.items c.loop-at.self.bytes.items c.shrink_to_fit.new.self.items c.loop-at.self.handles.items c.loop-at.to c.loop-at.from c.loop-at.invariant (none g at) (cut g at) in
+    let packed = slid_packed c.args.self.now.bytes.items c.args.self.now.handles.items c.loop-at.self.bytes.items c.shrink_to_fit.new.self.items c.loop-at.self.handles.items c.loop-at.to c.loop-at.from c.loop-at.invariant.sliding (none g at) (cut g at) in
     let same = ap bytes_in_blocks c.shrink_to_fit-2.ensures.items in
     omega arith

@@ -1,7 +1,7 @@
 use Rattle.std.proofs.Common.{ap, arith}
 use Rattle.ts_raw.specs.declared.block_handle.BlockHandle.{BlockHandle}
 use Rattle.ts_raw.proofs.RewriteLemmas.{count_split, count_replaced, count_new_few}
-use Rattle.ts_raw.proofs.rewriting.replace.Goals as goal
+use Rattle.ts_raw.proofs.rewriting.replace_handles.Goals as goal
 
 pub overflow_sub-others : goal.overflow_sub-others
 overflow_sub-others g c =
