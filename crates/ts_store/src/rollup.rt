@@ -12,7 +12,7 @@ ghost use Rattle.ts_core.specs.lists.Numbered.{IsAt};
 ghost use Rattle.ts_cells.specs.Grids.{rollup_series_of, rollup_series_named, borrowed_texts, cell_at, cell_in};
 ghost use Rattle.ts_cells.specs.Walks.{entry_of, entries_within};
 ghost use Rattle.ts_store.specs.rollup.ColumnLists.{HasCapacityAt};
-ghost use Rattle.ts_store.specs.rollup.Rollups.{new_rollup, Extends, IsRollupSeriesOf, KeepsLists, KeepsCells, HasNext, with_next, with_grid_cells, cell_created_in, frozen_in, added_in, corrected_in, live_part, rollup_series_at, columns_of_rollup_series};
+ghost use Rattle.ts_store.specs.rollup.Rollups.{new_rollup, Extends, KeepsLists, KeepsCells, HasNext, with_next, with_grid_cells, cell_created_in, frozen_in, added_in, corrected_in, live_part, rollup_series_at, columns_of_rollup_series};
 
 use series_columns::SeriesColumns;
 use std::alloc::{AllocError, Allocator};
@@ -120,28 +120,6 @@ fn rollup_series_for<A: Allocator + Copy>(
     Ok(series)
 }
 
-/// Returns the rollup series of a new column, and reserves capacity for the column in its list. `None` if the column is
-/// of another measurement.
-fn next_rollup_series<A: Allocator + Copy>(
-    cells: &mut Cells<Agg, A>,
-    columns: &mut Vec<SeriesColumns<A>, A>,
-    rule: &Rule<A>,
-    key: &Key<A>,
-    field: &str,
-) -> Result<Option<RollupSeriesId>, AllocError>
-    requires each { length columns.old.items ≡ length cells.old.rollup_series }
-    ensures series { IfOk result (IsRollupSeriesOf rule.now (record { series = key.now; field = field.now }) cells.new.rollup_series) }
-    ensures capacity { IfOk result (λ o. IfSome o (HasCapacityAt columns.new.items)) }
-    ensures kept { KeepsLists cells.old columns.old.items cells.new columns.new.items }
-{
-    if key.measurement() != rule.measurement() {
-        return Ok(None);
-    }
-    let group = group_of(*columns.allocator(), rule, key)?;
-    let series = rollup_series_for(cells, columns, field, group.as_slice())?;
-    Ok(Some(series))
-}
-
 /// Creates the cell of a bucket in a rollup series, which must be missing, with this frozen part. On allocation failure,
 /// no cell is created.
 fn add_frozen<A: Allocator + Copy>(
@@ -188,7 +166,12 @@ impl<A: Allocator + Copy> Rollup<A> {
     {
         self.next = None;
         reserve_eighth(&mut self.series_of_column, 1)?;
-        let series = next_rollup_series(&mut self.cells, &mut self.columns, rule, key, field)?;
+        let series = if key.measurement() == rule.measurement() {
+            let group = group_of(*self.series_of_column.allocator(), rule, key)?;
+            Some(rollup_series_for(&mut self.cells, &mut self.columns, field, group.as_slice())?)
+        } else {
+            None
+        };
         self.next = Some(series);
         Ok(())
     }

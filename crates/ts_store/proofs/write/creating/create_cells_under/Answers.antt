@@ -1,4 +1,4 @@
-use Rattle.std.proofs.Common.{◌≡◌, ◌∙◌, ℕ, List, get_or, to_z, of_z, refl}
+use Rattle.std.proofs.Common.{◌≡◌, ◌∙◌, ℕ, List, get_or, to_z, of_z}
 use Rattle.std.specs.Int.{w128}
 use Rattle.std.proofs.lemmas.List.{get_or_default}
 use Rattle.ts_store.proofs.write.CellsCreatedLemmas.{next_roomed}
@@ -12,12 +12,3 @@ loop-column-preserved g c =
     let n : c.column-item.result ≡ get_or ns k 0 = c.column-item.is ∙ get_or_default ns k c.column-item.result 0 c.loop-column-test.true in
     let next = next_roomed c.args.rollup.now c.loop-column.rollup c.make_room.new.self (to_z w128 (of_z w128 c.index_of-index.result)) ns k c.column-item.result c.loop-column-test.true n c.in_ok-make_room.ensures.ok i.kept i.made in
     record { above = i.above; kept = next.0; made = next.1 }
-
-pub returns-then-index-low-clause-kept : goal.returns-then-index-low-clause-kept
-returns-then-index-low-clause-kept g c = refl
-
-pub returns-in_err-make_room-clause-kept : goal.returns-in_err-make_room-clause-kept
-returns-in_err-make_room-clause-kept g c = rw c.in_err-make_room.ensures.err c.loop-column.invariant.kept
-
-pub returns-clause-kept : goal.returns-clause-kept
-returns-clause-kept g c = c.loop-column.invariant.kept
