@@ -9,7 +9,7 @@ ghost use Rattle.ts_line.specs.Values.{value_begun_at};
 
 use crate::fault::{LineFault, LineFaultKind, ReadLineError};
 use crate::line::Field;
-use crate::name_filter::filter_slot;
+use crate::name_filter::NameFilter;
 use crate::part::part_at;
 use crate::scan::{Stops, end_at};
 use crate::short::short_integer;
@@ -90,25 +90,23 @@ fn insert<'a, A: Allocator>(
     Ok(())
 }
 
-/// Parses the field at `start`, inserts it into `fields` and returns the offset after it. `marks` is a filter over the
-/// names so far: an unset slot means a new name.
+/// Parses the field at `start`, inserts it into `fields` and returns the offset after it. The filter is over the names
+/// so far.
 fn insert_next<'a, A: Allocator + Copy>(
     alloc: A,
     fields: &mut Vec<Field<'a, A>, A>,
-    marks: &mut [bool; 64],
+    filter: &mut NameFilter,
     line: &'a str,
     start: usize,
 ) -> Result<usize, ReadLineError>
     requires boundary { IsCharBoundary line.now start }
-    requires marked { AreInFilter marks.old fields.old.items }
-    ensures { InsertsNextField fields.old.items fields.new.items marks.new line.now start result }
+    requires marked { AreInFilter filter.old fields.old.items }
+    ensures { InsertsNextField fields.old.items fields.new.items filter.new line.now start result }
 {
     let (field, end) = next(alloc, line, start)?;
-    let slot = filter_slot(field.name().text());
-    if marks[slot] {
+    if filter.insert(field.name().text()) {
         insert(fields, field)?;
     } else {
-        marks[slot] = true;
         fields.push(field)?;
     }
     Ok(end)
@@ -126,10 +124,10 @@ pub fn fields<'a, A: Allocator + Copy>(
     ensures boundary { IfOk result (λ x. IsCharBoundary line.now x.1) }
 {
     let mut fields = Vec::with_capacity(alloc, FIELDS_AT_FIRST)?;
-    let mut marks = [false; 64];
+    let mut filter = NameFilter::new();
     let mut at = start;
     for _ in 0..FIELD_LIMIT {
-        let end = insert_next(alloc, &mut fields, &mut marks, line, at)?;
+        let end = insert_next(alloc, &mut fields, &mut filter, line, at)?;
         if byte_at(line, end) != b',' {
             return Ok((fields, end));
         }

@@ -3,7 +3,7 @@ ghost use Rattle.std.specs.Prelude.{◌≡◌, ◌<◌, ◌≤◌, ◌+◌, ◌+
 ghost use Rattle.std.specs.Str.{IsCharBoundary};
 ghost use Rattle.ts_core.specs.text.Cursors.{IsOffsetFrom};
 ghost use Rattle.ts_line.specs.ReadSteps.{GivesIfMemory};
-ghost use Rattle.ts_line.specs.NameFilters.{AreKeysInFilter, filter_slot};
+ghost use Rattle.ts_line.specs.NameFilters.{AreKeysInFilter, is_set};
 ghost use Rattle.ts_line.specs.declared.scan.Stops.TheVariants.{Equals};
 ghost use Rattle.ts_line.specs.Ends.{EndsAsPair, IsPartEnd};
 ghost use Rattle.ts_line.specs.TagParts.{has_key, checked_key, next_tag, tags_at};
@@ -11,7 +11,7 @@ ghost use Rattle.ts_line.specs.StepsPut.{PushesNextTag};
 
 use crate::fault::{LineFault, LineFaultKind, ReadLineError};
 use crate::line::{TAG_LIMIT, Tag};
-use crate::name_filter::filter_slot;
+use crate::name_filter::NameFilter;
 use crate::part::part_at;
 use crate::scan::{End, Stops, end_at};
 use std::alloc::Allocator;
@@ -27,33 +27,30 @@ fn has_key<A: Allocator>(tags: &[Tag<'_, A>], key: &str) -> bool
     tags.iter().any(|tag| tag.key().text() == key)
 }
 
-/// Sets the slot of the key in `marks`; returns true if one of the tags has the key. An unset slot means a new key.
-fn is_repeated<A: Allocator>(marks: &mut [bool; 64], tags: &[Tag<'_, A>], key: &str) -> bool
-    requires { AreKeysInFilter marks.old tags.now }
+/// Adds a key to a filter over those of the tags. Returns true if one of the tags has the key.
+fn is_repeated<A: Allocator>(filter: &mut NameFilter, tags: &[Tag<'_, A>], key: &str) -> bool
+    requires { AreKeysInFilter filter.old tags.now }
     ensures value { result ≡ has_key tags.now key.now }
-    ensures key { slice_index_or marks.new (filter_slot key.now) false ≡ true }
-    ensures tags { AreKeysInFilter marks.new tags.now }
+    ensures key { is_set filter.new key.now ≡ true }
+    ensures tags { AreKeysInFilter filter.new tags.now }
 {
-    let slot = filter_slot(key);
-    let was_set = marks[slot];
-    marks[slot] = true;
-    was_set && has_key(tags, key)
+    filter.insert(key) && has_key(tags, key)
 }
 
-/// Checks the key of the tag at `start`, after the tags `before`, and sets its slot in `marks`. Fails with `ReservedKey`
-/// or `RepeatedTagKey`.
+/// Checks the key of the tag at `start`, after the tags `before`, and adds it to a filter over their keys. Fails with
+/// `ReservedKey` or `RepeatedTagKey`.
 fn check_key<A: Allocator>(
-    marks: &mut [bool; 64],
+    filter: &mut NameFilter,
     before: &[Tag<'_, A>],
     key: &str,
     start: usize,
 ) -> Result<(), LineFault>
-    requires { AreKeysInFilter marks.old before.now }
+    requires { AreKeysInFilter filter.old before.now }
     ensures value { result ≡ checked_key before.now key.now start }
-    ensures key { slice_index_or marks.new (filter_slot key.now) false ≡ true }
-    ensures tags { AreKeysInFilter marks.new before.now }
+    ensures key { is_set filter.new key.now ≡ true }
+    ensures tags { AreKeysInFilter filter.new before.now }
 {
-    let repeated = is_repeated(marks, before, key);
+    let repeated = is_repeated(filter, before, key);
     if key == "time" {
         return Err(LineFaultKind::ReservedKey.at(start));
     }
@@ -85,20 +82,20 @@ pub(crate) fn pair_ends(line: &str, start: usize) -> Result<(End, End), LineFaul
     Ok((key_end, value_end))
 }
 
-/// Parses the tag at `start`, after the tags `before`; returns it and the offset after it. `marks` is a filter over the
-/// keys. Allocates only for escapes. Fails with `BadTag`, `OverLimit`, `ReservedKey` or `RepeatedTagKey`.
+/// Parses the tag at `start`, after the tags `before`; returns it and the offset after it. The filter is over the keys
+/// so far. Allocates only for escapes. Fails with `BadTag`, `OverLimit`, `ReservedKey` or `RepeatedTagKey`.
 #[tactic(auto, unfolding(crate::specs::TagParts::next_tag))]
 fn next<'a, A: Allocator + Copy>(
     alloc: A,
     before: &[Tag<'a, A>],
-    marks: &mut [bool; 64],
+    filter: &mut NameFilter,
     line: &'a str,
     start: usize,
 ) -> Result<(Tag<'a, A>, usize), ReadLineError>
     requires boundary { IsCharBoundary line.now start }
-    requires marked { AreKeysInFilter marks.old before.now }
+    requires marked { AreKeysInFilter filter.old before.now }
     ensures value { GivesIfMemory (λ x. x) result (next_tag before.now line.now start) }
-    ensures marked { IfOk result (λ x. AreKeysInFilter marks.new (before.now ++ x.0 ∷ [])) }
+    ensures marked { IfOk result (λ x. AreKeysInFilter filter.new (before.now ++ x.0 ∷ [])) }
     ensures offset { IfOk result (λ x. IsOffsetFrom line.now (start + 1) x.1) }
     ensures spare { IfOk result (λ _. length before.now < 64) }
 {
@@ -107,7 +104,7 @@ fn next<'a, A: Allocator + Copy>(
         return Err(ReadLineError::Fault(LineFaultKind::OverLimit.at(start)));
     }
     let key = part_at(alloc, line, start, key_end, Stops::Equals)?;
-    check_key(marks, before, key.text(), start)?;
+    check_key(filter, before, key.text(), start)?;
     let value = part_at(
         alloc,
         line,
@@ -118,20 +115,19 @@ fn next<'a, A: Allocator + Copy>(
     Ok((Tag::new(key, value), value_end.at))
 }
 
-/// Parses the tag at `start`, appends it to `tags` and returns the offset after it. `marks` is a filter over the keys
-/// so far: an unset slot means a new key.
+/// Parses the tag at `start`, appends it to `tags` and returns the offset after it. The filter is over the keys so far.
 fn push_next<'a, A: Allocator + Copy>(
     alloc: A,
     tags: &mut Vec<Tag<'a, A>, A>,
-    marks: &mut [bool; 64],
+    filter: &mut NameFilter,
     line: &'a str,
     start: usize,
 ) -> Result<usize, ReadLineError>
     requires boundary { IsCharBoundary line.now start }
-    requires marked { AreKeysInFilter marks.old tags.old.items }
-    ensures { PushesNextTag tags.old.items tags.new.items marks.new line.now start result }
+    requires marked { AreKeysInFilter filter.old tags.old.items }
+    ensures { PushesNextTag tags.old.items tags.new.items filter.new line.now start result }
 {
-    let (tag, end) = next(alloc, tags, marks, line, start)?;
+    let (tag, end) = next(alloc, tags, filter, line, start)?;
     tags.push(tag)?;
     Ok(end)
 }
@@ -148,10 +144,10 @@ pub fn tags<'a, A: Allocator + Copy>(
     ensures boundary { IfOk result (λ x. IsCharBoundary line.now x.1) }
 {
     let mut tags = Vec::with_capacity(alloc, TAGS_AT_FIRST)?;
-    let mut marks = [false; 64];
+    let mut filter = NameFilter::new();
     let mut at = start;
     while byte_at(line, at) == b',' {
-        at = push_next(alloc, &mut tags, &mut marks, line, after(line, at))?;
+        at = push_next(alloc, &mut tags, &mut filter, line, after(line, at))?;
     }
     Ok((tags, at))
 }

@@ -6,7 +6,7 @@ use Rattle.ts_line.proofs.tag.tags.Given as goal
 abbrev pub invariant-loop-alloc : goal.invariant-loop-alloc
 invariant-loop-alloc g l = record {
   boundary : IsCharBoundary l.line l.at;
-  marked : AreKeysInFilter l.marks l.tags.items;
+  marked : AreKeysInFilter l.filter l.tags.items;
   few : length l.tags.items ≤ 64;
   value : tags_at (65 - length l.tags.items) l.tags.items l.line l.at ≡ tags_at 65 [] l.line l.start;
 }
