@@ -8,7 +8,7 @@ ghost use Rattle.ts_http.specs.OutcomeReplies.{AddsAs, DropsAs, DropsNamed, repl
 use crate::outcome::RequestOutcome;
 use crate::parameters::first_named;
 use crate::refusal::Refusal;
-use crate::reply::{ShortBody, fault_body};
+use crate::reply::{ShortBody, code_body};
 use crate::status::Status;
 use itoa::Buffer;
 use std::alloc::{AllocError, Allocator, Global};
@@ -101,7 +101,7 @@ fn drop_named<A: Allocator + Copy>(store: &mut Store<A>, name: &str) -> RequestO
     let _ = store.settings().rules();
     match store.drop_rule(name) {
         Ok(()) => RequestOutcome::Brief(Status::Success, dropped_body(name)),
-        Err(_) => RequestOutcome::Brief(Status::BadRequest, fault_body(FaultCode::UnknownRule)),
+        Err(_) => RequestOutcome::Brief(Status::BadRequest, code_body(FaultCode::UnknownRule)),
     }
 }
 

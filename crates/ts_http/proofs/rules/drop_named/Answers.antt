@@ -21,4 +21,4 @@ returns-in-Ok g c =
     was_dropped c.args.name.now c.args.store.now c.drop_rule.new.self (Brief Success c.dropped_body.result) named c.in-Ok.ensures.ok (ap (λ (t : Text). answer_reply true t) c.dropped_body.ensures)
 
 pub returns-in-Err : goal.returns-in-Err
-returns-in-Err g c = drop_refused c.args.name.now c.args.store.now c.drop_rule.new.self (Brief BadRequest c.fault_body.result) (c.in-Err.ensures.unknown.0 refl) c.in-Err.ensures.err (ap (λ (t : Text). bad_reply t) c.fault_body.ensures)
+returns-in-Err g c = drop_refused c.args.name.now c.args.store.now c.drop_rule.new.self (Brief BadRequest c.code_body.result) (c.in-Err.ensures.unknown.0 refl) c.in-Err.ensures.err (ap (λ (t : Text). bad_reply t) c.code_body.ensures)
