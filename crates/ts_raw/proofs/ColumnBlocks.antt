@@ -19,7 +19,7 @@ use Rattle.ts_core.proofs.lists.Windows.{filter-within, filter-nothing_within}
 use Rattle.ts_block.specs.Blocks.{times_of, ArePoints, last_of}
 use Rattle.ts_block.specs.Appending.{last_time}
 use Rattle.ts_raw.specs.declared.coded_blocks.CodedBlocks.{CodedBlocks}
-use Rattle.ts_raw.specs.CodedBlocks.{AreNone, AreSame, IsSound, points_in}
+use Rattle.ts_raw.specs.CodedBlocks.{AreNone, AreSame, AreSoundBlocks, points_of_blocks}
 use Rattle.ts_raw.specs.declared.block_handle.BlockHandle.{BlockHandle}
 use Rattle.ts_raw.specs.declared.rewriting.Rewritten.{Rewritten}
 use Rattle.ts_raw.specs.Columns.{AreTimed}
@@ -49,14 +49,14 @@ pub cut_few : (bytes : List ℕ) (ms : List BlockHandle) (cut : ℕ) → AreBloc
 cut_few bytes [] cut marked h = omega arith
 cut_few bytes (m ∷ ms) cut marked h = let a = (few_points (block_points_at bytes m) marked.0.block.points_are).0 in omega arith
 
-pub sound_none : {A : Type 0} (b : CodedBlocks A) → AreNone b → IsSound b
+pub sound_none : {A : Type 0} (b : CodedBlocks A) → AreNone b → AreSoundBlocks b
 sound_none b n = record {
   counted = subst (AreCountedBlocks b.bytes.items b.handles.items) (sym n.no_points) (none_counted b.bytes.items b.handles.items n.no_bytes n.no_handles).0;
   apart = subst AreApart (sym n.no_handles) tt;
   cut_fits = subst (λ (x : List BlockHandle). CutFits b.cut (blocks_at b.bytes.items x)) (sym n.no_handles) n.none_cut;
 }
 
-pub points_none : {A : Type 0} (b : CodedBlocks A) → AreNone b → points_in b ≡ []
+pub points_none : {A : Type 0} (b : CodedBlocks A) → AreNone b → points_of_blocks b ≡ []
 points_none b n = (λ i. drop (n.none_cut i) (coded_points b.bytes.items b.handles.items)) ∙ (none_counted b.bytes.items b.handles.items n.no_bytes n.no_handles).1
 
 -- ---- the blocks' bytes
@@ -463,21 +463,21 @@ dropped_counted bytes ms total at c =
     timed_rest [] qs h = h
     timed_rest (p ∷ ps) qs h = timed_rest ps qs h.1
 
-pub points_rise : {A : Type 0} (b : CodedBlocks A) → IsSound b → IsRising (points_in b)
+pub points_rise : {A : Type 0} (b : CodedBlocks A) → AreSoundBlocks b → IsRising (points_of_blocks b)
 points_rise b s = is_rising_behind b.cut (coded_points b.bytes.items b.handles.items) s.counted.coded.rising
 
-pub points_timed : {A : Type 0} (b : CodedBlocks A) → IsSound b → AreTimed (points_in b)
+pub points_timed : {A : Type 0} (b : CodedBlocks A) → AreSoundBlocks b → AreTimed (points_of_blocks b)
 points_timed b s = timed_behind b.cut (coded_points b.bytes.items b.handles.items) s.counted.coded.timed
 
 -- the same blocks elsewhere
-pub sound_again : {A : Type 0} (old new : CodedBlocks A) → IsSound old → AreSame old new → IsSound new
+pub sound_again : {A : Type 0} (old new : CodedBlocks A) → AreSoundBlocks old → AreSame old new → AreSoundBlocks new
 sound_again old new s same = record {
   counted = subst (AreCountedBlocks new.bytes.items new.handles.items) (sym same.counts.0) (counted_again old.bytes.items new.bytes.items old.handles.items new.handles.items old.total s.counted same.laid.marked same.blocks);
   apart = same.laid.apart;
   cut_fits = subst (λ n. CutFits n (blocks_at new.bytes.items new.handles.items)) (sym same.counts.1) (subst (CutFits old.cut) (sym same.blocks) s.cut_fits);
 }
 
-pub points_again : {A : Type 0} (old new : CodedBlocks A) → AreSame old new → points_in new ≡ points_in old
+pub points_again : {A : Type 0} (old new : CodedBlocks A) → AreSame old new → points_of_blocks new ≡ points_of_blocks old
 points_again old new same = λ i. drop (same.counts.1 i) (same_points old.bytes.items new.bytes.items old.handles.items new.handles.items same.blocks i)
 
 pub cut_at_later : (at cut : ℕ) → (at ≡ 0 → ⊥) → (0 ≡ cut_in_block at cut) × (cut ≡ cut_after at cut)

@@ -37,11 +37,11 @@ pub record HasRoom {A : Type 0} (b : CodedBlocks A) : Type 0 where
   pub room : LastGrows (length b.bytes.items) b.handles.items ⊎ (vec_len b.handles < vec_capacity b.handles)
 
 -- the points, without removed ones
-abbrev pub points_in : {A : Type 0} → CodedBlocks A → List (ℤ × ℤ)
-points_in b = drop b.cut (coded_points b.bytes.items b.handles.items)
+abbrev pub points_of_blocks : {A : Type 0} → CodedBlocks A → List (ℤ × ℤ)
+points_of_blocks b = drop b.cut (coded_points b.bytes.items b.handles.items)
 
 -- the blocks have `total` points, in the order of time, of which `cut` were removed, and share no bytes
-pub record IsSound {A : Type 0} (b : CodedBlocks A) : Type 0 where
+pub record AreSoundBlocks {A : Type 0} (b : CodedBlocks A) : Type 0 where
   pub counted : AreCountedBlocks b.bytes.items b.handles.items b.total
   pub apart : AreApart b.handles.items
   pub cut_fits : CutFits b.cut (blocks_at b.bytes.items b.handles.items)

@@ -1,7 +1,7 @@
 //! Appends points to coded blocks.
 ghost use Rattle.std.specs.Prelude.{◌≡◌, ◌↔◌, ◌+◌, ◌<◌, ◌≤◌, ◌<ℤ◌, ℕ, [], ◌∷◌, ◌++◌, length, take, vec_len, vec_capacity, IsTrue, false, None};
 ghost use Rattle.ts_raw.specs.CodedPoints.{IsCoded, AreOrdered, AllEndBefore, IsBlockHandle, LastGrows, AreApart, IsLastBefore, CutFits, block_points_at, coded_points, blocks_at};
-ghost use Rattle.ts_raw.specs.CodedBlocks.{HasRoom, HasSpare, IsSound, IsStaged, KeepsCounts, points_in};
+ghost use Rattle.ts_raw.specs.CodedBlocks.{HasRoom, HasSpare, AreSoundBlocks, IsStaged, KeepsCounts, points_of_blocks};
 ghost use Rattle.ts_raw.specs.Rewriting.{IsEncoded};
 
 use crate::block_handle::BlockHandle;
@@ -121,10 +121,10 @@ impl<A: Allocator> CodedBlocks<A> {
 
     /// Appends a staged point after all others.
     pub(crate) fn append(&mut self, point: &(Time, i64))
-        requires sound { IsSound self.old }
+        requires sound { AreSoundBlocks self.old }
         requires staged { IsStaged self.old point.now None }
-        ensures sound { IsSound self.new }
-        ensures points { points_in self.new ≡ points_in self.old ++ point.now ∷ [] }
+        ensures sound { AreSoundBlocks self.new }
+        ensures points { points_of_blocks self.new ≡ points_of_blocks self.old ++ point.now ∷ [] }
     {
         self.push_later(point);
         self.total += 1;

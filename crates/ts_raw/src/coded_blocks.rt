@@ -1,7 +1,7 @@
 //! The coded blocks of a column, with their bytes.
 ghost use Rattle.std.specs.Prelude.{◌≡◌, ◌+◌, ◌*◌, ◌≤◌, int_le, length, drop, filter};
 ghost use Rattle.ts_core.specs.facts.Facts.{is_within};
-ghost use Rattle.ts_raw.specs.CodedBlocks.{AreNone, IsSound, points_in};
+ghost use Rattle.ts_raw.specs.CodedBlocks.{AreNone, AreSoundBlocks, points_of_blocks};
 ghost use Rattle.ts_raw.specs.CodedPoints.{IsCoded, CutFits, coded_points, blocks_at};
 ghost use Rattle.ts_raw.specs.Columns.{AreTimed};
 ghost use Rattle.ts_raw.specs.Sliding.{bytes_in_blocks};
@@ -62,16 +62,16 @@ impl<A: Allocator> CodedBlocks<A> {
 
     /// Returns the number of points.
     pub(crate) fn live(&self) -> usize
-        requires sound { IsSound self.now }
-        ensures { result ≡ length (points_in self.now) }
+        requires sound { AreSoundBlocks self.now }
+        ensures { result ≡ length (points_of_blocks self.now) }
     {
         self.total - self.cut
     }
 
     /// Returns all points in the order of time.
     pub(crate) fn every(&self) -> BlockWalk<'_>
-        requires sound { IsSound self.now }
-        ensures { result ≡ points_in self.now }
+        requires sound { AreSoundBlocks self.now }
+        ensures { result ≡ points_of_blocks self.now }
     {
         let count = self.live();
         walk(
@@ -84,8 +84,8 @@ impl<A: Allocator> CodedBlocks<A> {
 
     /// Returns the points from `from`, inclusive, to `to`, exclusive (nanoseconds).
     pub(crate) fn window(&self, from: i64, to: i64) -> BlockWalk<'_>
-        requires sound { IsSound self.now }
-        ensures points { result ≡ filter (λ p. is_within from to p.0) (points_in self.now) }
+        requires sound { AreSoundBlocks self.now }
+        ensures points { result ≡ filter (λ p. is_within from to p.0) (points_of_blocks self.now) }
         ensures timed { AreTimed result }
     {
         // For the proof: the number of points fits 64 bits.
@@ -112,9 +112,9 @@ impl<A: Allocator + Copy> CodedBlocks<A> {
     /// Removes the points before a time in nanoseconds. Afterwards at most half of the bytes are of no block. Needs no
     /// memory.
     pub(crate) fn drop_below(&mut self, time: i64)
-        requires sound { IsSound self.old }
-        ensures sound { IsSound self.new }
-        ensures points { points_in self.new ≡ filter (λ p. int_le time p.0) (points_in self.old) }
+        requires sound { AreSoundBlocks self.old }
+        ensures sound { AreSoundBlocks self.new }
+        ensures points { points_of_blocks self.new ≡ filter (λ p. int_le time p.0) (points_of_blocks self.old) }
         ensures few_dead { length self.new.bytes.items ≤ 2 * bytes_in_blocks self.new.handles.items }
     {
         let (at, cut) = position(

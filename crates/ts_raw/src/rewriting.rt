@@ -7,7 +7,7 @@ ghost use Rattle.ts_block.specs.Blocks.{IsBlockOf};
 ghost use Rattle.ts_block.specs.Appending.{values_start, last_time};
 ghost use Rattle.ts_raw.specs.CodedPoints.{IsBlockHandle, AreBlocks, LieFrom, block_points_at, coded_points, count_in_blocks};
 ghost use Rattle.ts_core.specs.facts.Times.{IsTime};
-ghost use Rattle.ts_raw.specs.CodedBlocks.{IsSound, IsStaged, points_in};
+ghost use Rattle.ts_raw.specs.CodedBlocks.{AreSoundBlocks, IsStaged, points_of_blocks};
 ghost use Rattle.ts_raw.specs.Rewriting.{IsEncoded, AreHalves, blocks_of, handles_replaced, cut_in_block, cut_after};
 
 use crate::block_handle::BlockHandle;
@@ -314,10 +314,10 @@ fn replace_handles<A: Allocator>(
 impl<A: Allocator> CodedBlocks<A> {
     /// Replaces a block with the new ones of a staged point.
     pub(crate) fn replace(&mut self, new: &Rewritten)
-        requires sound { IsSound self.old }
+        requires sound { AreSoundBlocks self.old }
         requires staged { (p : ℤ × ℤ) × IsTime p.0 × IsStaged self.old p (Some new.now) }
-        ensures sound { IsSound self.new }
-        ensures points { (p : ℤ × ℤ) → IsStaged self.old p (Some new.now) → points_in self.new ≡ put int_cmp p.0 p.1 (points_in self.old) }
+        ensures sound { AreSoundBlocks self.new }
+        ensures points { (p : ℤ × ℤ) → IsStaged self.old p (Some new.now) → points_of_blocks self.new ≡ put int_cmp p.0 p.1 (points_of_blocks self.old) }
     {
         self.total = replace_handles(&mut self.handles, self.total, new);
         self.cut = cut_left(new.at, self.cut);

@@ -1,7 +1,7 @@
 //! Stages a point: allocates all that its insertion needs.
 ghost use Rattle.std.specs.Prelude.{◌≡◌, ◌<◌, ◌≤◌, length, vec_len, vec_capacity, option_map, IfOk, OnOk};
 ghost use Rattle.ts_raw.specs.CodedPoints.{blocks_at, IsLastBefore, CutFits};
-ghost use Rattle.ts_raw.specs.CodedBlocks.{AreLaid, AreSame, HasSpare, HasRoom, IsSound, IsStaged};
+ghost use Rattle.ts_raw.specs.CodedBlocks.{AreLaid, AreSame, HasSpare, HasRoom, AreSoundBlocks, IsStaged};
 ghost use Rattle.ts_raw.specs.Rewriting.{IsRewritten};
 
 use crate::appending::{POINT_BYTES, blocks_before, can_grow, is_full};
@@ -110,7 +110,7 @@ impl<A: Allocator + Copy> CodedBlocks<A> {
         &mut self,
         point: (Time, i64),
     ) -> Result<Option<Box<Rewritten, A>>, AllocError>
-        requires sound { IsSound self.old }
+        requires sound { AreSoundBlocks self.old }
         ensures same { AreSame self.old self.new }
         ensures staged { IfOk result (λ new. IsStaged self.new point (option_map (λ b. b.value) new)) }
     {

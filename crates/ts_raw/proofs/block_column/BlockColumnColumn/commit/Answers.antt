@@ -3,7 +3,7 @@ use Rattle.std.specs.Cmp.{int_cmp_total}
 use Rattle.std.specs.FinMap as map
 use Rattle.ts_core.specs.facts.Times.{IsTime}
 use Rattle.ts_raw.specs.BlockColumns.{IsStagedIfAny}
-use Rattle.ts_raw.specs.CodedBlocks.{IsStaged, points_in}
+use Rattle.ts_raw.specs.CodedBlocks.{IsStaged, points_of_blocks}
 use Rattle.ts_raw.specs.CodedPoints.{coded_points}
 use Rattle.ts_raw.proofs.PointMaps.{from_sorted-put}
 use Rattle.ts_raw.proofs.PushLemmas.{coded_less}
@@ -40,7 +40,7 @@ returns-in-None-clause-put g c =
     let p : ℤ × ℤ = c.unwrap-point.result in
     let later = (appended g a (sym c.take-2.ensures.value ∙ c.in-None.is)).can.0 in
     rw (← c.self.view_is, point_is g a, c.append.ensures.points)
-    (appended_map (points_in b) p (points_rise b c.self.invariant.sound) (all_dropped p.0 b.cut (coded_points b.bytes.items b.handles.items) (coded_less b.bytes.items p.0 b.handles.items c.self.invariant.sound.counted.coded.marked later)))
+    (appended_map (points_of_blocks b) p (points_rise b c.self.invariant.sound) (all_dropped p.0 b.cut (coded_points b.bytes.items b.handles.items) (coded_less b.bytes.items p.0 b.handles.items c.self.invariant.sound.counted.coded.marked later)))
 
 pub returns-in-Some-clause-put : goal.returns-in-Some-clause-put
 returns-in-Some-clause-put g c =
@@ -48,4 +48,4 @@ returns-in-Some-clause-put g c =
     let b = c.self.inside.blocks in
     let p : ℤ × ℤ = c.unwrap-point.result in
     let is = replaced g a.After-into_inner (staged g a.After-unwrap-point) in
-    rw (← c.self.view_is, point_is g a.After-unwrap-point) (ap (map.from_sorted {R = int_cmp}) (c.replace.ensures.points p is) ∙ from_sorted-put int_cmp_total (points_in b) (points_rise b c.self.invariant.sound) p.0 p.1)
+    rw (← c.self.view_is, point_is g a.After-unwrap-point) (ap (map.from_sorted {R = int_cmp}) (c.replace.ensures.points p is) ∙ from_sorted-put int_cmp_total (points_of_blocks b) (points_rise b c.self.invariant.sound) p.0 p.1)

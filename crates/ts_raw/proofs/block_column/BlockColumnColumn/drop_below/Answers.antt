@@ -2,7 +2,7 @@ use Rattle.std.proofs.Common.{rules, ℤ, filter, int_le, int_cmp, ap, ◌∙◌
 use Rattle.std.specs.FinMap as map
 use Rattle.ts_raw.specs.Columns.{points_from}
 use Rattle.ts_raw.specs.BlockColumns.{BlockColumnState}
-use Rattle.ts_raw.specs.CodedBlocks.{points_in}
+use Rattle.ts_raw.specs.CodedBlocks.{points_of_blocks}
 use Rattle.ts_raw.proofs.PointMaps.{kept_map}
 use Rattle.ts_raw.proofs.ColumnBlocks.{points_rise}
 use Rattle.ts_raw.proofs.SlidingLemmas.{sizes_are}
@@ -13,8 +13,8 @@ returns-clause-kept g c =
     let b = c.self.inside.blocks in
     let fits : SFits w64 c.nanos.result = search rules in
     let mark = to_z-of_z fits ∙ c.nanos.ensures.value in
-    ap (map.from_sorted {R = int_cmp}) (c.drop_below.ensures.points ∙ ap (λ t. filter (λ (p : ℤ × ℤ). int_le t p.0) (points_in b)) mark)
-    ∙ kept_map (points_in b) (points_rise b c.self.invariant.sound) (int_le c.args.mark)
+    ap (map.from_sorted {R = int_cmp}) (c.drop_below.ensures.points ∙ ap (λ t. filter (λ (p : ℤ × ℤ). int_le t p.0) (points_of_blocks b)) mark)
+    ∙ kept_map (points_of_blocks b) (points_rise b c.self.invariant.sound) (int_le c.args.mark)
     ∙ ap (λ (s : BlockColumnState). points_from s.points c.args.mark) c.self.view_is
 
 pub returns-clause-few_dead : goal.returns-clause-few_dead
