@@ -1,4 +1,4 @@
-//! The coded blocks of a column, with their bytes.
+//! Keeps the coded blocks of a column, with their bytes.
 ghost use Rattle.std.specs.Prelude.{◌≡◌, ◌+◌, ◌*◌, ◌≤◌, int_le, length, drop, filter};
 ghost use Rattle.ts_core.specs.facts.Facts.{is_within};
 ghost use Rattle.ts_raw.specs.CodedBlocks.{AreNone, AreSoundBlocks, points_of_blocks};
