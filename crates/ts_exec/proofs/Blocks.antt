@@ -1,5 +1,5 @@
 -- Blocks of points in one run: their aggregate merged at once is each point merged.
-use Rattle.std.proofs.Common.{◌≡◌, ℕ, ◌+◌, ◌<◌, ◌≤◌, ◌^◌, ℤ, ◌≤ℤ◌, ◌<ℤ◌, true, List, [], ◌∷◌, ◌++◌, length, length-append, get_or, min, append_assoc, refl, sym, ◌∙◌, ap, subst, arith, Option, Some, None}
+use Rattle.std.proofs.Common.{◌≡◌, ℕ, suc, ◌+◌, ◌<◌, ◌≤◌, ◌^◌, ℤ, ◌≤ℤ◌, ◌<ℤ◌, true, List, [], ◌∷◌, ◌++◌, length, length-append, get_or, min, append_assoc, refl, sym, ◌∙◌, ap, subst, arith, Option, Some, None}
 use Rattle.std.specs.List.{AllByRecursion}
 use Rattle.std.proofs.lemmas.Int.{ints}
 use Rattle.std.proofs.lemmas.List.Sums.{fold-append}
@@ -104,29 +104,54 @@ module _ (low high : ℤ) (before left : List (ℤ × ℤ)) (a : Aggregate) (fro
           ∙ sym (fold-append (λ (b : Aggregate) (p : ℤ × ℤ). merged b (part_of_point parts p.0 p.1)) part m.first front.block);
     }
 
+-- ---- one more point
+
+module _ (parts : AggregateParts) (low high : ℤ) (part next : Aggregate) (all before left : List (ℤ × ℤ)) (p : ℤ × ℤ) (m : AreMerged parts low high part next all before) (is : before ≡ p ∷ left) (inside : is_within low high p.0 ≡ true) where
+  one_front : IsFront low high before left (aggregate_of_points (p ∷ []))
+  one_front = record { block = p ∷ []; some = omega arith; split = is; within = (inside, tt); summary = refl }
+
+  pub point-few : (low <ℤ high → part.count + length all ≤ 2 ^ 62) → next.count < 2 ^ 62
+  point-few few =
+      let fits = front-few low high before left (aggregate_of_points (p ∷ [])) one_front parts part next all m few in
+      let one = count_of_fold (p ∷ []) in
+      omega arith
+
+  pub point-merged : AreMerged parts low high part (merged next (part_of_point parts p.0 p.1)) all left
+  point-merged =
+      subst (λ (x : Aggregate). AreMerged parts low high part (merged next x) all left) (part_one parts p)
+      (front-merged low high before left (aggregate_of_points (p ∷ [])) one_front parts part next all m)
+
 -- ---- points of a run
 
-points_of_run : (parts : AggregateParts) (g : BucketGrid) (rows : List Aggregate) (low high : ℤ) (row_index : ℕ) (ps left : List (ℤ × ℤ)) (part : Aggregate)
-    → length rows ≤ 18446744073709551615 → AllByRecursion (λ (p : ℤ × ℤ). is_within low high p.0 ≡ true) ps → IsRun g rows (length (ps ++ left)) low high row_index part
-    → (with_point_parts parts g left (with_part row_index (part_with parts part ps) rows) ≡ with_point_parts parts g (ps ++ left) (with_part row_index part rows)) × IsRun g rows (length left) low high row_index (part_with parts part ps)
-points_of_run parts g rows low high row_index [] left part short inside run = (refl, run)
-points_of_run parts g rows low high row_index (p ∷ ps) left part short inside run =
+points_of_run : (parts : AggregateParts) (g : BucketGrid) (rows : List Aggregate) (low high : ℤ) (row_index : ℕ) (ps left : List (ℤ × ℤ)) (others : ℕ) (part : Aggregate)
+    → length rows ≤ 18446744073709551615 → AllByRecursion (λ (p : ℤ × ℤ). is_within low high p.0 ≡ true) ps → IsRun g rows (length (ps ++ left) + others) low high row_index part
+    → (with_point_parts parts g left (with_part row_index (part_with parts part ps) rows) ≡ with_point_parts parts g (ps ++ left) (with_part row_index part rows)) × IsRun g rows (length left + others) low high row_index (part_with parts part ps)
+points_of_run parts g rows low high row_index [] left others part short inside run = (refl, run)
+points_of_run parts g rows low high row_index (p ∷ ps) left others part short inside run =
     let here = within_parts low high p.0 inside.0 in
     let more : Aggregate = merged part (part_of_point parts p.0 p.1) in
-    let rest = points_of_run parts g rows low high row_index ps left more short inside.1 (run-joined parts p.0 p.1 g rows (length (ps ++ left)) low high row_index part run here.0 here.1) in (
-      rest.0 ∙ ap (λ (r : List Aggregate). with_point_parts parts g (ps ++ left) r) (run-point parts p.0 p.1 g rows (length (ps ++ left)) low high row_index part short run here.0 here.1),
+    let count : ℕ = length (ps ++ left) + others in
+    let size : length ((p ∷ ps) ++ left) + others ≡ suc count = omega arith in
+    let all : IsRun g rows (suc count) low high row_index part = subst (λ n. IsRun g rows n low high row_index part) size run in
+    let rest = points_of_run parts g rows low high row_index ps left others more short inside.1 (run-joined parts p.0 p.1 g rows count low high row_index part all here.0 here.1) in (
+      rest.0 ∙ ap (λ (r : List Aggregate). with_point_parts parts g (ps ++ left) r) (run-point parts p.0 p.1 g rows count low high row_index part short all here.0 here.1),
       rest.1,
     )
 
 -- points merged into a run's part, which is then merged into its row, are points merged into their rows
-pub run-merged : (parts : AggregateParts) (g : BucketGrid) (rows : List Aggregate) (low high : ℤ) (row_index : ℕ) (part next : Aggregate) (all left : List (ℤ × ℤ))
-    → length rows ≤ 18446744073709551615 → AreMerged parts low high part next all left → IsRun g rows (length all) low high row_index part
-    → (with_point_parts parts g left (with_part row_index next rows) ≡ with_point_parts parts g all (with_part row_index part rows)) × IsRun g rows (length left) low high row_index next
-run-merged parts g rows low high row_index part next all left short m run =
-    let both = points_of_run parts g rows low high row_index m.first left part short m.within (subst (λ (ps : List (ℤ × ℤ)). IsRun g rows (length ps) low high row_index part) m.points run) in (
+pub run-merged : (parts : AggregateParts) (g : BucketGrid) (rows : List Aggregate) (low high : ℤ) (row_index : ℕ) (part next : Aggregate) (all left : List (ℤ × ℤ)) (others : ℕ)
+    → length rows ≤ 18446744073709551615 → AreMerged parts low high part next all left → IsRun g rows (length all + others) low high row_index part
+    → (with_point_parts parts g left (with_part row_index next rows) ≡ with_point_parts parts g all (with_part row_index part rows)) × IsRun g rows (length left + others) low high row_index next
+run-merged parts g rows low high row_index part next all left others short m run =
+    let both = points_of_run parts g rows low high row_index m.first left others part short m.within (subst (λ (ps : List (ℤ × ℤ)). IsRun g rows (length ps + others) low high row_index part) m.points run) in (
       ap (λ (a : Aggregate). with_point_parts parts g left (with_part row_index a rows)) m.merged ∙ both.0 ∙ sym (ap (λ (ps : List (ℤ × ℤ)). with_point_parts parts g ps (with_part row_index part rows)) m.points),
-      subst (λ (a : Aggregate). IsRun g rows (length left) low high row_index a) (sym m.merged) both.1,
+      subst (λ (a : Aggregate). IsRun g rows (length left + others) low high row_index a) (sym m.merged) both.1,
     )
+
+-- points are added in two parts
+pub points-in-parts : (parts : AggregateParts) (g : BucketGrid) (ps qs : List (ℤ × ℤ)) (rows : List Aggregate) → with_point_parts parts g qs (with_point_parts parts g ps rows) ≡ with_point_parts parts g (ps ++ qs) rows
+points-in-parts parts g [] qs rows = refl
+points-in-parts parts g (p ∷ ps) qs rows = points-in-parts parts g ps qs (with_part (row_index_at g p.0) (part_of_point parts p.0 p.1) rows)
 
 -- ---- a run that begins by a block
 
@@ -146,10 +171,11 @@ front-first parts g rows low high row_index before left a short within bounded f
     first_points (p ∷ ps) some inside fits =
         let here = within_parts low high p.0 inside.0 in
         let one : Aggregate = part_of_point parts p.0 p.1 in
-        let begun : IsRun g rows (length (ps ++ left)) low high row_index one = run-begun parts p.0 p.1 g rows (length (ps ++ left)) low high row_index one true within (λ e. omega arith) refl in
-        let both = points_of_run parts g rows low high row_index ps left one short inside.1 begun in
+        let begun : IsRun g rows (length (ps ++ left) + 0) low high row_index one = run-begun parts p.0 p.1 g rows (length (ps ++ left) + 0) low high row_index one true within (λ e. omega arith) refl in
+        let both = points_of_run parts g rows low high row_index ps left 0 one short inside.1 begun in
+        let size : length left + 0 ≡ length left = omega arith in
         let whole : part_of parts (aggregate_of_points (p ∷ ps)) ≡ part_with parts one ps = points_whole parts p ps in (
           ap (λ (x : Aggregate). with_point_parts parts g left (with_part row_index x rows)) whole ∙ both.0
               ∙ ap (λ (r : List Aggregate). with_point_parts parts g (ps ++ left) r) (run-first parts p.0 p.1 g rows row_index one short (within p.0 here.0 here.1) refl),
-          subst (λ (x : Aggregate). IsRun g rows (length left) low high row_index x) (sym whole) both.1,
+          subst (λ n. IsRun g rows n low high row_index (part_of parts (aggregate_of_points (p ∷ ps)))) size (subst (λ (x : Aggregate). IsRun g rows (length left + 0) low high row_index x) (sym whole) both.1),
         )

@@ -1,12 +1,16 @@
 //! Adds points and parts to the rows of a group.
-ghost use Rattle.std.specs.Prelude.{◌≡◌, ◌+◌, ◌^◌, ◌≤◌, ◌<ℤ◌, true, [], length, IfSome, IfNone, get_or, min, if◌then◌else◌};
+ghost use Rattle.std.specs.Prelude.{◌≡◌, ◌+◌, ◌^◌, ◌≤◌, ◌<◌, ◌<ℤ◌, true, [], length, IfSome, IfNone, get_or, min, if◌then◌else◌};
 ghost use Rattle.ts_core.specs.aggregates.Aggregates.{empty_aggregate};
+ghost use Rattle.ts_core.specs.facts.Facts.{is_within};
 ghost use Rattle.ts_exec.specs.RowParts.{AreMerged, IsRun, part_of_point, row_index_at, with_part, with_point_parts};
 
 use crate::buckets::{BucketCursor, BucketSpan};
 use crate::fold::Fold;
 use ts_core::{Agg, MAX_COUNT, Partial, Time, merge_within};
 use ts_raw::Points;
+
+/// Number of points that are decoded at once.
+const ROOM: usize = 64;
 
 /// Merges a part into the row with this index, if there is one.
 pub(crate) fn add_part(rows: &mut [Agg], row_index: usize, part: Agg)
@@ -132,44 +136,73 @@ fn with_blocks<F: Fold>(fold: F, low: i64, high: i64, points: &mut Points<'_>) -
     fold
 }
 
-/// Adds a point to a run, or merges the run into its row, and begins another with the point. At most `others` points
-/// are to come. Returns the run that has the point.
+/// Returns true if a time lies from `low`, inclusive, to `high`, exclusive.
 #[inline]
-fn add_point<F: Fold>(
+fn is_within(time: Time, low: i64, high: i64) -> bool
+    ensures { result ≡ is_within low high time }
+{
+    low <= time.nanos() && time.nanos() < high
+}
+
+/// Merges the next points into a fold, up to the first that isn't from `low`, inclusive, to `high`, exclusive.
+#[inline]
+fn with_points<F: Fold>(fold: F, low: i64, high: i64, points: &mut &[(Time, i64)]) -> F
+    requires { low <ℤ high → (F.folded fold).count + length points.old.now ≤ 2 ^ 62 }
+    ensures { AreMerged F.parts low high (F.folded fold) (F.folded result) points.old.now points.new.now }
+{
+    let mut fold = fold;
+    while let Some((point, others)) = points.split_first() {
+        let (time, value) = *point;
+        if !is_within(time, low, high) {
+            break;
+        }
+        fold = fold.with(time, value);
+        *points = others;
+    }
+    fold
+}
+
+/// Adds points to a run and to the runs after it, and merges each run but the last into its row. At most `others`
+/// points are to come. Returns the last run.
+fn extend_runs<F: Fold>(
     rows: &mut [Agg],
     buckets: &mut BucketCursor,
     run: BucketRun<F>,
-    time: Time,
-    value: i64,
+    points: &[(Time, i64)],
     others: u64,
 ) -> BucketRun<F>
-    requires { IsRun buckets.old rows.old (others + 1) run.low run.high run.row_index (F.folded run.fold) }
-    ensures value { with_part result.row_index (F.folded result.fold) rows.new ≡ with_part (row_index_at buckets.old time) (part_of_point F.parts time value) (with_part run.row_index (F.folded run.fold) rows.old) }
+    requires few { length points.now + others < 2 ^ 64 }
+    requires run { IsRun buckets.old rows.old (length points.now + others) run.low run.high run.row_index (F.folded run.fold) }
+    ensures value { with_part result.row_index (F.folded result.fold) rows.new ≡ with_point_parts F.parts buckets.old points.now (with_part run.row_index (F.folded run.fold) rows.old) }
     ensures run { IsRun buckets.old rows.new others result.low result.high result.row_index (F.folded result.fold) }
     ensures rows { length rows.new ≡ length rows.old }
     ensures same { buckets.new ≡ buckets.old }
 {
     // For the proof: the number of rows fits a `usize`.
     let _width = rows.len();
-    if run.low <= time.nanos() && time.nanos() < run.high {
-        BucketRun {
-            fold: run.fold.with(time, value),
-            ..run
-        }
-    } else {
+    let mut run = run;
+    let mut points = points;
+    loop {
+        run.fold = with_points(run.fold, run.low, run.high, &mut points);
+        let Some((point, after)) = points.split_first() else {
+            return run;
+        };
         add_part(rows, run.row_index, run.fold.part());
-        begin_run(rows, buckets, time, value, others)
+        run = begin_run(rows, buckets, point.0, point.1, after.len() as u64 + others);
+        points = after;
     }
 }
 
-/// Adds points to a run and to the runs after it, and merges each run into its row.
+/// Adds points to a run and to the runs after it, and merges each run into its row. Points are decoded into `room`.
 fn continue_run<F: Fold>(
     rows: &mut [Agg],
     buckets: &mut BucketCursor,
     run: BucketRun<F>,
     points: Points<'_>,
+    room: &mut [(Time, i64)],
 )
-    requires { IsRun buckets.old rows.old (length points) run.low run.high run.row_index (F.folded run.fold) }
+    requires room { 0 < length room.old }
+    requires run { IsRun buckets.old rows.old (length points) run.low run.high run.row_index (F.folded run.fold) }
     ensures value { rows.new ≡ with_point_parts F.parts buckets.old points.entry (with_part run.row_index (F.folded run.fold) rows.old) }
     ensures same { buckets.new ≡ buckets.old }
 {
@@ -179,10 +212,12 @@ fn continue_run<F: Fold>(
     let mut points = points;
     loop {
         run.fold = with_blocks(run.fold, run.low, run.high, &mut points);
-        let Some((time, value)) = points.next() else {
+        let all = points.len();
+        let next = points.next_run(room);
+        if next.is_empty() {
             break;
-        };
-        run = add_point(rows, buckets, run, time, value, points.len() as u64);
+        }
+        run = extend_runs(rows, buckets, run, next, (all - next.len()) as u64);
     }
     add_part(rows, run.row_index, run.fold.part());
 }
@@ -200,6 +235,7 @@ pub(crate) fn add_runs<F: Fold>(
 {
     let mut points = points;
     if let Some(run) = first_run::<F>(rows, buckets, from, &mut points) {
-        continue_run(rows, buckets, run, points);
+        let mut room = [(Time::least(), 0); ROOM];
+        continue_run(rows, buckets, run, points, &mut room);
     }
 }
