@@ -102,6 +102,14 @@ value_first t (e ∷ es) rest r h =
     first None h = absurd (let s = ap length h.0 in omega arith)
     first (Some p) h = ap (λ (x : List (ℤ × ℤ)). Some (get_or x 0 p).1) h
 
+-- none is at a time after them all
+pub none_at : (t : ℤ) (es : List (ℤ × ℤ)) → AllByRecursion (λ (q : ℤ × ℤ). q.0 <ℤ t) es → find int_cmp t es ≡ None
+none_at t [] h = refl
+none_at t (e ∷ es) h =
+    let earlier : e.0 <ℤ t = h.0 in
+    let other : is_eq (int_cmp t e.0) ≡ false = grind (arith, ints) in
+    ap (λ b. cond b (Some e.1) (find int_cmp t es)) other ∙ none_at t es h.1
+
 -- ---- a rewritten block
 
 split_there : (ms : List BlockHandle) (at : ℕ) (d : BlockHandle) → at < length ms → ms ≡ take at ms ++ (get_or ms at d ∷ drop (at + 1) ms)

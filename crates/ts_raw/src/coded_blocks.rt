@@ -1,5 +1,6 @@
 //! Keeps the coded blocks of a column, with their bytes.
-ghost use Rattle.std.specs.Prelude.{◌≡◌, ◌+◌, ◌*◌, ◌≤◌, int_le, length, drop, filter};
+ghost use Rattle.std.specs.Prelude.{◌≡◌, ◌+◌, ◌*◌, ◌≤◌, ◌<ℤ◌, int_le, length, drop, filter, IsTrue};
+ghost use Rattle.std.specs.List.{AllByRecursion};
 ghost use Rattle.ts_core.specs.facts.Facts.{is_within};
 ghost use Rattle.ts_raw.specs.CodedBlocks.{AreNone, AreSoundBlocks, points_of_blocks};
 ghost use Rattle.ts_raw.specs.CodedPoints.{IsCoded, CutFits, coded_points, blocks_at};
@@ -11,6 +12,7 @@ use crate::coded::{count_of, position, walk};
 use crate::rewriting::remove_front;
 use crate::walk::BlockWalk;
 use std::alloc::Allocator;
+use ts_core::Time;
 
 /// Coded blocks: all their bytes, and a handle per block, in the order of time. No two blocks share bytes. They have
 /// `total` points; the first `cut` of them, all in the first block, were removed.
@@ -66,6 +68,18 @@ impl<A: Allocator> CodedBlocks<A> {
         ensures { result ≡ length (points_of_blocks self.now) }
     {
         self.total - self.cut
+    }
+
+    /// Returns true if all points are before a time.
+    #[inline]
+    pub(crate) fn end_before(&self, time: Time) -> bool
+        requires sound { AreSoundBlocks self.now }
+        ensures { IsTrue result → AllByRecursion (λ p. p.0 <ℤ time) (points_of_blocks self.now) }
+    {
+        match self.handles.last() {
+            Some(handle) => handle.last < time,
+            None => true,
+        }
     }
 
     /// Returns all points in the order of time.

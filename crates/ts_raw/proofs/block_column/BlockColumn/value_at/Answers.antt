@@ -2,7 +2,7 @@ use Rattle.std.proofs.Common.{rules, ◌≡◌, ◌+ℤ◌, ℤ, pos, List, [], 
 use Rattle.std.specs.FinMap as map
 use Rattle.std.specs.FinMap.{get-entries}
 use Rattle.ts_core.specs.facts.Facts.{is_within}
-use Rattle.ts_raw.proofs.ColumnBlocks.{value_first}
+use Rattle.ts_raw.proofs.ColumnBlocks.{none_at, value_first}
 use Rattle.ts_raw.proofs.block_column.BlockColumn.value_at.Given.{Over}
 use Rattle.ts_raw.proofs.block_column.BlockColumn.value_at.Goals.{After-step}
 use Rattle.ts_raw.proofs.block_column.BlockColumn.value_at.Goals as goal
@@ -16,6 +16,11 @@ there g c =
     ∙ (λ i. filter (λ (p : ℤ × ℤ). is_within (to_z-of_z from_fits i) (to_z w64 (of_z w64 (to_z-of_z from_fits i +ℤ pos 1))) p.0) points)
     ∙ (λ i. filter (λ (p : ℤ × ℤ). is_within c.nanos-nanos.result (to_z-of_z to_fits i) p.0) points)
     ∙ ap (λ z. filter (λ (p : ℤ × ℤ). is_within z (z +ℤ pos 1) p.0) points) c.nanos-nanos.ensures.value
+
+pub returns-then-ends_before : goal.returns-then-ends_before
+returns-then-ends_before g c =
+    let points : List (ℤ × ℤ) = map.entries c.args.self.now.points in
+    sym (get-entries c.args.self.now.points c.args.time ∙ none_at c.args.time points (c.ends_before.ensures c.if-ends_before.true))
 
 pub returns-in_err-value : goal.returns-in_err-value
 returns-in_err-value g c =
