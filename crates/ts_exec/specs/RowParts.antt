@@ -52,8 +52,8 @@ part_of_point Whole t v = aggregate_of_one t v
 -- the parts that are kept of the aggregate of some points; the others are the same for all points
 abbrev pub part_of : AggregateParts → Aggregate → Aggregate
 part_of CountAlone a = count_part a.count
-part_of CountAndSum a = record { count = a.count; sum = a.sum; extremes = Some wide_extremes }
-part_of Bounds a = record { count = a.count; sum = a.sum; extremes = option_map bounds_of a.extremes }
+part_of CountAndSum a = record a { extremes = Some wide_extremes }
+part_of Bounds a = record a { extremes = option_map bounds_of a.extremes }
 part_of Whole a = a
 
 -- a part into which points are merged, one by one

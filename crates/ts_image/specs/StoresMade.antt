@@ -47,30 +47,16 @@ waits_in [] = []
 waits_in (s ∷ ss) = map is_column_waiting s.columns ++ waits_in ss
 
 abbrev pub with_image_columns : Series → List ImageColumn → Built → Built
-with_image_columns s cs b = record {
-  settings = b.settings;
-  marks = b.marks;
-  running = b.running;
-  accepted = b.accepted;
-  series = b.series;
-  columns = b.columns ++ map (image_points_in s) cs;
-  waits = b.waits ++ map is_column_waiting cs;
-  cells = b.cells;
-}
+with_image_columns s cs b = record b { columns = b.columns ++ map (image_points_in s) cs; waits = b.waits ++ map is_column_waiting cs }
 
 abbrev pub key_in : ImageSeries → Series
 key_in s = s.series
 
 abbrev pub with_all_series : List ImageSeries → Built → Built
-with_all_series ss b = record {
-  settings = b.settings;
-  marks = b.marks;
-  running = b.running;
-  accepted = b.accepted;
+with_all_series ss b = record b {
   series = b.series ++ map key_in ss;
   columns = b.columns ++ columns_of_image ss;
   waits = b.waits ++ waits_in ss;
-  cells = b.cells;
 }
 
 -- the parts of a stored cell
@@ -89,16 +75,7 @@ abbrev pub cells_in : List ImageCell → CellMap
 cells_in cs = with_image_cells cs finmap.empty
 
 abbrev pub with_cells_at : ℕ → List ImageCell → Built → Built
-with_cells_at rule cs b = record {
-  settings = b.settings;
-  marks = b.marks;
-  running = b.running;
-  accepted = b.accepted;
-  series = b.series;
-  columns = b.columns;
-  waits = b.waits;
-  cells = set b.cells rule (with_image_cells cs (cell_map_at b.cells rule));
-}
+with_cells_at rule cs b = record b { cells = set b.cells rule (with_image_cells cs (cell_map_at b.cells rule)) }
 
 -- each map with the cells of an image
 abbrev pub with_each : List (List ImageCell) → List CellMap → List CellMap
@@ -107,16 +84,7 @@ with_each (c ∷ cs) [] = []
 with_each (c ∷ cs) (m ∷ ms) = with_image_cells c m ∷ with_each cs ms
 
 abbrev pub with_all_cells : List (List ImageCell) → Built → Built
-with_all_cells cs b = record {
-  settings = b.settings;
-  marks = b.marks;
-  running = b.running;
-  accepted = b.accepted;
-  series = b.series;
-  columns = b.columns;
-  waits = b.waits;
-  cells = with_each cs b.cells;
-}
+with_all_cells cs b = record b { cells = with_each cs b.cells }
 
 -- all parts of an image
 abbrev pub built_in : ImageData → Built

@@ -52,14 +52,9 @@ kept_points c mark s = if same_column s.column c then record { column = s.column
 
 -- moves the first waiting column
 abbrev pub column_moved : Column → List (ℤ × ℤ) → List Column → StoreData → StoreData
-column_moved c ps rest k = record {
-  settings = k.settings;
-  marks = k.marks;
-  running = k.running;
+column_moved c ps rest k = record k {
   waiting = rest;
-  series = k.series;
   columns = map (kept_points c k.marks.raw) k.columns;
-  accepted = k.accepted;
   cells = all_moved k.settings.rules c (points_below k.marks.raw ps) (facts_of (map (kept_points c k.marks.raw) k.columns)) k.cells;
 }
 
@@ -71,15 +66,10 @@ raised now (r ∷ rs) [] = []
 raised now (r ∷ rs) (low ∷ lows) = int_max low (index_of r (kept_since r.duration now)) ∷ raised now rs lows
 
 abbrev pub run_begun : ℤ → StoreData → StoreData
-run_begun now k = record {
-  settings = k.settings;
+run_begun now k = record k {
   marks = record { raw = int_max k.marks.raw (kept_since k.settings.raw_duration now); lows = raised now k.settings.rules k.marks.lows };
   running = true;
   waiting = map column_of k.columns;
-  series = k.series;
-  columns = k.columns;
-  accepted = k.accepted;
-  cells = k.cells;
 }
 
 -- ---- cells below the low indices are removed
@@ -99,28 +89,10 @@ AreOf (m ∷ ms) [] = ⊥
 AreOf (m ∷ ms) (n ∷ ns) = ((k : Cell) (p : CellParts) → finmap.get n k ≡ Some p → finmap.get m k ≡ Some p) × AreOf ms ns
 
 abbrev pub with_cells : List CellMap → StoreData → StoreData
-with_cells ms k = record {
-  settings = k.settings;
-  marks = k.marks;
-  running = k.running;
-  waiting = k.waiting;
-  series = k.series;
-  columns = k.columns;
-  accepted = k.accepted;
-  cells = ms;
-}
+with_cells ms k = record k { cells = ms }
 
 abbrev pub run_ended : StoreData → StoreData
-run_ended k = record {
-  settings = k.settings;
-  marks = k.marks;
-  running = false;
-  waiting = k.waiting;
-  series = k.series;
-  columns = k.columns;
-  accepted = k.accepted;
-  cells = k.cells;
-}
+run_ended k = record k { running = false }
 
 -- ---- series, columns and cells are created, and facts are inserted
 
@@ -142,16 +114,7 @@ GainEmptyCells (r ∷ rs) (low ∷ lows) facts (m ∷ ms) (n ∷ ns) = GainsEmpt
 
 -- more series, columns and cells, but no more facts
 abbrev pub grown : List Series → List ColumnPoints → List CellMap → StoreData → StoreData
-grown series columns ms k = record {
-  settings = k.settings;
-  marks = k.marks;
-  running = k.running;
-  waiting = k.waiting;
-  series = series;
-  columns = columns;
-  accepted = k.accepted;
-  cells = ms;
-}
+grown series columns ms k = record k { series = series; columns = columns; cells = ms }
 
 -- inserts a fact, replacing the one with its id; nothing else changes
 pub record Puts (before after : List Fact) (f : Fact) : Type 0 where
@@ -180,13 +143,4 @@ PutsFacts rs before ms after ns [] = (after ≡ before) × (ns ≡ ms)
 PutsFacts rs before ms after ns (f ∷ fs) = (between : List ColumnPoints) × PutsFact before between f × PutsFacts rs between (put_cells rs f (facts_of between) ms) after ns fs
 
 abbrev pub put_facts : List ColumnPoints → List CellMap → ℕ → StoreData → StoreData
-put_facts columns ms n k = record {
-  settings = k.settings;
-  marks = k.marks;
-  running = k.running;
-  waiting = k.waiting;
-  series = k.series;
-  columns = columns;
-  accepted = k.accepted + n;
-  cells = ms;
-}
+put_facts columns ms n k = record k { columns = columns; accepted = k.accepted + n; cells = ms }

@@ -64,7 +64,7 @@ is_faultless (Some fault) = false
 
 -- the piece p, extended to the end of b
 abbrev pub extended : Piece → Piece → Piece
-extended p b = record { source = p.source; from = p.from; to = b.to }
+extended p b = record p { to = b.to }
 
 -- from left to right: the next bucket of the same rule extends the piece as long as the result is valid
 abbrev pub merged_onto : QueryContext → Piece → List Piece → List Piece

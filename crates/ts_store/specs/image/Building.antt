@@ -47,28 +47,10 @@ new_built settings marks accepted running = record {
 -- ---- parts are appended
 
 abbrev pub with_built_series : Series → Built → Built
-with_built_series s b = record {
-  settings = b.settings;
-  marks = b.marks;
-  running = b.running;
-  accepted = b.accepted;
-  series = b.series ++ s ∷ [];
-  columns = b.columns;
-  waits = b.waits;
-  cells = b.cells;
-}
+with_built_series s b = record b { series = b.series ++ s ∷ [] }
 
 abbrev pub with_built_column : ColumnPoints → Bool → Built → Built
-with_built_column c waits b = record {
-  settings = b.settings;
-  marks = b.marks;
-  running = b.running;
-  accepted = b.accepted;
-  series = b.series;
-  columns = b.columns ++ c ∷ [];
-  waits = b.waits ++ waits ∷ [];
-  cells = b.cells;
-}
+with_built_column c waits b = record b { columns = b.columns ++ c ∷ []; waits = b.waits ++ waits ∷ [] }
 
 -- the cells of the rule with this index
 abbrev pub cell_map_at : List CellMap → ℕ → CellMap

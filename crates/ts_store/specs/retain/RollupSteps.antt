@@ -18,7 +18,7 @@ with_all_grid_cells [] (s ∷ ss) = s ∷ ss
 with_all_grid_cells (m ∷ ms) (s ∷ ss) = with_grid_cells m s ∷ with_all_grid_cells ms ss
 
 abbrev pub content_with_cells : List CellMap → StoreContent → StoreContent
-content_with_cells ms held = record { series = held.series; columns = held.columns; rollups = with_all_grid_cells ms held.rollups }
+content_with_cells ms held = record held { rollups = with_all_grid_cells ms held.rollups }
 
 -- ---- a column is moved
 
@@ -43,8 +43,7 @@ FreezeFit (r ∷ rs) c ps (m ∷ ms) = FreezesFit r c ps m × FreezeFit rs c ps 
 -- the points of a column below a mark are frozen under each rule and removed; the live parts of their cells are folded
 -- from the remaining points
 abbrev pub content_moved : List Rule → ColumnPoints → ℤ → StoreContent → StoreContent
-content_moved rs s mark held = record {
-  series = held.series;
+content_moved rs s mark held = record held {
   columns = map (kept_points s.column mark) held.columns;
   rollups = with_all_grid_cells (all_moved rs s.column (points_below mark s.points) (facts_of (map (kept_points s.column mark) held.columns)) (cells_of held.rollups)) held.rollups;
 }

@@ -131,13 +131,13 @@ joined_rollup_series rollup_series (Some o) = rollup_series ++ o ∷ []
 
 -- the column is created: it gets its prepared rollup series
 abbrev pub with_next : RollupState → RollupState
-with_next s = record { grid = s.grid; series_of_column = joined_rollup_series s.series_of_column s.next; next = None }
+with_next s = record s { series_of_column = joined_rollup_series s.series_of_column s.next; next = None }
 
 -- ---- cells
 
 -- replaces the cells; the rollup series stay
 abbrev pub with_grid_cells : CellMap → RollupState → RollupState
-with_grid_cells m s = record { grid = record { rollup_series = s.grid.rollup_series; cells = m }; series_of_column = s.series_of_column; next = s.next }
+with_grid_cells m s = record s { grid = record s.grid { cells = m } }
 
 -- creates the cell of a bucket in a rollup series unless it exists; does nothing without a rollup series
 abbrev pub cell_created_in : RollupState → Option ℕ → ℤ → CellMap

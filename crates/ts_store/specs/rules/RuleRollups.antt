@@ -26,8 +26,8 @@ pub record IsRollupOf (held : StoreContent) (r : Rule) (low : ℤ) (s : RollupSt
 
 -- the rollup of one more rule
 abbrev pub with_rollup : RollupState → StoreContent → StoreContent
-with_rollup s held = record { series = held.series; columns = held.columns; rollups = held.rollups ++ s ∷ [] }
+with_rollup s held = record held { rollups = held.rollups ++ s ∷ [] }
 
 -- without that of the rule with this index
 abbrev pub without_rollup : ℕ → StoreContent → StoreContent
-without_rollup n held = record { series = held.series; columns = held.columns; rollups = remove held.rollups n }
+without_rollup n held = record held { rollups = remove held.rollups n }

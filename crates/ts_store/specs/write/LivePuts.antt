@@ -21,7 +21,7 @@ pub record IsOver (r : Rule) (cs : List Column) (states : List ColumnState) (s :
 -- the id of the fact had this value, or none
 abbrev pub WasThere : List ColumnPoints → Fact → Option ℤ → Type 0
 WasThere before f None = (g : Fact) → Among g (facts_of before) → same_id (id_of g) (id_of f) ≡ false
-WasThere before f (Some v) = IsOldOf before f (record { column = f.column; time = f.time; value = v })
+WasThere before f (Some v) = IsOldOf before f (record f { value = v })
 
 -- the fact was inserted into the column with this index, whose value there was this, or none
 pub record IsLivePut (cs : List Column) (states : List ColumnState) (before : List ColumnPoints) (n : ℕ) (f : Fact) (old : Option ℤ) : Type 0 where
