@@ -59,7 +59,7 @@ fn sorted_by_group<'a, A: Allocator + Copy>(
         sorted.push((sort_key(values), values, number))?;
         from = *end;
     }
-    sorted.sort()?;
+    sorted.sort_unstable();
     let mut numbers = Vec::with_capacity(alloc, sorted.len())?;
     for (_, _, number) in &sorted {
         numbers.push(*number)?;
