@@ -93,30 +93,8 @@ fn update_cells<A: Allocator + Copy>(
     }
 }
 
-/// Commits the staged point of a column, which has this time and value, and corrects the cells of the rules.
-fn commit_rolled<A: Allocator + Copy>(
-    columns: &mut Vec<StoredColumn<A>, A>,
-    rules: &[Rule<A>],
-    rollups: &mut [Rollup<A>],
-    column: ColumnId,
-    time: Time,
-    value: i64,
-)
-    requires intervals { AllByRecursion (λ r. pos 1 ≤ℤ r.interval) rules.now }
-    requires ready { AreReady columns.old.items (column ∷ []) }
-    requires each { AllByRecursion (λ s. length s.series_of_column ≡ length columns.old.items) rollups.old }
-    requires few { number_of_points columns.old.items + 1 ≤ 2 ^ 62 }
-    ensures columns { columns.new.items ≡ set columns.old.items column (committed (get_or columns.old.items column no_column)) }
-    ensures kept { rollups.new ≡ with_all_grid_cells (cells_of rollups.new) rollups.old }
-    ensures cells { (cs : List Column) (f : Fact) → f.time ≡ time → f.value ≡ value → length columns.old.items ≡ length cs → AllDistinct cs → AreRollups rules.now cs rollups.old → AreStaged cs columns.old.items (column ∷ []) (f ∷ []) → AreLive (with_points cs (point_maps columns.old.items)) rules.now (cells_of rollups.old) → cells_of rollups.new ≡ put_cells rules.now f (facts_of (with_points cs (point_maps columns.new.items))) (cells_of rollups.old) }
-{
-    let old = columns[column.number()].value_at(time);
-    columns[column.number()].commit();
-    update_cells(rules, rollups, columns.as_slice(), column, time, value, old);
-}
-
-/// Commits the staged point of a column, which has this time and value. Searches for the value that it replaces only if
-/// a rule rolls the column up.
+/// Commits the staged point of a column, which has this time and value, and corrects the cells of the rules. Searches
+/// for the value that it replaces only if a rule rolls the column up.
 fn commit_point<A: Allocator + Copy>(
     columns: &mut Vec<StoredColumn<A>, A>,
     rules: &[Rule<A>],
@@ -133,11 +111,14 @@ fn commit_point<A: Allocator + Copy>(
     ensures kept { rollups.new ≡ with_all_grid_cells (cells_of rollups.new) rollups.old }
     ensures cells { (cs : List Column) (f : Fact) → f.time ≡ time → f.value ≡ value → length columns.old.items ≡ length cs → AllDistinct cs → AreRollups rules.now cs rollups.old → AreStaged cs columns.old.items (column ∷ []) (f ∷ []) → AreLive (with_points cs (point_maps columns.old.items)) rules.now (cells_of rollups.old) → cells_of rollups.new ≡ put_cells rules.now f (facts_of (with_points cs (point_maps columns.new.items))) (cells_of rollups.old) }
 {
-    if is_rolled(rollups, column.number()) {
-        commit_rolled(columns, rules, rollups, column, time, value);
-    } else {
-        columns[column.number()].commit();
+    let at = column.number();
+    if !is_rolled(rollups, at) {
+        columns[at].commit();
+        return;
     }
+    let old = columns[at].value_at(time);
+    columns[at].commit();
+    update_cells(rules, rollups, columns.as_slice(), column, time, value, old);
 }
 
 /// Commits the staged points of the columns with these ids: points of this time with the values of fields. Does not
