@@ -8,7 +8,7 @@ use Rattle.std.proofs.lemmas.Bool.Decides.{nat_tests}
 use Rattle.ts_core.specs.facts.Facts.{Text}
 use Rattle.ts_line.specs.declared.scan.Stops.{Stops}
 use Rattle.ts_line.specs.Scan.{is_backslash, is_stop}
-use Rattle.ts_line.specs.PartTexts.{begins_escapable, unescaped}
+use Rattle.ts_line.specs.PartTexts.{begins_escapable, unescaped, piece_at, plain_piece}
 use Rattle.ts_core.proofs.lists.ListSteps.{slice_step}
 
 abbrev pub is_escape_at : Stops → Text → ℕ → Bool
@@ -41,6 +41,9 @@ plain_text stops [] e = refl
 plain_text stops (b ∷ bs) e =
     let p = or_parts (is_stop stops b) (list_any (is_stop stops) bs) e in
     rw (no_escape stops bs p.1, and-false (is_backslash b)) (ap (λ (xs : Text). b ∷ xs) (plain_text stops bs p.1))
+
+pub plain_is : (stops : Stops) (line : Text) (start end : ℕ) → list_any (is_stop stops) (slice_range line start end) ≡ false → piece_at stops line start end ≡ plain_piece line start end
+plain_is stops line start end e = ap (λ (t : Text). record { start = start; raw = slice_range line start end; text = t }) (plain_text stops (slice_range line start end) e)
 
 -- ---- the text so far, the bytes that are passed and not yet in it, and the rest
 

@@ -16,6 +16,9 @@ was_read put (Err fault) y end e = absurd cc
 pub put_read : {X Y : Type 0} (put : X → Y) (q : Result (X × ℕ) LineFault) (x : X) (end : ℕ) → q ≡ Ok (x, end) → put_by put q ≡ Ok (put x, end)
 put_read put q x end e = rw e refl
 
+pub put_fails : {X Y : Type 0} (put : X → Y) (q : Result (X × ℕ) LineFault) (f : LineFault) → q ≡ Err f → put_by put q ≡ Err f
+put_fails put q f e = rw e refl
+
 fault_is : {X Y : Type 0} (put : X → Y) (q : Result (X × ℕ) LineFault) (f : LineFault) → put_by put q ≡ Err f → q ≡ Err f
 fault_is put (Ok read) f e = absurd cc
 fault_is put (Err g) f e = let is : g ≡ f = cc in ap Err is

@@ -1,5 +1,6 @@
--- Steps of the loop over tags.
-use Rattle.std.proofs.Common.{◌≡◌, ℕ, suc, ◌+◌, ◌-◌, ◌≤◌, false, eqb, List, [], ◌∷◌, ◌++◌, slice_index, Result, Ok, Err, refl, sym, ◌∙◌, arith}
+-- Tags without escapes, and steps of the loop over tags.
+use Rattle.std.proofs.Common.{◌≡◌, ℕ, suc, ◌+◌, ◌-◌, ◌≤◌, false, eqb, List, [], ◌∷◌, ◌++◌, slice_index, slice_range, Result, Ok, Err, refl, sym, ap, ◌∙◌, arith}
+use Rattle.std.specs.List.{list_any}
 use Rattle.std.proofs.lemmas.Bool.Decides.{nat_tests}
 use Rattle.ts_line.specs.declared.fault.LineFault.{LineFault}
 use Rattle.ts_core.specs.facts.Facts.{Text}
@@ -7,7 +8,18 @@ use Rattle.ts_line.specs.Parts.{LinePart}
 use Rattle.ts_line.specs.declared.fault.ReadLineError.{ReadLineError}
 use Rattle.ts_line.specs.declared.fault.ReadLineError.TheVariants as errors
 use Rattle.ts_line.specs.ReadSteps.{FailsIfMemory}
-use Rattle.ts_line.specs.TagParts.{next_tag, tags_at}
+use Rattle.ts_line.specs.declared.scan.Stops.TheVariants.{Equals}
+use Rattle.ts_line.specs.Scan.{is_stop}
+use Rattle.ts_line.specs.PartTexts.{piece_at, plain_piece}
+use Rattle.ts_line.specs.TagParts.{pair_at, next_tag, tags_at}
+use Rattle.ts_line.proofs.PieceLemmas.{plain_is}
+
+pub plain_pair : (line : Text) (start key_end end : ℕ) → pair_at line start ≡ Ok ((piece_at Equals line start key_end, piece_at Equals line (key_end + 1) end), end)
+    → list_any (is_stop Equals) (slice_range line start key_end) ≡ false → list_any (is_stop Equals) (slice_range line (key_end + 1) end) ≡ false
+    → pair_at line start ≡ Ok ((plain_piece line start key_end, plain_piece line (key_end + 1) end), end)
+plain_pair line start key_end end read key value =
+    read ∙ ap (λ (p : LinePart). Ok ((p, piece_at Equals line (key_end + 1) end), end)) (plain_is Equals line start key_end key)
+    ∙ ap (λ (p : LinePart). Ok ((plain_piece line start key_end, p), end)) (plain_is Equals line (key_end + 1) end value)
 
 pub tag_taken : (n : ℕ) (before : List (LinePart × LinePart)) (line : Text) (at : ℕ) (t : LinePart × LinePart) (end : ℕ) (total : Result (List (LinePart × LinePart) × ℕ) LineFault) → n ≤ 64 → slice_index line at ≡ 44
     → next_tag before line (at + 1) ≡ Ok (t, end) → tags_at (65 - n) before line at ≡ total → tags_at (65 - (n + 1)) (before ++ t ∷ []) line end ≡ total

@@ -1,6 +1,8 @@
 //! Parses the fields of a line: 1 to 256. A repeated name takes its last value.
-ghost use Rattle.std.specs.Prelude.{◌≡◌, ◌<◌, length, [], IfOk, IfSome, OnOk};
+ghost use Rattle.std.specs.Prelude.{◌≡◌, ◌<◌, length, [], IfOk, IfSome, OnOk, Ok};
 ghost use Rattle.std.specs.Str.{IsCharBoundary};
+ghost use Rattle.ts_core.specs.text.Cursors.{IsOffsetFrom};
+ghost use Rattle.ts_line.specs.PartTexts.{plain_piece};
 ghost use Rattle.ts_line.specs.ReadSteps.{GivesIfMemory};
 ghost use Rattle.ts_line.specs.NameFilters.{AreInFilter};
 ghost use Rattle.ts_line.specs.Fields.{next_field, offset_from, with_field, fields_at};
@@ -8,7 +10,7 @@ ghost use Rattle.ts_line.specs.StepsPut.{InsertsNextField};
 ghost use Rattle.ts_line.specs.Values.{value_begun_at};
 
 use crate::fault::{LineFault, LineFaultKind, ReadLineError};
-use crate::line::Field;
+use crate::line::{Field, Part};
 use crate::name_filter::NameFilter;
 use crate::part::part_at;
 use crate::scan::{Stops, end_at};
@@ -74,6 +76,7 @@ fn index_of<A: Allocator>(fields: &[Field<'_, A>], name: &str) -> Option<usize>
 }
 
 /// Appends a field, or replaces the value of the field with its name.
+#[inline(never)]
 fn insert<'a, A: Allocator>(
     fields: &mut Vec<Field<'a, A>, A>,
     field: Field<'a, A>,
@@ -90,9 +93,29 @@ fn insert<'a, A: Allocator>(
     Ok(())
 }
 
-/// Parses the field at `start`, inserts it into `fields` and returns the offset after it. The filter is over the names
-/// so far.
-fn insert_next<'a, A: Allocator + Copy>(
+/// Inserts a field into the fields whose names the filter has.
+#[inline(always)]
+fn insert_filtered<'a, A: Allocator>(
+    fields: &mut Vec<Field<'a, A>, A>,
+    filter: &mut NameFilter,
+    next: Field<'a, A>,
+) -> Result<(), AllocError>
+    requires { AreInFilter filter.old fields.old.items }
+    ensures value { OnOk result (fields.new.items ≡ with_field fields.old.items next.entry) }
+    ensures marked { OnOk result (AreInFilter filter.new fields.new.items) }
+{
+    if filter.insert(next.name().text()) {
+        insert(fields, next)?;
+    } else {
+        fields.push(next)?;
+    }
+    Ok(())
+}
+
+/// Parses the field at `start`, whatever its form, and inserts it as `insert_next` does.
+#[cold]
+#[inline(never)]
+fn insert_any<'a, A: Allocator + Copy>(
     alloc: A,
     fields: &mut Vec<Field<'a, A>, A>,
     filter: &mut NameFilter,
@@ -104,11 +127,49 @@ fn insert_next<'a, A: Allocator + Copy>(
     ensures { InsertsNextField fields.old.items fields.new.items filter.new line.now start result }
 {
     let (field, end) = next(alloc, line, start)?;
-    if filter.insert(field.name().text()) {
-        insert(fields, field)?;
-    } else {
-        fields.push(field)?;
+    insert_filtered(fields, filter, field)?;
+    Ok(end)
+}
+
+/// Parses the field at `start` if it is plain, as most fields are: its name has no escape, its value is a short
+/// integer. Returns the offset after its name, and its value with the offset after it.
+#[inline(always)]
+fn plain_field(line: &str, start: usize) -> Option<(usize, (i64, usize))>
+    requires { IsCharBoundary line.now start }
+    ensures value { IfSome result (λ x. next_field line.now start ≡ Ok ((plain_piece line.now start x.0, x.1.0), x.1.1)) }
+    ensures name { IfSome result (λ x. IsOffsetFrom line.now start x.0) }
+    ensures boundary { IfSome result (λ x. IsCharBoundary line.now x.1.1) }
+{
+    let name_end = end_at(line, start, Stops::Equals);
+    if name_end.at == start || byte_at(line, name_end.at) != b'=' || name_end.has_escape {
+        return None;
     }
+    if &line[start..name_end.at] == "time" {
+        return None;
+    }
+    let read = short_integer(line, after(line, name_end.at))?;
+    Some((name_end.at, read))
+}
+
+/// Parses the field at `start`, inserts it into `fields` and returns the offset after it. The filter is over the names
+/// so far.
+#[inline(always)]
+fn insert_next<'a, A: Allocator + Copy>(
+    alloc: A,
+    fields: &mut Vec<Field<'a, A>, A>,
+    filter: &mut NameFilter,
+    line: &'a str,
+    start: usize,
+) -> Result<usize, ReadLineError>
+    requires boundary { IsCharBoundary line.now start }
+    requires marked { AreInFilter filter.old fields.old.items }
+    ensures { InsertsNextField fields.old.items fields.new.items filter.new line.now start result }
+{
+    let Some((name_end, (value, end))) = plain_field(line, start) else {
+        return insert_any(alloc, fields, filter, line, start);
+    };
+    let name = Part::plain(start, &line[start..name_end]);
+    insert_filtered(fields, filter, Field::new(name, value))?;
     Ok(end)
 }
 

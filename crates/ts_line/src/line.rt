@@ -45,6 +45,17 @@ impl<'a, A: Allocator> Part<'a, A> {
         Part { start, raw, text }
     }
 
+    /// Creates a part without an escape from its byte offset and its bytes in the line.
+    pub(crate) fn plain(start: usize, raw: &'a str) -> Self
+        ensures { result ≡ record { start = start; raw = raw.now; text = raw.now } }
+    {
+        Part {
+            start,
+            raw,
+            text: CowStr::Borrowed(raw),
+        }
+    }
+
     /// Returns the byte offset of the part in the line.
     pub fn start(&self) -> usize
         ensures { result ≡ self.now.start }

@@ -91,6 +91,7 @@ fn escaped_end_at(line: &str, from: usize, stops: Stops) -> End
 }
 
 /// Returns the end of the part that begins at `from`.
+#[inline(always)]
 #[tactic(auto, using(crate::proofs::ScanLemmas::stop_ascii, crate::proofs::ScanLemmas::bare_end, crate::proofs::ScanLemmas::part_len_end), unfolding(crate::specs::Scan::end_of))]
 pub fn end_at(line: &str, from: usize, stops: Stops) -> End
     requires { from ≤ length line.now }

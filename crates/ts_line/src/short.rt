@@ -1,4 +1,5 @@
 //! One-pass parsers for short numbers.
+ghost use Rattle.std.specs.Char.{is_ascii_digit, digit_value};
 ghost use Rattle.std.specs.Prelude.{◌≡◌, ◌≤◌, ◌<◌, length, slice_range, true, Ok, Some, IfSome, ℕ};
 ghost use Rattle.ts_core.specs.text.Cursors.{IsOffsetFrom};
 ghost use Rattle.ts_line.specs.Digits.{AreDigits, IsShortInteger};
@@ -11,7 +12,17 @@ use ts_core::{after, byte_at};
 /// Number of digits that always fit in a `u64`.
 const DIGIT_LIMIT: usize = 19;
 
-/// Parses up to 19 digits at `from`; returns their value and the offset after them.
+/// Returns the value of a digit, or a number over 9 for another byte.
+fn digit_of(byte: u8) -> u64
+    ensures digit { result ≤ 9 → is_ascii_digit byte ≡ true }
+    ensures value { result ≤ 9 → result ≡ digit_value byte }
+{
+    u64::from(byte).wrapping_sub(u64::from(b'0'))
+}
+
+/// Parses up to 19 digits at `from`; returns their value and the offset after them. It stays a function of its own,
+/// whose loop keeps its variables in registers.
+#[inline(never)]
 fn digits_at(line: &str, from: usize) -> (u64, usize)
     requires { from ≤ length line.now }
     ensures digits { AreDigits line.now from result.1 result.0 }
@@ -22,10 +33,11 @@ fn digits_at(line: &str, from: usize) -> (u64, usize)
     let mut at = from;
     let mut number = 0;
     while at < last {
-        let Some(digit) = char::from(bytes[at]).to_digit(10) else {
+        let digit = digit_of(bytes[at]);
+        if digit > 9 {
             break;
-        };
-        number = number * 10 + u64::from(digit);
+        }
+        number = number * 10 + digit;
         at += 1;
     }
     (number, at)
@@ -33,6 +45,7 @@ fn digits_at(line: &str, from: usize) -> (u64, usize)
 
 /// Parses an unsigned integer such as `42i` at `first`; returns its value and the offset of the `i`. Returns `None` for
 /// more than 19 digits, for a value over 63 bits and for anything else.
+#[inline(always)]
 fn unsigned_integer(line: &str, first: usize) -> Option<(i64, usize)>
     requires { first ≤ length line.now }
     ensures { IfSome result (λ x. IsShortInteger line.now first x.1 x.0) }
@@ -50,6 +63,7 @@ fn unsigned_integer(line: &str, first: usize) -> Option<(i64, usize)>
 
 /// Parses an integer value such as `-42i` at `at`; returns it and the offset after the `i`. Returns `None` for more
 /// than 19 digits and for anything else.
+#[inline(always)]
 pub(crate) fn short_integer(line: &str, at: usize) -> Option<(i64, usize)>
     requires { at ≤ length line.now }
     ensures value { IfSome result (λ x. (start : ℕ) → value_begun_at start line.now at ≡ Ok x) }
