@@ -11,6 +11,7 @@ pub mod BatchesLeft
 pub mod CountsMoved
 -- RollupSteps: the steps of a run
 pub mod Refolds
+pub mod BucketsMoved
 pub mod MarkReached
 -- Freezing: times within bounds
 pub mod TimeBounds

@@ -47,7 +47,7 @@ changed-empty m q =
     ] refl)
 
 -- one part after another, where they fit
-changed-twice : (m : CellMap) (q : Cell) (part one : Aggregate) → frozen_count m q + part.count + one.count ≤ 2 ^ 62
+pub changed-twice : (m : CellMap) (q : Cell) (part one : Aggregate) → frozen_count m q + part.count + one.count ≤ 2 ^ 62
     → changed (changed m q (in_frozen (merged_within part))) q (in_frozen (merged_within one)) ≡ changed m q (in_frozen (merged_within (merged part one)))
 changed-twice m q part one few =
     let both : Aggregate = merged part one in

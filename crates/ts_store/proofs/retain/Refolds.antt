@@ -33,7 +33,7 @@ use Rattle.ts_store.proofs.retain.RollupMoves.{columns_left}
 use Rattle.ts_store.proofs.write.CellsCreatedLemmas.{rollup_series_known}
 
 -- twice is once
-refolded-twice : (r : Rule) (q : Cell) (facts : List Fact) (m : CellMap) → refolded r q facts (refolded r q facts m) ≡ refolded r q facts m
+pub refolded-twice : (r : Rule) (q : Cell) (facts : List Fact) (m : CellMap) → refolded r q facts (refolded r q facts m) ≡ refolded r q facts m
 refolded-twice r q facts m =
     let f : CellParts → CellParts = with_live (total_of r q facts) in
     let n : CellMap = changed m q f in

@@ -36,7 +36,7 @@ passes : (b : Bool) (x part one t : Aggregate) → merged (merged x (cond b (mer
 passes true x part one t = ap (λ a. merged a t) (sym (aggregate_laws.assoc x part one)) ∙ aggregate_laws.assoc (merged x part) one t
 passes false x part one t = ap (merged (merged x empty_aggregate)) (sym (aggregate_laws.unit t))
 
-total-first : (r : Rule) (k : Cell) (f : Fact) (fs : List Fact) → total_of r k (f ∷ fs) ≡ merged (cond (is_in_cell r k f) (one_fact f) empty_aggregate) (total_of r k fs)
+pub total-first : (r : Rule) (k : Cell) (f : Fact) (fs : List Fact) → total_of r k (f ∷ fs) ≡ merged (cond (is_in_cell r k f) (one_fact f) empty_aggregate) (total_of r k fs)
 total-first r k f fs =
     elim (is_in_cell r k f) as (λ b. aggregate_of (cond b (f ∷ filter (is_in_cell r k) fs) (filter (is_in_cell r k) fs)) ≡ merged (cond b (one_fact f) empty_aggregate) (total_of r k fs)) [
       | true ↦ refl

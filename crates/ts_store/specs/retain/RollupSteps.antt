@@ -1,11 +1,15 @@
 -- The effect of a step of a run on the cells of rules: points of a column are frozen. (Own rules.)
-use Rattle.std.specs.Prelude.{ℕ, ℤ, ◌+◌, ◌^◌, ◌≤◌, List, [], ◌∷◌, filter, length, map}
+use Rattle.std.specs.Prelude.{◌≡◌, ℕ, ℤ, ◌+◌, ◌^◌, ◌≤◌, List, [], ◌∷◌, filter, length, map, Some}
+use Rattle.std.specs.FinMap as finmap
 use Rattle.ts_core.specs.facts.Facts.{Column, Fact}
 use Rattle.ts_core.specs.settings.Settings.{Rule}
-use Rattle.ts_core.specs.store.Cells.{Cell, is_in_cell}
-use Rattle.ts_core.specs.store.StoreStates.{ColumnPoints, fact_at, facts_of}
+use Rattle.ts_core.specs.aggregates.Aggregates.{Aggregate, merged_within}
+use Rattle.ts_core.specs.store.Cells.{Cell, is_in_cell, total_of}
+use Rattle.ts_core.specs.lists.Changes.{changed}
+use Rattle.ts_core.specs.store.TwoParts.{in_frozen}
+use Rattle.ts_core.specs.store.StoreStates.{ColumnPoints, CellParts, fact_at, facts_of}
 use Rattle.ts_core.specs.store.StoreData.{CellMap}
-use Rattle.ts_core.specs.moves.StoreMoves.{all_moved, points_below, kept_points}
+use Rattle.ts_core.specs.moves.StoreMoves.{refolded, all_moved, points_below, kept_points}
 use Rattle.ts_store.specs.store.CellCounts.{frozen_count}
 use Rattle.ts_raw.specs.Columns.{ColumnState}
 use Rattle.ts_store.specs.store.ColumnStates.{StoreContent, with_points, point_maps}
@@ -29,6 +33,14 @@ facts_left mark c cs states = facts_of (map (kept_points c mark) (with_points cs
 -- the number of points of a column that are in a cell of a rule
 abbrev pub points_in_cell : Rule → Column → Cell → List (ℤ × ℤ) → ℕ
 points_in_cell r c k ps = length (filter (λ (p : ℤ × ℤ). is_in_cell r k (fact_at c p)) ps)
+
+-- a part goes into the frozen part of a cell, and the live part is folded anew from these facts, if the cell exists
+abbrev pub bucket_moved : Rule → Cell → Aggregate → List Fact → CellMap → CellMap
+bucket_moved r k part facts m = refolded r k facts (changed m k (in_frozen (merged_within part)))
+
+-- the live part of the cell, if that exists, is the aggregate of those of these facts that are in it
+abbrev pub HasLive : Rule → Cell → List Fact → CellMap → Type 0
+HasLive r k facts m = (p : CellParts) → finmap.get m k ≡ Some p → p.live ≡ total_of r k facts
 
 -- each cell holds at most 2^62 facts, with these points
 abbrev pub FreezesFit : Rule → Column → List (ℤ × ℤ) → CellMap → Type 0

@@ -10,6 +10,7 @@ use Rattle.ts_store.specs.write.LivePuts.{IsOver}
 use Rattle.ts_store.specs.rollup.Rollups.{RollupState, rollup_series_at}
 use Rattle.ts_store.specs.retain.RollupSteps.{FreezesFit, facts_left}
 use Rattle.ts_store.proofs.retain.RollupMoves.{moved_rolled, moved_passed, one_of-points}
+use Rattle.ts_store.proofs.retain.BucketsMoved.{in_order}
 use Rattle.ts_store.proofs.write.CellsCreatedLemmas.{rollup_series_known}
 use Rattle.ts_store.proofs.retain.freezing.move_points.Goals as goal
 

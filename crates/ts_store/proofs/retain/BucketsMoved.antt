@@ -1,0 +1,251 @@
+-- Points of a column, moved from the live to the frozen parts of cells bucket by bucket: the same as point by point.
+use Rattle.std.proofs.Common.{◌≡◌, ℕ, ℤ, ◌+◌, ◌≤◌, ◌^◌, ◌<ℤ◌, ◌≤ℤ◌, ◌&&◌, Bool, true, false, cond, T, List, [], ◌∷◌, length, Option, Some, None, refl, sym, ◌∙◌, ap, ap₂, subst, arith, true≢false, int_lt, pos, Less}
+use Rattle.std.proofs.lemmas.Int.{ints}
+use Rattle.std.specs.Ordering.{int_cmp}
+use Rattle.std.specs.List.{AllByRecursion}
+use Rattle.std.specs.FinMap as finmap
+use Rattle.std.specs.FinMap.{same_map}
+use Rattle.std.specs.FinMap.Entries.{below_all}
+use Rattle.ts_core.specs.facts.Facts.{Column, Fact, same_text}
+use Rattle.ts_core.specs.settings.Settings.{Rule}
+use Rattle.ts_core.specs.store.Marks.{index_of}
+use Rattle.ts_core.specs.aggregates.Aggregates.{Aggregate, empty_aggregate, merged, aggregate_of_one, merged_within}
+use Rattle.ts_core.specs.aggregates.MergeLaws.{aggregate_laws}
+use Rattle.ts_core.specs.store.Cells.{Cell, same_cell, cell_of, is_in_cell, total_of}
+use Rattle.ts_core.specs.lists.Changes.{changed, or_else}
+use Rattle.ts_core.specs.store.TwoParts.{in_frozen, with_live}
+use Rattle.ts_core.specs.store.StoreStates.{CellParts, fact_at, facts_at}
+use Rattle.ts_core.specs.store.StoreData.{CellMap, no_parts}
+use Rattle.ts_core.specs.moves.StoreMoves.{frozen_points, refolded, refolded_points}
+use Rattle.ts_core.proofs.aggregates.BucketsOrder.{bucket_le}
+use Rattle.ts_core.proofs.lists.Places.{both_of, less_of}
+use Rattle.ts_core.proofs.moves.Freezing.{changed_here, changed_else, changed_none, changed_as}
+use Rattle.ts_core.proofs.plans.PieceCells.{cells_total, exact_cells, same_cell-eq, same_cell-refl}
+use Rattle.ts_cells.specs.Grids.{cell_at}
+use Rattle.ts_raw.specs.PlainColumns.{IsRising}
+use Rattle.ts_store.specs.store.CellCounts.{frozen_count}
+use Rattle.ts_store.specs.rollup.Rollups.{rollup_series_under}
+use Rattle.ts_store.specs.retain.RollupSteps.{points_in_cell, FreezesFit, bucket_moved, HasLive}
+use Rattle.ts_store.proofs.retain.PointsFrozen.{changed-twice, frozen_most, first_in}
+use Rattle.ts_store.proofs.retain.Refolds.{refolded-twice}
+use Rattle.ts_store.proofs.rollup.LivesFilled.{total-first}
+
+-- ---- changes of frozen and of live parts
+
+changed_some : (m : CellMap) (k x : Cell) (f : CellParts → CellParts) (a : CellParts) → finmap.get m x ≡ Some a → finmap.get (changed m k f) x ≡ Some (cond (same_cell x k) (f a) a)
+changed_some m k x f a e =
+    elim (same_cell x k) as (λ b. same_cell x k ≡ b → finmap.get (changed m k f) x ≡ Some (cond b (f a) a)) [
+      | true ↦ λ s. changed_here m k x f a s e
+      | false ↦ λ s. changed_else m k x f s ∙ e
+    ] refl
+
+both_orders : (f g : CellParts → CellParts) → ((a : CellParts) → f (g a) ≡ g (f a)) → (a : CellParts) (b d : Bool) → cond b (f (cond d (g a) a)) (cond d (g a) a) ≡ cond d (g (cond b (f a) a)) (cond b (f a) a)
+both_orders f g same a true true = same a
+both_orders f g same a true false = refl
+both_orders f g same a false true = refl
+both_orders f g same a false false = refl
+
+-- in any order
+changed_swap : (m : CellMap) (q k : Cell) (f g : CellParts → CellParts) → ((a : CellParts) → f (g a) ≡ g (f a)) → changed (changed m k g) q f ≡ changed (changed m q f) k g
+changed_swap m q k f g same =
+    same_map cells_total exact_cells (changed (changed m k g) q f) (changed (changed m q f) k g) (λ x.
+    elim (finmap.get m x) as (λ o. finmap.get m x ≡ o → finmap.get (changed (changed m k g) q f) x ≡ finmap.get (changed (changed m q f) k g) x) [
+      | None ↦ λ e. changed_none (changed m k g) q x f (changed_none m k x g e) ∙ sym (changed_none (changed m q f) k x g (changed_none m q x f e))
+      | Some a ↦ λ e.
+          changed_some (changed m k g) q x f (cond (same_cell x k) (g a) a) (changed_some m k x g a e)
+          ∙ ap Some (both_orders f g same a (same_cell x q) (same_cell x k))
+          ∙ sym (changed_some (changed m q f) k x g (cond (same_cell x q) (f a) a) (changed_some m q x f a e))
+    ] refl)
+
+-- ---- points in the order of their buckets
+
+-- no point is in a bucket before this one
+abbrev pub AreFrom : Rule → ℤ → List (ℤ × ℤ) → Type 0
+AreFrom r i ps = AllByRecursion (λ (p : ℤ × ℤ). i ≤ℤ index_of r p.0) ps
+
+-- none is in a bucket before that of an earlier one
+abbrev pub AreInOrder : Rule → List (ℤ × ℤ) → Type 0
+AreInOrder r [] = Unit {0}
+AreInOrder r (p ∷ ps) = AreFrom r (index_of r p.0) ps × AreInOrder r ps
+
+less : (a b : ℤ) → int_cmp a b ≡ Less → a ≤ℤ b
+less a b e = grind (arith, ints)
+
+from_first : (r : Rule) (t : ℤ) (ps : List (ℤ × ℤ)) → pos 1 ≤ℤ r.interval → T (below_all int_cmp t ps) → AreFrom r (index_of r t) ps
+from_first r t [] w b = tt
+from_first r t (p ∷ ps) w b = let h = both_of _ _ b in (bucket_le t p.0 r.interval r.offset w (less t p.0 (less_of _ h.0)), from_first r t ps w h.1)
+
+pub in_order : (r : Rule) (ps : List (ℤ × ℤ)) → pos 1 ≤ℤ r.interval → IsRising ps → AreInOrder r ps
+in_order r [] w s = tt
+in_order r (p ∷ ps) w s = let h = both_of _ _ s in (from_first r p.0 ps w h.0, in_order r ps w h.1)
+
+-- ---- a column's points in a cell
+
+module _ (r : Rule) (c : Column) where
+  abbrev pub part_in : Cell → List (ℤ × ℤ) → Aggregate
+  part_in k ps = total_of r k (facts_at c ps)
+
+  part-here : (p : ℤ × ℤ) (ps : List (ℤ × ℤ)) (k : Cell) → same_text c.series.measurement r.measurement ≡ true → k ≡ cell_of r (fact_at c p) → part_in k (p ∷ ps) ≡ merged (aggregate_of_one p.0 p.1) (part_in k ps)
+  part-here p ps k rolled is =
+      let inside : is_in_cell r k (fact_at c p) ≡ true = ap₂ (λ x y. x && y) rolled (ap (same_cell (cell_of r (fact_at c p))) is ∙ same_cell-refl (cell_of r (fact_at c p))) in
+      total-first r k (fact_at c p) (facts_at c ps) ∙ ap (λ b. merged (cond b (aggregate_of_one p.0 p.1) empty_aggregate) (part_in k ps)) inside
+
+  part-else : (p : ℤ × ℤ) (ps : List (ℤ × ℤ)) (k : Cell) → (index_of r p.0 ≡ k.index → ⊥) → part_in k (p ∷ ps) ≡ part_in k ps
+  part-else p ps k apart =
+      let q : Cell = cell_of r (fact_at c p) in
+      let rolls : Bool = same_text c.series.measurement r.measurement in
+      let outside : is_in_cell r k (fact_at c p) ≡ false =
+      elim (same_cell q k) as (λ b. same_cell q k ≡ b → rolls && b ≡ false) [
+        | true ↦ λ e. absurd (apart (ap (λ (x : Cell). x.index) (same_cell-eq q k e)))
+        | false ↦ λ e. elim rolls as (λ b. b && false ≡ false) [ true ↦ refl | false ↦ refl ]
+      ] refl in
+      total-first r k (fact_at c p) (facts_at c ps) ∙ ap (λ b. merged (cond b (aggregate_of_one p.0 p.1) empty_aggregate) (part_in k ps)) outside ∙ aggregate_laws.unit (part_in k ps)
+
+  -- none of a later bucket is in it
+  part-none : (ps : List (ℤ × ℤ)) (k : Cell) (i : ℤ) → k.index <ℤ i → AreFrom r i ps → part_in k ps ≡ empty_aggregate
+  part-none [] k i l a = refl
+  part-none (p ∷ ps) k i l a = part-else p ps k (λ e. let h = a.0 in let d = e in omega (arith, ints)) ∙ part-none ps k i l a.1
+
+-- ---- point by point
+
+module _ (r : Rule) (c : Column) (facts : List Fact) where
+  abbrev pub points_moved : List (ℤ × ℤ) → CellMap → CellMap
+  points_moved ps m = refolded_points r c ps facts (frozen_points r c ps m)
+
+  refolded-frozen : (k : Cell) (ps : List (ℤ × ℤ)) (m : CellMap) → frozen_points r c ps (refolded r k facts m) ≡ refolded r k facts (frozen_points r c ps m)
+  refolded-frozen k [] m = refl
+  refolded-frozen k (p ∷ ps) m =
+      let q : Cell = cell_of r (fact_at c p) in
+      let f : CellParts → CellParts = in_frozen (merged_within (aggregate_of_one p.0 p.1)) in
+      ap (frozen_points r c ps) (changed_swap m q k f (with_live (total_of r k facts)) (λ a. refl)) ∙ refolded-frozen k ps (changed m q f)
+
+  -- the first point is moved alone
+  points_moved-first : (p : ℤ × ℤ) (ps : List (ℤ × ℤ)) (m : CellMap) → points_moved (p ∷ ps) m ≡ points_moved ps (bucket_moved r (cell_of r (fact_at c p)) (aggregate_of_one p.0 p.1) facts m)
+  points_moved-first p ps m =
+      let q : Cell = cell_of r (fact_at c p) in
+      ap (refolded_points r c ps facts) (sym (refolded-frozen q ps (changed m q (in_frozen (merged_within (aggregate_of_one p.0 p.1))))))
+
+  -- two parts of a cell, one after another
+  bucket_moved-twice : (q : Cell) (part one : Aggregate) (m : CellMap) → frozen_count m q + part.count + one.count ≤ 2 ^ 62 → bucket_moved r q one facts (bucket_moved r q part facts m) ≡ bucket_moved r q (merged part one) facts m
+  bucket_moved-twice q part one m few =
+      let n : CellMap = changed m q (in_frozen (merged_within part)) in
+      ap (refolded r q facts) (changed_swap n q q (in_frozen (merged_within one)) (with_live (total_of r q facts)) (λ a. refl))
+      ∙ refolded-twice r q facts (changed n q (in_frozen (merged_within one)))
+      ∙ ap (refolded r q facts) (changed-twice m q part one few)
+
+  bucket_moved-else : (q k : Cell) (part : Aggregate) (m : CellMap) → same_cell k q ≡ false → finmap.get (bucket_moved r q part facts m) k ≡ finmap.get m k
+  bucket_moved-else q k part m e =
+      changed_else (changed m q (in_frozen (merged_within part))) q k (with_live (total_of r q facts)) e ∙ changed_else m q k (in_frozen (merged_within part)) e
+
+  bucket_moved-count : (q k : Cell) (part : Aggregate) (m : CellMap) → frozen_count (bucket_moved r q part facts m) k ≡ frozen_count (changed m q (in_frozen (merged_within part))) k
+  bucket_moved-count q k part m =
+      changed_as (λ o. (or_else no_parts o).frozen.count) (with_live (total_of r q facts)) (λ a. refl) (changed m q (in_frozen (merged_within part))) q k
+
+-- ---- bucket by bucket: the points of the last bucket are folded and not yet moved
+
+module _ (r : Rule) (c : Column) (facts whole : List Fact) (all : List (ℤ × ℤ)) (before : CellMap) where
+  abbrev cell_in_bucket : ℤ → Cell
+  cell_in_bucket i = cell_at i (rollup_series_under r c)
+
+  -- the points left have the same result, and fit; they are in the order of their buckets, none before the last one; the
+  -- folded ones are the first in their bucket, and cells from there on have their live parts still
+  pub record IsMoving (left : List (ℤ × ℤ)) (m : CellMap) (bucket : ℤ) (part : Aggregate) : Type 0 where
+    pub same : points_moved r c facts left (bucket_moved r (cell_in_bucket bucket) part facts m) ≡ points_moved r c facts all before
+    pub fit : (k : Cell) → frozen_count m k + cond (same_cell k (cell_in_bucket bucket)) part.count 0 + points_in_cell r c k left ≤ 2 ^ 62
+    pub order : AreInOrder r left
+    pub from : AreFrom r bucket left
+    pub run : merged part (part_in r c (cell_in_bucket bucket) left) ≡ part_in r c (cell_in_bucket bucket) all
+    pub later : (k : Cell) → bucket <ℤ k.index → part_in r c k left ≡ part_in r c k all
+    pub live : (k : Cell) (p : CellParts) → bucket ≤ℤ k.index → finmap.get m k ≡ Some p → p.live ≡ total_of r k whole
+
+  pub moving-as : (left : List (ℤ × ℤ)) (m m' : CellMap) (i i' : ℤ) (part part' : Aggregate) → m' ≡ m → i' ≡ i → part' ≡ part → IsMoving left m i part → IsMoving left m' i' part'
+  moving-as left m m' i i' part part' d e f h =
+      subst (λ (x : CellMap). IsMoving left x i' part') (sym d) (subst (λ (x : ℤ). IsMoving left m x part') (sym e) (subst (IsMoving left m i) (sym f) h))
+
+  pub moving-live : (left : List (ℤ × ℤ)) (m : CellMap) (bucket : ℤ) (part : Aggregate) → IsMoving left m bucket part → HasLive r (cell_in_bucket bucket) whole m
+  moving-live left m bucket part h = λ a g. h.live (cell_in_bucket bucket) a (omega (arith, ints)) g
+
+  -- a part counts in its cell alone
+  count_here : (b : Bool) (one : Aggregate) (n k rest : ℕ) → one.count ≡ 1 → rest ≡ cond b 1 0 + k → n + rest ≤ 2 ^ 62 → n + cond b one.count 0 + k ≤ 2 ^ 62
+  count_here true one n k rest o e h = omega (arith, o, e, h)
+  count_here false one n k rest o e h = omega (arith, o, e, h)
+
+  module _ (rolled : same_text c.series.measurement r.measurement ≡ true) where
+    -- no point is folded before the first one
+    pub moving-first : (p : ℤ × ℤ) (left : List (ℤ × ℤ)) → all ≡ p ∷ left → AreInOrder r all → FreezesFit r c all before → ((k : Cell) → HasLive r k whole before) → IsMoving left before (index_of r p.0) (aggregate_of_one p.0 p.1)
+    moving-first p left e order fit live =
+        let q : Cell = cell_of r (fact_at c p) in
+        let one : Aggregate = aggregate_of_one p.0 p.1 in
+        let order' : AreInOrder r (p ∷ left) = subst (AreInOrder r) e order in
+        record {
+          same = sym (points_moved-first r c facts p left before) ∙ ap (λ ps. points_moved r c facts ps before) (sym e);
+          fit = λ k. count_here (same_cell k q) one (frozen_count before k) (points_in_cell r c k left) (points_in_cell r c k all) refl (ap (points_in_cell r c k) e ∙ first_in r c k p left rolled) (fit k);
+          order = order'.1;
+          from = order'.0;
+          run = sym (part-here r c p left q rolled refl) ∙ ap (part_in r c q) (sym e);
+          later = λ k l. sym (part-else r c p left k (λ same. let d = same in omega (arith, ints))) ∙ ap (part_in r c k) (sym e);
+          live = λ k a l g. live k a g;
+        }
+
+    -- one more of the same bucket
+    pub moving-more : (p : ℤ × ℤ) (left : List (ℤ × ℤ)) (m : CellMap) (bucket : ℤ) (part : Aggregate) → bucket ≡ index_of r p.0 → IsMoving (p ∷ left) m bucket part → IsMoving left m bucket (merged part (aggregate_of_one p.0 p.1))
+    moving-more p left m bucket part e h =
+        let q : Cell = cell_in_bucket bucket in
+        let one : Aggregate = aggregate_of_one p.0 p.1 in
+        let is : cell_of r (fact_at c p) ≡ q = ap cell_in_bucket (sym e) in
+        let few : (k : Cell) → frozen_count m k + cond (same_cell k q) part.count 0 + cond (same_cell k q) 1 0 + points_in_cell r c k left ≤ 2 ^ 62 =
+        λ k. let f = h.fit k in let i = first_in r c k p left rolled ∙ ap (λ (z : Cell). cond (same_cell k z) 1 0 + points_in_cell r c k left) is in omega arith in
+        let here : frozen_count m q + part.count + one.count ≤ 2 ^ 62 =
+        let f = few q in
+        let b : cond (same_cell q q) part.count 0 ≡ part.count = ap (λ b. cond b part.count 0) (same_cell-refl q) in
+        let d : cond {A = ℕ} (same_cell q q) 1 0 ≡ 1 = ap (λ b. cond {A = ℕ} b 1 0) (same_cell-refl q) in
+        omega arith in
+        record {
+          same = ap (points_moved r c facts left) (sym (bucket_moved-twice r c facts q part one m here) ∙ ap (λ (z : Cell). bucket_moved r z one facts (bucket_moved r q part facts m)) (sym is))
+              ∙ sym (points_moved-first r c facts p left (bucket_moved r q part facts m)) ∙ h.same;
+          fit = λ k. elim (same_cell k q) as (λ b. frozen_count m k + cond b part.count 0 + cond b 1 0 + points_in_cell r c k left ≤ 2 ^ 62 → frozen_count m k + cond b (part.count + 1) 0 + points_in_cell r c k left ≤ 2 ^ 62) [
+            | true ↦ λ f. omega arith
+            | false ↦ λ f. omega arith
+          ] (few k);
+          order = h.order.1;
+          from = h.from.1;
+          run = aggregate_laws.assoc part one (part_in r c q left) ∙ ap (merged part) (sym (part-here r c p left q rolled (sym is))) ∙ h.run;
+          later = λ k l. sym (part-else r c p left k (λ same. let d = same in let i = e in omega (arith, ints))) ∙ h.later k l;
+          live = h.live;
+        }
+
+    -- the first of another bucket, after the last bucket is moved
+    pub moving-next : (p : ℤ × ℤ) (left : List (ℤ × ℤ)) (m : CellMap) (bucket : ℤ) (part : Aggregate) → (bucket ≡ index_of r p.0 → ⊥) → IsMoving (p ∷ left) m bucket part
+        → IsMoving left (bucket_moved r (cell_in_bucket bucket) part facts m) (index_of r p.0) (aggregate_of_one p.0 p.1)
+    moving-next p left m bucket part apart h =
+        let q : Cell = cell_in_bucket bucket in
+        let z : Cell = cell_of r (fact_at c p) in
+        let one : Aggregate = aggregate_of_one p.0 p.1 in
+        let n : CellMap = bucket_moved r q part facts m in
+        let after : bucket <ℤ index_of r p.0 = let l = h.from.0 in omega (arith, ints) in
+        record {
+          same = sym (points_moved-first r c facts p left n) ∙ h.same;
+          fit = λ k. count_here (same_cell k z) one (frozen_count n k) (points_in_cell r c k left) (points_in_cell r c k (p ∷ left)) refl (first_in r c k p left rolled)
+              (let f = h.fit k in let most = frozen_most m q part k in let count = bucket_moved-count r c facts q k part m in omega arith);
+          order = h.order.1;
+          from = h.order.0;
+          run = sym (part-here r c p left z rolled refl) ∙ h.later z after;
+          later = λ k l. sym (part-else r c p left k (λ same. let d = same in omega (arith, ints))) ∙ h.later k (omega (arith, ints));
+          live = λ k a l g.
+              let other : same_cell k q ≡ false = elim (same_cell k q) as (λ b. same_cell k q ≡ b → b ≡ false) [
+                | true ↦ λ s. absurd (let i : k.index ≡ bucket = ap (λ (x : Cell). x.index) (same_cell-eq k q s) in omega (arith, ints))
+                | false ↦ λ s. refl
+              ] refl in
+              h.live k a (omega (arith, ints)) (sym (bucket_moved-else r c facts q k part m other) ∙ g);
+        }
+
+  -- the bucket is complete: the fold is that of all its points
+  pub moving-part : (p : ℤ × ℤ) (left : List (ℤ × ℤ)) (m : CellMap) (bucket : ℤ) (part : Aggregate) → (bucket ≡ index_of r p.0 → ⊥) → IsMoving (p ∷ left) m bucket part → part ≡ part_in r c (cell_in_bucket bucket) all
+  moving-part p left m bucket part apart h =
+      let q : Cell = cell_in_bucket bucket in
+      let after : bucket <ℤ index_of r p.0 = let l = h.from.0 in omega (arith, ints) in
+      let none : part_in r c q (p ∷ left) ≡ empty_aggregate = part-else r c p left q (λ same. apart (sym same)) ∙ part-none r c left q (index_of r p.0) after h.order.0 in
+      sym (aggregate_laws.comm part empty_aggregate ∙ aggregate_laws.unit part) ∙ ap (merged part) (sym none) ∙ h.run
+
+  pub moving-last : (m : CellMap) (bucket : ℤ) (part : Aggregate) → IsMoving [] m bucket part → part ≡ part_in r c (cell_in_bucket bucket) all
+  moving-last m bucket part h = sym (aggregate_laws.comm part empty_aggregate ∙ aggregate_laws.unit part) ∙ h.run
