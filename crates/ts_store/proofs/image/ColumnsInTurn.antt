@@ -34,7 +34,7 @@ module _ (cs : List Column) (ss : List ColumnState) (n : ℕ) (c : Column) (s : 
   abbrev its : ColumnPoints
   its = record { column = c; points = finmap.entries s.points }
 
-  its_at : slice_get (with_points cs (point_maps ss)) n ≡ Some its
+  pub its_at : slice_get (with_points cs (point_maps ss)) n ≡ Some its
   its_at =
       with_points-at cs (point_maps ss) n c (length-map ss (λ (x : ColumnState). x.points) ∙ each) at
       ∙ ap (λ (m : PointMap). Some (record { column = c; points = finmap.entries m })) (points_at ss n ∙ ap (λ (x : ColumnState). x.points) (sym is))

@@ -1,11 +1,11 @@
 -- Points of a column, moved from the live to the frozen parts of cells bucket by bucket: the same as point by point.
-use Rattle.std.proofs.Common.{◌≡◌, ℕ, ℤ, ◌+◌, ◌≤◌, ◌^◌, ◌<ℤ◌, ◌≤ℤ◌, ◌&&◌, Bool, true, false, cond, T, List, [], ◌∷◌, length, Option, Some, None, refl, sym, ◌∙◌, ap, ap₂, subst, arith, true≢false, int_lt, pos, Less}
+use Rattle.std.proofs.Common.{◌≡◌, ℕ, ℤ, ◌+◌, ◌≤◌, ◌^◌, ◌<ℤ◌, ◌≤ℤ◌, ◌&&◌, Bool, true, false, cond, T, List, [], ◌∷◌, get_or, Some, None, is_some, refl, sym, ◌∙◌, ap, ap₂, subst, arith, true≢false, pos, Less, int_lt}
 use Rattle.std.proofs.lemmas.Int.{ints}
 use Rattle.std.specs.Ordering.{int_cmp}
-use Rattle.std.specs.List.{AllByRecursion}
+use Rattle.std.specs.List.{slice_get, AllByRecursion}
 use Rattle.std.specs.FinMap as finmap
-use Rattle.std.specs.FinMap.{same_map}
-use Rattle.std.specs.FinMap.Entries.{below_all}
+use Rattle.std.specs.FinMap.{same_map, entries_sorted}
+use Rattle.std.specs.FinMap.Entries.{below_all, is_sorted-where_key}
 use Rattle.ts_core.specs.facts.Facts.{Column, Fact, same_text}
 use Rattle.ts_core.specs.settings.Settings.{Rule}
 use Rattle.ts_core.specs.store.Marks.{index_of}
@@ -14,18 +14,22 @@ use Rattle.ts_core.specs.aggregates.MergeLaws.{aggregate_laws}
 use Rattle.ts_core.specs.store.Cells.{Cell, same_cell, cell_of, is_in_cell, total_of}
 use Rattle.ts_core.specs.lists.Changes.{changed, or_else}
 use Rattle.ts_core.specs.store.TwoParts.{in_frozen, with_live}
-use Rattle.ts_core.specs.store.StoreStates.{CellParts, fact_at, facts_at}
+use Rattle.ts_core.specs.store.StoreStates.{CellParts, fact_at, facts_at, facts_of}
 use Rattle.ts_core.specs.store.StoreData.{CellMap, no_parts}
-use Rattle.ts_core.specs.moves.StoreMoves.{frozen_points, refolded, refolded_points}
+use Rattle.ts_core.specs.moves.StoreMoves.{frozen_points, refolded, refolded_points, moved_cells, points_below}
 use Rattle.ts_core.proofs.aggregates.BucketsOrder.{bucket_le}
 use Rattle.ts_core.proofs.lists.Places.{both_of, less_of}
 use Rattle.ts_core.proofs.moves.Freezing.{changed_here, changed_else, changed_none, changed_as}
 use Rattle.ts_core.proofs.plans.PieceCells.{cells_total, exact_cells, same_cell-eq, same_cell-refl}
 use Rattle.ts_cells.specs.Grids.{cell_at}
+use Rattle.ts_raw.specs.Columns.{PointMap, ColumnState}
 use Rattle.ts_raw.specs.PlainColumns.{IsRising}
 use Rattle.ts_store.specs.store.CellCounts.{frozen_count}
-use Rattle.ts_store.specs.rollup.Rollups.{rollup_series_under}
-use Rattle.ts_store.specs.retain.RollupSteps.{points_in_cell, FreezesFit, bucket_moved, HasLive}
+use Rattle.ts_store.specs.store.ColumnStates.{no_column, with_points, point_maps}
+use Rattle.ts_store.specs.rollup.Rollups.{RollupState, IsRollupSeriesOf, rollup_series_at, rollup_series_under, with_grid_cells}
+use Rattle.ts_store.specs.write.LivePuts.{IsOver}
+use Rattle.ts_store.specs.retain.RollupSteps.{points_in_cell, FreezesFit, bucket_moved, HasLive, facts_left}
+use Rattle.ts_store.proofs.write.CellsCreatedLemmas.{rollup_series_known}
 use Rattle.ts_store.proofs.retain.PointsFrozen.{changed-twice, frozen_most, first_in}
 use Rattle.ts_store.proofs.retain.Refolds.{refolded-twice}
 use Rattle.ts_store.proofs.rollup.LivesFilled.{total-first}
@@ -75,9 +79,12 @@ from_first : (r : Rule) (t : ℤ) (ps : List (ℤ × ℤ)) → pos 1 ≤ℤ r.in
 from_first r t [] w b = tt
 from_first r t (p ∷ ps) w b = let h = both_of _ _ b in (bucket_le t p.0 r.interval r.offset w (less t p.0 (less_of _ h.0)), from_first r t ps w h.1)
 
-pub in_order : (r : Rule) (ps : List (ℤ × ℤ)) → pos 1 ≤ℤ r.interval → IsRising ps → AreInOrder r ps
+in_order : (r : Rule) (ps : List (ℤ × ℤ)) → pos 1 ≤ℤ r.interval → IsRising ps → AreInOrder r ps
 in_order r [] w s = tt
 in_order r (p ∷ ps) w s = let h = both_of _ _ s in (from_first r p.0 ps w h.0, in_order r ps w h.1)
+
+pub below_in_order : (r : Rule) (mark : ℤ) (m : PointMap) → pos 1 ≤ℤ r.interval → AreInOrder r (points_below mark (finmap.entries m))
+below_in_order r mark m w = in_order r (points_below mark (finmap.entries m)) w (is_sorted-where_key int_cmp (λ t. int_lt t mark) (finmap.entries m) (entries_sorted m))
 
 -- ---- a column's points in a cell
 
@@ -249,3 +256,35 @@ module _ (r : Rule) (c : Column) (facts whole : List Fact) (all : List (ℤ × �
 
   pub moving-last : (m : CellMap) (bucket : ℤ) (part : Aggregate) → IsMoving [] m bucket part → part ≡ part_in r c (cell_in_bucket bucket) all
   moving-last m bucket part h = sym (aggregate_laws.comm part empty_aggregate ∙ aggregate_laws.unit part) ∙ h.run
+
+-- ---- under the rollup series of a column, which stay
+
+module _ (r : Rule) (mark : ℤ) (cs : List Column) (c : Column) (ss : List ColumnState) (s : RollupState) (n : ℕ) (over : IsOver r cs ss s) (at : slice_get cs n ≡ Some c) (rolls : is_some (rollup_series_at s n) ≡ true) where
+  abbrev its_points : List (ℤ × ℤ)
+  its_points = points_below mark (finmap.entries (get_or ss n no_column).points)
+
+  abbrev raw_facts : List Fact
+  raw_facts = facts_of (with_points cs (point_maps ss))
+
+  its_series : (l : ℕ) × (rollup_series_at s n ≡ Some l) × (same_text c.series.measurement r.measurement ≡ true)
+  its_series =
+      elim (rollup_series_at s n) as (λ o. is_some o ≡ true → IsRollupSeriesOf r c s.grid.rollup_series o → (l : ℕ) × (o ≡ Some l) × (same_text c.series.measurement r.measurement ≡ true)) [
+        | None ↦ λ k h. absurd (true≢false (sym k))
+        | Some l ↦ λ k h. (l, refl, h.0)
+      ] rolls (rollup_series_known r s.grid.rollup_series cs s.series_of_column n c over.series at)
+
+  pub its_rolled : same_text c.series.measurement r.measurement ≡ true
+  its_rolled = its_series.2
+
+  -- the cells after a bucket is moved, by what the call says
+  pub bucket_cells : (t u : RollupState) (i : ℤ) (part : Aggregate) → t ≡ with_grid_cells t.grid.cells s
+      → ((l : ℕ) → rollup_series_at t n ≡ Some l → IsOver r cs ss t → u.grid.cells ≡ bucket_moved r (cell_at i (rollup_series_under r c)) part (facts_left mark c cs ss) t.grid.cells)
+      → u.grid.cells ≡ bucket_moved r (cell_at i (rollup_series_under r c)) part (facts_left mark c cs ss) t.grid.cells
+  bucket_cells t u i part kept moved =
+      moved its_series.0 (ap (λ (x : RollupState). rollup_series_at x n) kept ∙ its_series.1)
+      (subst (λ (x : RollupState). IsOver r cs ss x) (sym kept) (record { each = over.each; once = over.once; series = over.series }))
+
+  -- all points are moved
+  pub all_points_moved : (u : RollupState) → u ≡ with_grid_cells u.grid.cells s → u.grid.cells ≡ points_moved r c (facts_left mark c cs ss) its_points s.grid.cells → u ≡ with_grid_cells (moved_cells r c its_points (facts_left mark c cs ss) s.grid.cells) s
+  all_points_moved u kept cells =
+      kept ∙ ap (λ (m : CellMap). with_grid_cells m s) (cells ∙ sym (ap (λ b. cond b (points_moved r c (facts_left mark c cs ss) its_points s.grid.cells) s.grid.cells) its_rolled))

@@ -14,7 +14,7 @@ use Rattle.ts_core.specs.facts.Facts.{Column, Fact}
 use Rattle.ts_core.specs.settings.Settings.{Rule}
 use Rattle.ts_core.specs.store.RawFacts.{same_column}
 use Rattle.ts_core.specs.store.StoreStates.{ColumnPoints, column_of}
-use Rattle.ts_core.specs.store.StoreData.{CellMap}
+use Rattle.ts_core.specs.store.StoreData.{CellMap, IsLive, AreLive}
 use Rattle.ts_core.specs.moves.StoreMoves.{frozen_points, refolded_points, moved_cells, all_moved, points_below, kept_points}
 use Rattle.ts_core.proofs.store.StateLemmas.{same_column-refl, same_column-eq}
 use Rattle.ts_raw.specs.Columns.{PointMap, ColumnState, points_from}
@@ -52,21 +52,7 @@ moved-length (r ∷ rs) c ps facts (m ∷ ms) = let e = moved-length rs c ps fac
 
 -- ---- a column is moved under a rule
 
--- a rule that has a rollup series for it
-pub moved_rolled : (r : Rule) (c : Column) (ps : List (ℤ × ℤ)) (facts : List Fact) (n : ℕ) (s t u : RollupState) → is_some (rollup_series_at s n) ≡ true → IsRollupSeriesOf r c s.grid.rollup_series (rollup_series_at s n) → t ≡ with_grid_cells t.grid.cells s → u ≡ with_grid_cells u.grid.cells t
-    → ((l : ℕ) → rollup_series_at s n ≡ Some l → IsRollupSeriesOf r c s.grid.rollup_series (Some l) → t.grid.cells ≡ frozen_points r c ps s.grid.cells)
-    → ((l : ℕ) → rollup_series_at t n ≡ Some l → u.grid.cells ≡ refolded_points r c ps facts t.grid.cells) → u ≡ with_grid_cells (moved_cells r c ps facts s.grid.cells) s
-moved_rolled r c ps facts n s t u rolled is kept still frozen refold =
-    elim (rollup_series_at s n) as (λ o. rollup_series_at s n ≡ o → is_some o ≡ true → IsRollupSeriesOf r c s.grid.rollup_series o → u ≡ with_grid_cells (moved_cells r c ps facts s.grid.cells) s) [
-      | None ↦ λ e k h. absurd (true≢false (sym k))
-      | Some l ↦ λ e k h.
-          let cells : u.grid.cells ≡ moved_cells r c ps facts s.grid.cells =
-          refold l (ap (λ (x : RollupState). rollup_series_at x n) kept ∙ e) ∙ ap (refolded_points r c ps facts) (frozen l e h)
-          ∙ sym (ap (λ b. cond b (refolded_points r c ps facts (frozen_points r c ps s.grid.cells)) s.grid.cells) h.0) in
-          still ∙ ap (with_grid_cells u.grid.cells) kept ∙ ap (λ (m : CellMap). with_grid_cells m s) cells
-    ] refl rolled is
-
--- and one that has none
+-- a rule that has no rollup series for it
 pub moved_passed : (r : Rule) (c : Column) (ps : List (ℤ × ℤ)) (facts : List Fact) (n : ℕ) (s : RollupState) → is_some (rollup_series_at s n) ≡ false → IsRollupSeriesOf r c s.grid.rollup_series (rollup_series_at s n) → s ≡ with_grid_cells (moved_cells r c ps facts s.grid.cells) s
 moved_passed r c ps facts n s passed is =
     elim (rollup_series_at s n) as (λ o. is_some o ≡ false → IsRollupSeriesOf r c s.grid.rollup_series o → s ≡ with_grid_cells (moved_cells r c ps facts s.grid.cells) s) [
@@ -128,14 +114,15 @@ all_moved-none (r ∷ rs) cs ss c ps facts e a = absurd (let n : ⊥ = omega ari
 
 -- the first rule, and the others
 pub all_moved-more : (r : Rule) (rs rs' : List Rule) (cs : List Column) (states : List ColumnState) (n : ℕ) (c : Column) (ps : List (ℤ × ℤ)) (facts : List Fact) (s t : RollupState) (ss ts ss' : List RollupState) → rs' ≡ r ∷ rs → ss' ≡ s ∷ ss
-    → length states ≡ length cs → AllDistinct cs → AreRollups rs' cs ss' → FreezeFit rs' c ps (cells_of ss')
-    → (IsOver r cs states s → FreezesFit r c ps s.grid.cells → t ≡ with_grid_cells (moved_cells r c ps facts s.grid.cells) s)
-    → (AreRollups rs cs ss → FreezeFit rs c ps (cells_of ss) → ts ≡ with_all_grid_cells (all_moved rs c ps facts (cells_of ss)) ss)
+    → length states ≡ length cs → AllDistinct cs → AreRollups rs' cs ss' → AreLive (with_points cs (point_maps states)) rs' (cells_of ss') → FreezeFit rs' c ps (cells_of ss')
+    → (IsOver r cs states s → IsLive (with_points cs (point_maps states)) r s.grid.cells → FreezesFit r c ps s.grid.cells → t ≡ with_grid_cells (moved_cells r c ps facts s.grid.cells) s)
+    → (AreRollups rs cs ss → AreLive (with_points cs (point_maps states)) rs (cells_of ss) → FreezeFit rs c ps (cells_of ss) → ts ≡ with_all_grid_cells (all_moved rs c ps facts (cells_of ss)) ss)
     → t ∷ ts ≡ with_all_grid_cells (all_moved rs' c ps facts (cells_of ss')) ss'
-all_moved-more r rs rs' cs states n c ps facts s t ss ts ss' d e each once a fit one others =
+all_moved-more r rs rs' cs states n c ps facts s t ss ts ss' d e each once a live fit one others =
     let a' : AreRollups (r ∷ rs) cs (s ∷ ss) = subst (λ (us : List RollupState). AreRollups (r ∷ rs) cs us) e (subst (λ (qs : List Rule). AreRollups qs cs ss') d a) in
+    let live' : AreLive (with_points cs (point_maps states)) (r ∷ rs) (cells_of (s ∷ ss)) = subst (λ (us : List RollupState). AreLive (with_points cs (point_maps states)) (r ∷ rs) (cells_of us)) e (subst (λ (qs : List Rule). AreLive (with_points cs (point_maps states)) qs (cells_of ss')) d live) in
     let fit' : FreezeFit (r ∷ rs) c ps (cells_of (s ∷ ss)) = subst (λ (us : List RollupState). FreezeFit (r ∷ rs) c ps (cells_of us)) e (subst (λ (qs : List Rule). FreezeFit qs c ps (cells_of ss')) d fit) in
-    ap₂ (λ u us. u ∷ us) (one (record { each = each; once = once; series = a'.0 }) fit'.0) (others a'.1 fit'.1)
+    ap₂ (λ u us. u ∷ us) (one (record { each = each; once = once; series = a'.0 }) live'.0 fit'.0) (others a'.1 live'.1 fit'.1)
     ∙ sym (ap₂ (λ (qs : List Rule) (us : List RollupState). with_all_grid_cells (all_moved qs c ps facts (cells_of us)) us) d e)
 
 -- ---- a column of the content
@@ -153,11 +140,11 @@ with_points-at (c ∷ cs) (m ∷ ms) zero s e = let is = same_Some (record { col
 with_points-at (c ∷ cs) (m ∷ ms) (suc n) s e = with_points-at cs ms n s e
 
 pub held_moves : (index : Indexed) (ss : List ColumnState) (us vs : List RollupState) (rs : List Rule) (mark : ℤ) (n : ℕ) (x y : ColumnState) → IsSoundContent index ss → n < length ss → x ≡ get_or ss n x → y.points ≡ points_from x.points mark
-    → AreRollups rs (map column_of (columns_in index ss)) us
-    → ((cs : List Column) (c : Column) → length ss ≡ length cs → AllDistinct cs → AreRollups rs cs us → slice_get cs n ≡ Some c → FreezeFit rs c (points_below mark (entries (get_or ss n no_column).points)) (cells_of us)
+    → AreRollups rs (map column_of (columns_in index ss)) us → AreLive (columns_in index ss) rs (cells_of us)
+    → ((cs : List Column) (c : Column) → length ss ≡ length cs → AllDistinct cs → AreRollups rs cs us → slice_get cs n ≡ Some c → AreLive (with_points cs (point_maps ss)) rs (cells_of us) → FreezeFit rs c (points_below mark (entries (get_or ss n no_column).points)) (cells_of us)
     → vs ≡ with_all_grid_cells (all_moved rs c (points_below mark (entries (get_or ss n no_column).points)) (facts_left mark c cs ss) (cells_of us)) us)
     → (s : ColumnPoints) → slice_get (columns_in index ss) n ≡ Some s → FreezeFit rs s.column (points_below mark s.points) (cells_of us) → content_of index (set ss n y) vs ≡ content_moved rs s mark (content_of index ss us)
-held_moves index ss us vs rs mark n x y held within is left a moved s at fit =
+held_moves index ss us vs rs mark n x y held within is left a live moved s at fit =
     let cs : List Column = index.columns in
     let ms : List PointMap = point_maps ss in
     let each : length ms ≡ length cs = length-map ss (λ (t : ColumnState). t.points) ∙ held.each in
@@ -170,6 +157,6 @@ held_moves index ss us vs rs mark n x y held within is left a moved s at fit =
     let columns : columns_in index (set ss n y) ≡ map (kept_points s.column mark) (columns_in index ss) = ap (with_points cs) rest ∙ columns_left s.column mark cs ms n held.sound.columns_once each index_is.0 in
     let have : AreRollups rs cs us = subst (λ (names : List Column). AreRollups rs names us) (names_held index ss held.each) a in
     let rollups : vs ≡ with_all_grid_cells (all_moved rs s.column (points_below mark s.points) (facts_left mark s.column cs ss) (cells_of us)) us =
-    moved cs s.column held.each held.sound.columns_once have index_is.0 (subst (λ (ps : List (ℤ × ℤ)). FreezeFit rs s.column (points_below mark ps) (cells_of us)) points fit)
+    moved cs s.column held.each held.sound.columns_once have index_is.0 live (subst (λ (ps : List (ℤ × ℤ)). FreezeFit rs s.column (points_below mark ps) (cells_of us)) points fit)
     ∙ ap (λ (ps : List (ℤ × ℤ)). with_all_grid_cells (all_moved rs s.column (points_below mark ps) (facts_left mark s.column cs ss) (cells_of us)) us) (sym points) in
     λ i. record { series = index.series; columns = columns i; rollups = rollups i }

@@ -34,11 +34,11 @@ facts_left mark c cs states = facts_of (map (kept_points c mark) (with_points cs
 abbrev pub points_in_cell : Rule → Column → Cell → List (ℤ × ℤ) → ℕ
 points_in_cell r c k ps = length (filter (λ (p : ℤ × ℤ). is_in_cell r k (fact_at c p)) ps)
 
--- a part goes into the frozen part of a cell, and the live part is folded anew from these facts, if the cell exists
+-- merges a part into the frozen part of a cell, and folds the live part anew from these facts, if the cell exists
 abbrev pub bucket_moved : Rule → Cell → Aggregate → List Fact → CellMap → CellMap
 bucket_moved r k part facts m = refolded r k facts (changed m k (in_frozen (merged_within part)))
 
--- the live part of the cell, if that exists, is the aggregate of those of these facts that are in it
+-- the live part of the cell, if it exists, is the aggregate of the facts in it
 abbrev pub HasLive : Rule → Cell → List Fact → CellMap → Type 0
 HasLive r k facts m = (p : CellParts) → finmap.get m k ≡ Some p → p.live ≡ total_of r k facts
 

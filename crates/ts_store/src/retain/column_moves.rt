@@ -2,6 +2,7 @@
 ghost use Rattle.std.specs.Prelude.{◌≡◌, ◌<◌, ◌≤◌, ◌^◌, pos, ◌≤ℤ◌, length, map};
 ghost use Rattle.std.specs.Bool.{OnTrue, OnFalse};
 ghost use Rattle.std.specs.List.{AllByRecursion};
+ghost use Rattle.ts_core.specs.store.StoreData.{AreLive};
 ghost use Rattle.ts_core.specs.store.StoreStates.{ColumnPoints, column_of, facts_of};
 ghost use Rattle.ts_core.specs.moves.StoreMoves.{points_below};
 ghost use Rattle.ts_core.specs.lists.Numbered.{IsAt};
@@ -44,11 +45,12 @@ impl<A: Allocator + Copy> ColumnFacts<A> {
         self.columns.len()
     }
 
-    /// Moves a column: freezes its points below the mark under each rule, folds the live parts of their cells again
-    /// without them, and removes them. Only the removal searches for the mark. Does not allocate.
+    /// Moves a column: moves its points below the mark under each rule from the live to the frozen parts of their
+    /// cells, and removes them. Only the removal searches for the mark. Does not allocate.
     pub(crate) fn move_column(&mut self, rules: &[Rule<A>], column: usize, mark: Time)
         requires intervals { AllByRecursion (λ r. pos 1 ≤ℤ r.interval) rules.now }
         requires rollups { AreRollups rules.now (map column_of self.old.columns) self.old.rollups }
+        requires live { AreLive self.old.columns rules.now (cells_of self.old.rollups) }
         requires column { column < length self.old.columns }
         requires few { length (facts_of self.old.columns) ≤ 2 ^ 62 }
         ensures { (s : ColumnPoints) → IsAt self.old.columns column s → FreezeFit rules.now s.column (points_below mark s.points) (cells_of self.old.rollups) → self.new ≡ content_moved rules.now s mark self.old }

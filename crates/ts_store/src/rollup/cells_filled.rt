@@ -13,12 +13,21 @@ ghost use Rattle.ts_store.specs.read.PointsRead.{number_of_points};
 ghost use Rattle.ts_store.specs.retain.RollupSteps.{with_all_grid_cells};
 ghost use Rattle.ts_store.specs.rollup.Rollups.{AreRollups, IsRollupSeriesOf, cells_of, rollup_series_at, with_grid_cells};
 
-use crate::retain::freezing::is_last;
 use crate::rollup::Rollup;
 use crate::store::column_facts::{ColumnFacts, StoredColumn};
 use std::alloc::{AllocError, Allocator};
 use ts_core::{Agg, Partial, Rule, index_of};
 use ts_raw::Points;
+
+/// Returns true if this is the index of the last bucket.
+fn is_last(last: &Option<i128>, index: &i128) -> bool
+    ensures { (result ≡ true) → last.now ≡ Some index.now }
+{
+    match last {
+        Some(bucket) => bucket == index,
+        None => false,
+    }
+}
 
 /// Returns true if a bucket is neither below the low index nor the last one.
 fn is_needed(index: &i128, low: &i128, last: &Option<i128>) -> bool

@@ -5,11 +5,12 @@ use Rattle.std.specs.Vec.{with_items}
 use Rattle.std.proofs.lemmas.List.{length-map, with_items_is}
 use Rattle.ts_core.specs.lists.Members.{AllDistinct}
 use Rattle.ts_core.specs.facts.Facts.{Column}
+use Rattle.ts_core.specs.store.StoreData.{AreLive}
 use Rattle.ts_core.specs.store.StoreStates.{column_of, facts_of}
 use Rattle.ts_core.specs.moves.StoreMoves.{all_moved, points_below}
 use Rattle.ts_raw.specs.Columns.{ColumnState}
 use Rattle.ts_core.specs.lists.Numbered.{IsAt}
-use Rattle.ts_store.specs.store.ColumnStates.{StoreContent, point_maps, content_of, no_column}
+use Rattle.ts_store.specs.store.ColumnStates.{StoreContent, with_points, point_maps, content_of, no_column}
 use Rattle.ts_store.specs.read.PointsRead.{number_of_points}
 use Rattle.ts_store.specs.rollup.Rollups.{RollupState, AreRollups, cells_of}
 use Rattle.ts_store.specs.retain.RollupSteps.{FreezeFit, facts_left, content_moved, with_all_grid_cells}
@@ -63,14 +64,16 @@ returns g c =
     let many = with_points-length c.self.inside.index.columns (point_maps ss) (length-map ss (λ (s : ColumnState). s.points) ∙ c.self.invariant.each) in
     let rollups : AreRollups rs (map column_of (content_of c.self.inside.index ss us).columns) us =
     subst (λ (h : StoreContent). AreRollups rs (map column_of h.columns) h.rollups) (sym c.self.view_is) c.requires.rollups in
+    let live : AreLive (content_of c.self.inside.index ss us).columns rs (cells_of us) =
+    subst (λ (h : StoreContent). AreLive h.columns rs (cells_of h.rollups)) (sym c.self.view_is) c.requires.live in
     let counted = c.self.inside.rollups.ok.0 in
     let long : length vs ≡ c.self.inside.rollups.len = cc (c.move_all.auto.rollups, c.as_mut_slice.ensures.value, counted) in
     let written : (with_items c.self.inside.rollups vs).items ≡ vs = with_items_is c.self.inside.rollups vs long in
-    let moved : (cs : List Column) (d : Column) → length ss ≡ length cs → AllDistinct cs → AreRollups rs cs us → IsAt cs n d → FreezeFit rs d (points_below mark (finmap.entries (get_or ss n no_column).points)) (cells_of us)
+    let moved : (cs : List Column) (d : Column) → length ss ≡ length cs → AllDistinct cs → AreRollups rs cs us → IsAt cs n d → AreLive (with_points cs (point_maps ss)) rs (cells_of us) → FreezeFit rs d (points_below mark (finmap.entries (get_or ss n no_column).points)) (cells_of us)
     → vs ≡ with_all_grid_cells (all_moved rs d (points_below mark (finmap.entries (get_or ss n no_column).points)) (facts_left mark d cs ss) (cells_of us)) us =
-    subst (λ (xs : List ColumnState). (cs : List Column) (d : Column) → length xs ≡ length cs → AllDistinct cs → AreRollups rs cs us → IsAt cs n d → FreezeFit rs d (points_below mark (finmap.entries (get_or xs n no_column).points)) (cells_of us)
+    subst (λ (xs : List ColumnState). (cs : List Column) (d : Column) → length xs ≡ length cs → AllDistinct cs → AreRollups rs cs us → IsAt cs n d → AreLive (with_points cs (point_maps xs)) rs (cells_of us) → FreezeFit rs d (points_below mark (finmap.entries (get_or xs n no_column).points)) (cells_of us)
     → vs ≡ with_all_grid_cells (all_moved rs d (points_below mark (finmap.entries (get_or xs n no_column).points)) (facts_left mark d cs xs) (cells_of us)) us) c.as_slice-columns.ensures.value
-    (subst (λ (ws : List RollupState). (cs : List Column) (d : Column) → length c.as_slice-columns.result.now ≡ length cs → AllDistinct cs → AreRollups rs cs ws → IsAt cs n d
+    (subst (λ (ws : List RollupState). (cs : List Column) (d : Column) → length c.as_slice-columns.result.now ≡ length cs → AllDistinct cs → AreRollups rs cs ws → IsAt cs n d → AreLive (with_points cs (point_maps c.as_slice-columns.result.now)) rs (cells_of ws)
     → FreezeFit rs d (points_below mark (finmap.entries (get_or c.as_slice-columns.result.now n no_column).points)) (cells_of ws)
     → vs ≡ with_all_grid_cells (all_moved rs d (points_below mark (finmap.entries (get_or c.as_slice-columns.result.now n no_column).points)) (facts_left mark d cs c.as_slice-columns.result.now) (cells_of ws)) ws)
     c.as_mut_slice.ensures.value c.move_all.ensures) in
@@ -78,5 +81,5 @@ returns g c =
     ap (λ (ws : List RollupState). content_of c.self.inside.index (set ss n c.drop_below.new.self) ws) written
     ∙ subst (λ (h : StoreContent). IsAt h.columns n s → FreezeFit rs s.column (points_below mark s.points) (cells_of h.rollups) → content_of c.self.inside.index (set ss n c.drop_below.new.self) vs ≡ content_moved rs s mark h) c.self.view_is
     (λ at fit.
-    held_moves c.self.inside.index ss us vs rs mark n x c.drop_below.new.self c.self.invariant (omega (arith, c.requires.column, shown, many, c.self.invariant.each)) c.index_mut.ensures.value c.drop_below.ensures.kept rollups moved
+    held_moves c.self.inside.index ss us vs rs mark n x c.drop_below.new.self c.self.invariant (omega (arith, c.requires.column, shown, many, c.self.invariant.each)) c.index_mut.ensures.value c.drop_below.ensures.kept rollups live moved
     s at fit) at fit
