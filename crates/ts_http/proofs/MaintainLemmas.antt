@@ -10,7 +10,7 @@ use Rattle.ts_core.specs.moves.StoreMoves.{run_begun}
 use Rattle.ts_store.specs.store.Inventories.{all_waiting}
 use Rattle.ts_store.specs.retain.WholeRuns.{TakesStep}
 use Rattle.ts_store.specs.store.WholeStates.{WholeState, IsWholeStateOf, with_begin, left_in}
-use Rattle.ts_store.specs.declared.store.retention.StepAnswer.TheVariants.{Done}
+use Rattle.ts_store.specs.declared.retain.StepAnswer.TheVariants.{Done}
 use Rattle.ts_http.specs.Acts.{Replied, refusing, answer_reply, Maintains}
 use Rattle.ts_http.specs.Maintaining.{steps_of_parameter, OpensRun, RunsSteps, progress_text, run_text}
 use Rattle.ts_http.specs.MaintainSteps.{run_opened, HasRun, HasStepped}

@@ -5,7 +5,7 @@ use Rattle.std.specs.Str.Parse.{digits_value}
 use Rattle.ts_core.specs.facts.Facts.{Text}
 use Rattle.ts_core.specs.store.History.{IsRunOpen}
 use Rattle.ts_store.specs.store.WholeStates.{WholeState, with_begin, left_in, StepsOnce, TakesSteps}
-use Rattle.ts_store.specs.declared.store.retention.StepAnswer.TheVariants.{Done}
+use Rattle.ts_store.specs.declared.retain.StepAnswer.TheVariants.{Done}
 use Rattle.ts_http.specs.Parameters.{parameters, first_named}
 use Rattle.ts_http.specs.Requests.{is_short_number}
 

@@ -18,7 +18,7 @@ use Rattle.ts_store.specs.store.WholeStates.{WholeState, IsWholeStateOf, rules_i
 use Rattle.ts_store.specs.read.PointsRead.{all_raw}
 use Rattle.ts_store.specs.write.StoreFaultTexts.{run_in_progress_text}
 use Rattle.ts_store.specs.retain.WholeRuns.{steps_taken, whole_run, TakesStep, Retains}
-use Rattle.ts_store.specs.declared.store.retention.StepAnswer.{StepAnswer}
+use Rattle.ts_store.specs.declared.retain.StepAnswer.{StepAnswer}
 use Rattle.ts_store.specs.declared.write.write_text.LineOutcome.{LineOutcome}
 use Rattle.ts_core.specs.declared.facts.time_unit.TimeUnit.{TimeUnit}
 use Rattle.ts_core.specs.text.FaultTexts.{memory_text}

@@ -25,8 +25,8 @@ use Rattle.ts_store.specs.read.PointsRead.{all_raw}
 use Rattle.ts_store.specs.rules.RuleTexts.{rule_for, settings_in, low_in}
 use Rattle.ts_store.specs.write.StoreFaultTexts.{run_in_progress_text}
 use Rattle.ts_store.specs.retain.WholeRuns.{whole_run}
-use Rattle.ts_store.specs.declared.store.retention.StepAnswer.{StepAnswer}
-use Rattle.ts_store.specs.declared.store.retention.StepAnswer.TheVariants.{Done}
+use Rattle.ts_store.specs.declared.retain.StepAnswer.{StepAnswer}
+use Rattle.ts_store.specs.declared.retain.StepAnswer.TheVariants.{Done}
 use Rattle.ts_store.specs.declared.write.write_text.LineOutcome.{LineOutcome}
 use Rattle.ts_script.specs.Reloads.{Reloaded}
 use Rattle.ts_script.specs.ScriptLines.{script_line_limit}

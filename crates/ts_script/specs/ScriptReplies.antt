@@ -11,8 +11,8 @@ use Rattle.ts_reply.specs.declared.counting.CountError.{CountError}
 use Rattle.ts_reply.specs.declared.counting.CountError.TheVariants as errors
 use Rattle.ts_store.specs.write.LineTexts.{line_refusal_text}
 use Rattle.ts_store.specs.write.StoreFaultTexts.{run_in_progress_text}
-use Rattle.ts_store.specs.declared.store.retention.StepAnswer.{StepAnswer}
-use Rattle.ts_store.specs.declared.store.retention.StepAnswer.TheVariants.{Moved, Done}
+use Rattle.ts_store.specs.declared.retain.StepAnswer.{StepAnswer}
+use Rattle.ts_store.specs.declared.retain.StepAnswer.TheVariants.{Moved, Done}
 use Rattle.ts_store.specs.declared.write.write_text.LineOutcome.{LineOutcome}
 use Rattle.ts_store.specs.declared.write.write_text.LineOutcome.TheVariants as outcome
 use Rattle.ts_script.specs.declared.reply.Reply.{Reply}

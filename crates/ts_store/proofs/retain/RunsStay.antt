@@ -6,8 +6,8 @@ use Rattle.ts_core.specs.store.StoreData.{StoreData}
 use Rattle.ts_core.specs.moves.StoreMoves.{run_begun}
 use Rattle.ts_store.specs.store.Inventories.{inventory_of, all_waiting, StepsTo}
 use Rattle.ts_store.specs.retain.WholeRuns.{MovesFirst, RemovesCells}
-use Rattle.ts_store.specs.declared.store.retention.StepAnswer.{StepAnswer}
-use Rattle.ts_store.specs.declared.store.retention.StepAnswer.TheVariants.{Moved, Done}
+use Rattle.ts_store.specs.declared.retain.StepAnswer.{StepAnswer}
+use Rattle.ts_store.specs.declared.retain.StepAnswer.TheVariants.{Moved, Done}
 use Rattle.ts_store.proofs.store.InventoriesKept.{KeptSince, HasEnded, none_taken, one_taken, run_over}
 
 -- the parts that are unchanged since a run began, after some steps

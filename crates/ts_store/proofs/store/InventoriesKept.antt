@@ -20,8 +20,8 @@ use Rattle.ts_core.proofs.moves.MovesStand.{keys_once, key_there, key_not}
 use Rattle.ts_core.proofs.moves.StepStands.{keys_column}
 use Rattle.ts_store.specs.store.Inventories.{Inventory, inventory_of, new_inventory, OfRules, expired_in, Expires, FirstExpires, batches_in, steps_in, StepsTo, LeavesFrom, LeavesRecent}
 use Rattle.ts_store.specs.retain.WholeRuns.{AreAbove, LosesCells, FirstLoses, MovesFirst, RemovesCells}
-use Rattle.ts_store.specs.declared.store.retention.StepAnswer.{StepAnswer}
-use Rattle.ts_store.specs.declared.store.retention.StepAnswer.TheVariants.{Moved, Done}
+use Rattle.ts_store.specs.declared.retain.StepAnswer.{StepAnswer}
+use Rattle.ts_store.specs.declared.retain.StepAnswer.TheVariants.{Moved, Done}
 use Rattle.ts_store.proofs.retain.RunsGoOn.{kept-names}
 use Rattle.ts_store.proofs.retain.BatchesLeft.{below_fewer, none_below, removes_above, of-all}
 

@@ -14,8 +14,8 @@ use Rattle.ts_store.specs.retain.WholeRuns.{TakesStep}
 use Rattle.ts_store.specs.read.PointsRead.{all_raw}
 use Rattle.ts_store.specs.rules.RuleTexts.{low_in, with_rule_added}
 use Rattle.ts_store.specs.rules.RulesChanged.{GainsRule, RuleComes, RuleGoes}
-use Rattle.ts_store.specs.declared.store.retention.StepAnswer.{StepAnswer}
-use Rattle.ts_store.specs.declared.store.retention.StepAnswer.TheVariants.{Moved, Done}
+use Rattle.ts_store.specs.declared.retain.StepAnswer.{StepAnswer}
+use Rattle.ts_store.specs.declared.retain.StepAnswer.TheVariants.{Moved, Done}
 use Rattle.ts_store.specs.declared.write.write_text.LineOutcome.{LineOutcome}
 use Rattle.ts_store.proofs.rules.RuleStates.{rule_came, rule_went, rule_gained}
 use Rattle.ts_store.proofs.store.InventoriesKept.{none_taken, one_taken}

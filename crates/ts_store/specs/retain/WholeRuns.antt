@@ -7,8 +7,8 @@ use Rattle.ts_core.specs.store.History.{History, Begin, Step}
 use Rattle.ts_core.specs.moves.Runs.{steps_left}
 use Rattle.ts_core.specs.store.StoreStates.{StandsFor}
 use Rattle.ts_core.specs.store.StoreData.{CellMap, StoreData, state_of, OfEachHistory, GoesOn}
-use Rattle.ts_store.specs.declared.store.retention.StepAnswer.{StepAnswer}
-use Rattle.ts_store.specs.declared.store.retention.StepAnswer.TheVariants.{Moved, Done}
+use Rattle.ts_store.specs.declared.retain.StepAnswer.{StepAnswer}
+use Rattle.ts_store.specs.declared.retain.StepAnswer.TheVariants.{Moved, Done}
 use Rattle.ts_core.specs.moves.StoreMoves.{run_begun, column_moved, with_cells, run_ended}
 use Rattle.ts_cells.specs.Expiry.{IsAbove, LosesBelow}
 use Rattle.ts_store.specs.store.Inventories.{inventory_of, all_waiting, steps_in, StepsTo, LeavesRecent}

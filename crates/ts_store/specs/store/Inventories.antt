@@ -14,8 +14,8 @@ use Rattle.ts_line.specs.Parts.{Parts, line_facts}
 use Rattle.ts_line.specs.declared.fault.LineFault.{LineFault}
 use Rattle.ts_store.specs.write.LinesPut.{IsOfFacts}
 use Rattle.ts_store.specs.write.Registered.{new_columns}
-use Rattle.ts_store.specs.declared.store.retention.StepAnswer.{StepAnswer}
-use Rattle.ts_store.specs.declared.store.retention.StepAnswer.TheVariants.{Moved, Done}
+use Rattle.ts_store.specs.declared.retain.StepAnswer.{StepAnswer}
+use Rattle.ts_store.specs.declared.retain.StepAnswer.TheVariants.{Moved, Done}
 use Rattle.ts_store.specs.declared.write.write_text.LineOutcome.{LineOutcome}
 use Rattle.ts_store.specs.declared.write.write_text.LineOutcome.TheVariants.{Accepted, NoLine, Refused}
 

@@ -13,8 +13,8 @@ use Rattle.ts_store.specs.write.LineTexts.{LineState, IsStateOf, parts_in, Write
 use Rattle.ts_store.specs.read.PointsRead.{all_raw}
 use Rattle.ts_store.specs.rules.RulesChanged.{GainsRule}
 use Rattle.ts_store.specs.rules.RuleTexts.{low_in, with_rule_added, with_rule_dropped}
-use Rattle.ts_store.specs.declared.store.retention.StepAnswer.{StepAnswer}
-use Rattle.ts_store.specs.declared.store.retention.StepAnswer.TheVariants.{Moved, Done}
+use Rattle.ts_store.specs.declared.retain.StepAnswer.{StepAnswer}
+use Rattle.ts_store.specs.declared.retain.StepAnswer.TheVariants.{Moved, Done}
 use Rattle.ts_store.specs.declared.write.write_text.LineOutcome.{LineOutcome}
 
 pub record WholeState : Type 0 where

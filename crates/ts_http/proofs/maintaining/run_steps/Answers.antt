@@ -1,6 +1,6 @@
 use Rattle.std.proofs.Common.{rules, arith, ◌≡◌, ◌+◌, ◌∙◌, refl, subst, suc}
 use Rattle.ts_store.specs.retain.WholeRuns.{TakesStep}
-use Rattle.ts_store.specs.declared.store.retention.StepAnswer.TheVariants.{Moved, Done}
+use Rattle.ts_store.specs.declared.retain.StepAnswer.TheVariants.{Moved, Done}
 use Rattle.ts_http.proofs.MaintainLemmas.{goes_on, ends}
 use Rattle.ts_store.proofs.store.WholeStatesKept.{Steps, no_steps, one_step}
 use Rattle.ts_http.proofs.maintaining.run_steps.Goals as goal

@@ -5,7 +5,7 @@ use Rattle.ts_store.specs.image.BuildingParts.{built_of}
 use Rattle.ts_store.specs.store.ColumnStates.{StoreContent}
 use Rattle.ts_store.proofs.image.BuildersKept.{order_series-either, built_series}
 use Rattle.ts_store.proofs.image.PartsBuilt.{ok_then, err_then}
-use Rattle.ts_store.proofs.store.building.StoreBuilder.add_series.Goals as goal
+use Rattle.ts_store.proofs.image.building.StoreBuilder.add_series.Goals as goal
 
 pub add_series-requires-clause-absent : goal.add_series-requires-clause-absent
 add_series-requires-clause-absent g c = subst (λ (b : Built). Among c.args.key.now b.series → ⊥) (sym c.self.view_is) c.requires.absent

@@ -5,7 +5,7 @@ use Rattle.ts_store.specs.image.BuildingParts.{built_of, FillsCells}
 use Rattle.ts_store.specs.retain.OpenRuns.{Run, run_of, data_of_parts}
 use Rattle.ts_store.specs.store.SoundStores.{IsSoundStore}
 use Rattle.ts_store.proofs.image.StoresBuilt.{lows-length, kept_built, built_from}
-use Rattle.ts_store.proofs.store.building.StoreBuilder.finish.Goals as goal
+use Rattle.ts_store.proofs.image.building.StoreBuilder.finish.Goals as goal
 
 pub fill_cells-requires-clause-lows : goal.fill_cells-requires-clause-lows
 fill_cells-requires-clause-lows g c =

@@ -10,7 +10,7 @@ use Rattle.ts_store.specs.image.Building.{Built, with_built_column}
 use Rattle.ts_store.specs.image.BuildingParts.{IsInOrder}
 use Rattle.ts_store.specs.rollup.Rollups.{AreRollups}
 use Rattle.ts_store.proofs.image.BuildersKept.{order_column, order_same, built_column}
-use Rattle.ts_store.proofs.store.building.StoreBuilder.add_column.Goals as goal
+use Rattle.ts_store.proofs.image.building.StoreBuilder.add_column.Goals as goal
 
 pub invariant_of-self-2 : goal.invariant_of-self-2
 invariant_of-self-2 g c =

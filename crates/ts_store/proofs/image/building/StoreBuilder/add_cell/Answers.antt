@@ -8,7 +8,7 @@ use Rattle.ts_store.specs.rollup.Rollups.{cells_of}
 use Rattle.ts_store.proofs.image.BuildersKept.{order_cell-either, built_cell, built_same, with_one}
 use Rattle.ts_store.proofs.image.PartsBuilt.{ok_then, err_then}
 use Rattle.ts_store.proofs.rollup.RollupsGrow.{rollups-length}
-use Rattle.ts_store.proofs.store.building.StoreBuilder.add_cell.Goals as goal
+use Rattle.ts_store.proofs.image.building.StoreBuilder.add_cell.Goals as goal
 
 pub add_cell-requires-clause-rule : goal.add_cell-requires-clause-rule
 add_cell-requires-clause-rule g c =

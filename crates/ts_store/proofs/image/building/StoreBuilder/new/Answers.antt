@@ -2,7 +2,7 @@ use Rattle.std.proofs.Common.{◌≡◌, ◌∙◌, [], length, replicate}
 use Rattle.ts_store.specs.rollup.Rollups.{new_rollup}
 use Rattle.ts_store.proofs.image.BuildersKept.{order_new, built_new}
 use Rattle.ts_store.proofs.store.Stands.{held_new}
-use Rattle.ts_store.proofs.store.building.StoreBuilder.new.Goals as goal
+use Rattle.ts_store.proofs.image.building.StoreBuilder.new.Goals as goal
 
 pub invariant_of-result : goal.invariant_of-result
 invariant_of-result g c =
