@@ -1,4 +1,4 @@
-use Rattle.std.proofs.Common.{◌≡◌, length, IsSome, subst}
+use Rattle.std.proofs.Common.{◌≡◌, suc, length, IsSome, ap, subst, arith}
 use Rattle.std.specs.List.{AllByRecursion}
 use Rattle.ts_store.specs.rollup.Rollups.{RollupState}
 use Rattle.ts_store.proofs.rollup.RollupSteps.{none_committed, one_committed}
@@ -14,3 +14,9 @@ returns-in-Some g t c = one_committed c.args.rollups.now c.in-Some.rollup.now c.
 
 pub returns-in_default : goal.returns-in_default
 returns-in_default g t c = none_committed c.args.rollups.now c.in_default.ensures.cases
+
+pub commit_rollups-requires : goal.commit_rollups-requires
+commit_rollups-requires g t c κs within =
+    let longer : length c.args.rollups.now ≡ suc (length c.in-Some.rollups.now) = ap length c.in-Some.ensures.cases.0 in
+    let each = subst (AllByRecursion (λ (s : RollupState). IsSome s.next × (c.args.column ≡ length s.series_of_column))) c.in-Some.ensures.cases.0 c.requires in
+    (omega arith, (within, each.1))
