@@ -11,7 +11,7 @@ use Rattle.ts_core.specs.moves.StoreMoves.{PutsFacts, GainEmptyCells}
 use Rattle.ts_line.specs.Parts.{LinePart, Parts, series_of, fact_of, line_facts}
 use Rattle.ts_raw.specs.Columns.{ColumnState}
 use Rattle.ts_raw.specs.Indexed.{Indexed}
-use Rattle.ts_core.specs.lists.Numbered.{Gains}
+use Rattle.ts_core.specs.lists.Numbered.{Gains, IsAt}
 use Rattle.ts_core.proofs.lists.Results.{on_any_err}
 use Rattle.ts_store.specs.write.LinesInColumns.{GrowsForLine}
 use Rattle.ts_store.specs.write.Registered.{MayGain, MakesFirst, with_columns, new_columns}
@@ -248,3 +248,21 @@ returns-in_err-create_cells-clause-err g c =
     (subst (λ (ms : List CellMap). GainEmptyCells c.args.rules.now c.args.lows.now [] ms (cells_of us)) before (part_rooms c.args.rules.now c.args.lows.now c.time.result ns c.prepare_line.new.rollups us part))
     (line_gains c.args.rules.now c.args.lows.now c.prepare_line.new.index.columns c.prepare_line.new.columns.items c.args.line.now c.time.result ns (cells_of c.self.inside.rollups.items) c.prepare_line.new.rollups us c.prepare_line.ensures.rollups
     c.in_ok-prepare_line.ensures.line.staged c.time.ensures before part) (inr c.in_ok-prepare_line.ensures.line.taken))
+
+pub prepare_line-requires-clause-series : goal.prepare_line-requires-clause-series
+prepare_line-requires-clause-series g c = subst (λ (s : Series). IsAt c.register.new.self.series c.in-Ok.series s) c.requires.key c.in-Ok.ensures.registered.number
+
+pub prepare_line-requires-clause-none : goal.prepare_line-requires-clause-none
+prepare_line-requires-clause-none g c = c.reserve.ensures.items ∙ c.clear.ensures.items
+
+pub invariant_of-self : goal.invariant_of-self
+invariant_of-self g c = series_held c.self.inside.index c.register.new.self c.self.inside.columns.items c.register.ensures.sound c.register.ensures.columns c.self.invariant
+
+pub invariant_of-self-in_err-reserve : goal.invariant_of-self-in_err-reserve
+invariant_of-self-in_err-reserve g c = series_held c.self.inside.index c.register.new.self c.self.inside.columns.items c.register.ensures.sound c.register.ensures.columns c.self.invariant
+
+pub invariant_of-self-in_err-prepare_line : goal.invariant_of-self-in_err-prepare_line
+invariant_of-self-in_err-prepare_line g c = c.prepare_line.ensures.line.held
+
+pub invariant_of-self-in_err-create_cells : goal.invariant_of-self-in_err-create_cells
+invariant_of-self-in_err-create_cells g c = c.prepare_line.ensures.line.held
