@@ -1,6 +1,7 @@
 -- Rollups of a rule: the columns of each rollup series, when a rollup series or a column is created.
 use Rattle.std.proofs.Common.{◌≡◌, ℕ, zero, suc, ◌+◌, ◌<◌, ◌≤◌, ◌==◌, Bool, true, false, cond, List, [], ◌∷◌, ◌++◌, length, map, set, get_or, replicate, Option, Some, None, refl, sym, ◌∙◌, ap, subst, ⊎_elim, arith}
 use Rattle.std.specs.List.{slice_get}
+use Rattle.std.specs.Prelude.{nat_lt}
 use Rattle.std.proofs.Math.Seq.{map-set_same}
 use Rattle.std.proofs.lemmas.Bool.{eqb-true, eqb-false}
 use Rattle.std.proofs.lemmas.List.{append-nil, map-append, map-set, length-set, length_push, length-map, get_or-map, get_or-set_same, get_or-set_other}
@@ -140,3 +141,37 @@ module _ (rollup_series : List RollupSeries) (os : List (Option ℕ)) (ms : List
         ∙ ap (λ ns. ns ++ cond (n == l) (length os ∷ []) []) (kept.grouped l) ∙ sym (numbers_where-push (is_of_rollup_series l) os (Some n)) ∙ ap (numbers_where (is_of_rollup_series l)) (sym e);
     capacity = subst (λ (o : Option (Option ℕ)). HasSpares o spare' spares') (sym none) tt;
   }
+
+-- ---- no column is prepared
+
+pub columns_kept : (ls : List RollupSeries) (os os' : List (Option ℕ)) (ms : List (List ℕ)) (next : Option (Option ℕ)) (spare spare' : Bool) (spares spares' : List Bool) → IsRollup ls os ms next spare spares → os' ≡ os → IsRollup ls os' ms None spare' spares'
+columns_kept ls os os' ms next spare spare' spares spares' r e = record { once = r.once; each = r.each; grouped = λ l. r.grouped l ∙ ap (numbers_where (is_of_rollup_series l)) (sym e); capacity = tt }
+
+-- a rollup series may have been created
+pub lists_kept : (before after : Grid CellParts) (lists lists' : List ColumnList) (os os' : List (Option ℕ)) (next : Option (Option ℕ)) (spare spare' : Bool) (spares : List Bool) → IsRollup before.rollup_series os (lists_in lists) next spare spares → os' ≡ os
+    → KeepsLists before lists after lists' → IsRollup after.rollup_series os' (lists_in lists') None spare' (capacities_in lists')
+lists_kept before after lists lists' os os' next spare spare' spares r e k = record {
+  once = k.once r.once;
+  each = length-map lists' (λ (l : ColumnList). l.items) ∙ k.each;
+  grouped = λ l. k.columns l ∙ r.grouped l ∙ ap (numbers_where (is_of_rollup_series l)) (sym e);
+  capacity = tt;
+}
+
+-- ---- a column is prepared
+
+spare_from : (len capacity : ℕ) → len + 1 ≤ capacity → nat_lt len capacity ≡ true
+spare_from len capacity room = grind arith
+
+pub columns_next : (ls : List RollupSeries) (os os' : List (Option ℕ)) (ms : List (List ℕ)) (next : Option (Option ℕ)) (spare : Bool) (len capacity : ℕ) (spares spares' : List Bool) → IsRollup ls os ms next spare spares → os' ≡ os → len + 1 ≤ capacity
+    → IsRollup ls os' ms (Some None) (nat_lt len capacity) spares'
+columns_next ls os os' ms next spare len capacity spares spares' r e room =
+    record { once = r.once; each = r.each; grouped = λ l. r.grouped l ∙ ap (numbers_where (is_of_rollup_series l)) (sym e); capacity = spare_from len capacity room }
+
+pub lists_next : (before after : Grid CellParts) (lists lists' : List ColumnList) (os os' : List (Option ℕ)) (next : Option (Option ℕ)) (spare : Bool) (len capacity n : ℕ) (spares : List Bool) → IsRollup before.rollup_series os (lists_in lists) next spare spares → os' ≡ os
+    → KeepsLists before lists after lists' → len + 1 ≤ capacity → HasCapacityAt lists' n → IsRollup after.rollup_series os' (lists_in lists') (Some (Some n)) (nat_lt len capacity) (capacities_in lists')
+lists_next before after lists lists' os os' next spare len capacity n spares r e k room listed = record {
+  once = k.once r.once;
+  each = length-map lists' (λ (l : ColumnList). l.items) ∙ k.each;
+  grouped = λ l. k.columns l ∙ r.grouped l ∙ ap (numbers_where (is_of_rollup_series l)) (sym e);
+  capacity = (spare_from len capacity room, listed);
+}
