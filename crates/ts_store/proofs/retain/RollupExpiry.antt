@@ -10,11 +10,15 @@ pub grids_kept : (ss : List RollupState) → ss ≡ with_all_grid_cells (cells_o
 grids_kept [] = refl
 grids_kept (s ∷ ss) = ap (λ ts. s ∷ ts) (grids_kept ss)
 
--- without rules no cell is below a low index
+-- without rules, or without low indices, no cell is below a low index
 pub none_above : (lows : List ℤ) (ss : List RollupState) → length ss ≡ 0 → AreAbove lows (cells_of ss)
 none_above [] ss none = tt
 none_above (low ∷ lows) [] none = tt
 none_above (low ∷ lows) (s ∷ ss) none = absurd (omega (arith, none))
+
+pub no_lows_above : (lows : List ℤ) (ss : List RollupState) → length lows ≡ 0 → AreAbove lows (cells_of ss)
+no_lows_above [] ss none = tt
+no_lows_above (low ∷ lows) ss none = absurd (omega (arith, none))
 
 -- the result of the call for the first rule
 pub record IsExpired (low : ℤ) (n : ℕ) (s t : RollupState) : Type 0 where
