@@ -1,8 +1,11 @@
-use Rattle.std.proofs.Common.{◌≡◌, ap, inl, refl, rules, subst, sym}
+use Rattle.std.proofs.Common.{◌≡◌, ◌<◌, ◌∙◌, List, length, ap, inl, refl, subst, sym}
 use Rattle.ts_core.specs.facts.Facts.{Column}
 use Rattle.ts_core.specs.lists.Members.{Among}
+use Rattle.ts_core.specs.lists.Numbered.{IsAt}
 use Rattle.ts_core.proofs.lists.NumberedLemmas.{at_among}
 use Rattle.ts_raw.specs.Indexed.{Indexed, IsSoundIndex, column_in}
+use Rattle.ts_store.specs.rollup.Rollups.{AreRollups}
+use Rattle.ts_store.specs.store.ColumnStates.{IsColumnFor}
 use Rattle.ts_store.proofs.write.columns.column_for.Goals as goal
 
 pub returns-in-Some-clause-column : goal.returns-in-Some-clause-column
@@ -10,9 +13,9 @@ returns-in-Some-clause-column g c =
     let column : Column = column_in c.args.index.now c.args.series c.args.field.now in
     let same : c.find_column.new.self.columns ≡ c.args.index.now.columns = ap (λ (i : Indexed). i.columns) c.find_column.ensures.unchanged in
     record {
-      number = search rules;
+      number = subst (λ (cs : List Column). IsAt cs c.in-Some.column column) (sym same) c.in-Some.ensures.found;
       grown = inl (at_among c.args.index.now.columns c.in-Some.column column c.in-Some.ensures.found, same, refl);
-      kept = search rules;
+      kept = tt;
       series = ap (λ (i : Indexed). i.series) c.find_column.ensures.unchanged;
       sound = λ sound. subst IsSoundIndex (sym c.find_column.ensures.unchanged) sound;
     }
@@ -20,3 +23,19 @@ returns-in-Some-clause-column g c =
 pub make_column-requires-clause-absent : goal.make_column-requires-clause-absent
 make_column-requires-clause-absent g c =
     subst (λ (i : Indexed). Among (column_in i c.args.series c.args.field.now) i.columns → ⊥) (sym c.find_column.ensures.unchanged) c.in-None.ensures.absent
+
+pub returns-in-Some-clause-rollups : goal.returns-in-Some-clause-rollups
+returns-in-Some-clause-rollups g c = subst (λ (i : Indexed). AreRollups c.args.rules.now i.columns c.args.rollups.now) (sym c.find_column.ensures.unchanged) c.requires.rollups
+
+pub make_column-requires-clause-len : goal.make_column-requires-clause-len
+make_column-requires-clause-len g c = c.requires.len ∙ ap (λ (i : Indexed). length i.columns) (sym c.find_column.ensures.unchanged)
+
+pub make_column-requires-clause-series : goal.make_column-requires-clause-series
+make_column-requires-clause-series g c = subst (λ (i : Indexed). c.args.series < length i.series) (sym c.find_column.ensures.unchanged) c.requires.series
+
+pub make_column-requires-clause-rollups : goal.make_column-requires-clause-rollups
+make_column-requires-clause-rollups g c = subst (λ (i : Indexed). AreRollups c.args.rules.now i.columns c.args.rollups.now) (sym c.find_column.ensures.unchanged) c.requires.rollups
+
+pub returns-in-None-clause-column : goal.returns-in-None-clause-column
+returns-in-None-clause-column g c =
+    subst (λ (i : Indexed). IsColumnFor (column_in i c.args.series c.args.field.now) i c.args.columns.now.items c.make_column.new.index c.make_column.new.columns.items c.make_column.result) c.find_column.ensures.unchanged c.make_column.ensures.column

@@ -41,3 +41,9 @@ update_cells-requires g t c κs within =
     let intervals = subst (AllByRecursion (λ (r : Rule). pos 1 ≤ℤ r.interval)) c.in-Some.ensures.cases.0 c.requires.intervals in
     let each = subst (AllByRecursion (λ (s : RollupState). length s.series_of_column ≡ length c.args.columns.now)) c.in-Some-split_first_mut.ensures.cases.0 c.requires.each in
     (omega arith, (within, (intervals.1, (c.requires.column, (each.1, c.requires.few)))))
+
+pub update_cell-requires-clause-interval : goal.update_cell-requires-clause-interval
+update_cell-requires-clause-interval g t c = (subst (AllByRecursion (λ (r : Rule). pos 1 ≤ℤ r.interval)) c.in-Some.ensures.cases.0 c.requires.intervals).0
+
+pub update_cell-requires-clause-each : goal.update_cell-requires-clause-each
+update_cell-requires-clause-each g t c = (subst (AllByRecursion (λ (s : RollupState). length s.series_of_column ≡ length c.args.columns.now)) c.in-Some-split_first_mut.ensures.cases.0 c.requires.each).0
