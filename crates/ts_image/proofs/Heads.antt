@@ -9,8 +9,8 @@ use Rattle.ts_core.proofs.facts.Ids.{same_text-eq}
 use Rattle.ts_core.proofs.lists.Comparisons.{same_text-from_eq}
 use Rattle.ts_core.specs.io.Devices.{Input}
 use Rattle.ts_image.specs.declared.version.Version.{Version}
-use Rattle.ts_image.specs.declared.image_reading.Head.{Head}
-use Rattle.ts_image.specs.declared.image_reading.Head.TheVariants as head
+use Rattle.ts_image.specs.declared.read.image.Head.{Head}
+use Rattle.ts_image.specs.declared.read.image.Head.TheVariants as head
 use Rattle.ts_image.specs.declared.field_fault.FieldFault.{FieldFault}
 use Rattle.ts_image.specs.declared.field_fault.FieldFault.TheVariants.{Misshapen, Device, TooManyReads, OutOfMemory}
 use Rattle.ts_image.specs.Formats.{Cursor, read_number, number}

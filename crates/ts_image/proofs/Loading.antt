@@ -4,8 +4,8 @@ use Rattle.std.specs.Prelude.{pos, IfSome}
 use Rattle.std.specs.List.{AllByRecursion}
 use Rattle.ts_core.specs.io.Devices.{Input}
 use Rattle.ts_core.specs.settings.Settings.{Rule, Settings}
-use Rattle.ts_image.specs.declared.rule_reading.RuleParts.{RuleParts}
-use Rattle.ts_image.specs.declared.image_reading.ImageParts.{ImageParts}
+use Rattle.ts_image.specs.declared.read.rules.RuleParts.{RuleParts}
+use Rattle.ts_image.specs.declared.read.image.ImageParts.{ImageParts}
 use Rattle.ts_image.specs.declared.image_loading.LoadedImage.{LoadedImage}
 use Rattle.ts_image.specs.declared.version.Version.{Version}
 use Rattle.ts_image.specs.declared.load_fault.LoadFault.{LoadFault}

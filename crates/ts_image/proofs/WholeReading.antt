@@ -11,9 +11,9 @@ use Rattle.ts_image.specs.declared.field_fault.FieldFault.{FieldFault}
 use Rattle.ts_image.specs.declared.field_fault.FieldFault.TheVariants as field
 use Rattle.ts_image.specs.declared.load_fault.LoadFault.{LoadFault}
 use Rattle.ts_image.specs.declared.load_fault.LoadFault.TheVariants.{NotAnImage, OtherVersion, Misshapen, Device, TooManyReads, OutOfMemory}
-use Rattle.ts_image.specs.declared.image_reading.Head.{Head}
-use Rattle.ts_image.specs.declared.image_reading.Head.TheVariants as head
-use Rattle.ts_image.specs.declared.image_reading.ImageParts.{ImageParts}
+use Rattle.ts_image.specs.declared.read.image.Head.{Head}
+use Rattle.ts_image.specs.declared.read.image.Head.TheVariants as head
+use Rattle.ts_image.specs.declared.read.image.ImageParts.{ImageParts}
 use Rattle.ts_image.specs.Formats.{Format, spelling, whole_reading, at_end, read_whole}
 use Rattle.ts_image.specs.FormatLaws.{AreBytes, IsMisshapen, IsExact}
 use Rattle.ts_image.specs.Images.{ImageData, image, image_mark, version_byte, body}

@@ -3,10 +3,10 @@ use Rattle.std.specs.Prelude.{ℤ, List, map, string_bytes, Vec}
 use Rattle.ts_core.specs.declared.aggregates.aggregate.Extremes.{Extremes}
 use Rattle.ts_core.specs.store.Cells.{Cell}
 use Rattle.ts_core.specs.store.Marks.{Marks}
-use Rattle.ts_image.specs.declared.cell_reading.MarksParts.{MarksParts}
-use Rattle.ts_image.specs.declared.cell_reading.CellKeyParts.{CellKeyParts}
-use Rattle.ts_image.specs.declared.cell_reading.ExtremesParts.{ExtremesParts}
-use Rattle.ts_image.specs.declared.cell_reading.CellParts.{CellParts}
+use Rattle.ts_image.specs.declared.read.cells.MarksParts.{MarksParts}
+use Rattle.ts_image.specs.declared.read.cells.CellKeyParts.{CellKeyParts}
+use Rattle.ts_image.specs.declared.read.cells.ExtremesParts.{ExtremesParts}
+use Rattle.ts_image.specs.declared.read.cells.CellParts.{CellParts}
 use Rattle.ts_image.specs.Images.{ImageCell}
 use Rattle.ts_image.specs.PointParts.{point_of}
 use Rattle.ts_image.specs.RuleParts.{texts_of}

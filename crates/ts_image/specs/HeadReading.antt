@@ -3,8 +3,8 @@ use Rattle.std.specs.Prelude.{◌≡◌, ◌≢◌, ℕ, ◌+◌, List, ◌∷�
 use Rattle.ts_core.specs.io.Devices.{Input}
 use Rattle.ts_image.specs.declared.field_fault.FieldFault.{FieldFault}
 use Rattle.ts_image.specs.declared.field_fault.FieldFault.TheVariants.{Misshapen, Device, TooManyReads, OutOfMemory}
-use Rattle.ts_image.specs.declared.image_reading.Head.{Head}
-use Rattle.ts_image.specs.declared.image_reading.Head.TheVariants as head
+use Rattle.ts_image.specs.declared.read.image.Head.{Head}
+use Rattle.ts_image.specs.declared.read.image.Head.TheVariants as head
 use Rattle.ts_image.specs.Formats.{Cursor}
 use Rattle.ts_image.specs.Images.{image_mark, version_byte}
 use Rattle.ts_image.specs.FieldReading.{FieldsRead, cursor_of, IsKnown, CallsSource}

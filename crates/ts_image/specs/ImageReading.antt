@@ -7,7 +7,7 @@ use Rattle.ts_image.specs.declared.field_fault.FieldFault.{FieldFault}
 use Rattle.ts_image.specs.declared.field_fault.FieldFault.TheVariants as field
 use Rattle.ts_image.specs.declared.load_fault.LoadFault.{LoadFault}
 use Rattle.ts_image.specs.declared.load_fault.LoadFault.TheVariants.{NotAnImage, OtherVersion, Misshapen, Contradiction, Device, TooManyReads, OutOfMemory}
-use Rattle.ts_image.specs.declared.image_reading.ImageParts.{ImageParts}
+use Rattle.ts_image.specs.declared.read.image.ImageParts.{ImageParts}
 use Rattle.ts_image.specs.Formats.{Format, read_whole}
 use Rattle.ts_image.specs.FormatLaws.{AreBytes}
 use Rattle.ts_image.specs.Images.{ImageData}

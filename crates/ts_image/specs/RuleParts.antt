@@ -1,8 +1,8 @@
 -- The values of rules and settings that the code reads. (Own rules.)
 use Rattle.std.specs.Prelude.{List, map, string_bytes, Vec, String}
 use Rattle.ts_core.specs.facts.Facts.{Text}
-use Rattle.ts_image.specs.declared.rule_reading.RuleParts.{RuleParts}
-use Rattle.ts_image.specs.declared.rule_reading.SettingsParts.{SettingsParts}
+use Rattle.ts_image.specs.declared.read.rules.RuleParts.{RuleParts}
+use Rattle.ts_image.specs.declared.read.rules.SettingsParts.{SettingsParts}
 use Rattle.ts_image.specs.Images.{ImageRule, ImageSettings}
 
 abbrev pub texts_of : {A : Type 0} → Vec (String A) A → List Text

@@ -1,9 +1,9 @@
 -- The values of series and columns that the code reads. (Own rules.)
 use Rattle.std.specs.Prelude.{List, map, string_bytes, Vec, String}
 use Rattle.ts_core.specs.facts.Facts.{Text, Series}
-use Rattle.ts_image.specs.declared.series_reading.ColumnParts.{ColumnParts}
-use Rattle.ts_image.specs.declared.series_reading.KeyParts.{KeyParts}
-use Rattle.ts_image.specs.declared.series_reading.SeriesParts.{SeriesParts}
+use Rattle.ts_image.specs.declared.read.series.ColumnParts.{ColumnParts}
+use Rattle.ts_image.specs.declared.read.series.KeyParts.{KeyParts}
+use Rattle.ts_image.specs.declared.read.series.SeriesParts.{SeriesParts}
 use Rattle.ts_image.specs.Images.{ImageColumn, ImageSeries}
 
 abbrev pub column_of_parts : {A : Type 0} → ColumnParts A → ImageColumn

@@ -3,14 +3,14 @@ use Rattle.std.specs.Prelude.{◌≡◌, ◌≢◌, ◌+◌, ◌<◌, ◌≤◌,
 use Rattle.ts_core.specs.facts.Facts.{Text, Series, same_text, series_cmp}
 use Rattle.ts_core.specs.store.Cells.{Cell}
 use Rattle.ts_core.specs.declared.aggregates.aggregate.Extremes.{Extremes}
-use Rattle.ts_image.specs.declared.series_reading.ColumnParts.{ColumnParts}
-use Rattle.ts_image.specs.declared.series_reading.SeriesParts.{SeriesParts}
-use Rattle.ts_image.specs.declared.cell_reading.CellParts.{CellParts}
+use Rattle.ts_image.specs.declared.read.series.ColumnParts.{ColumnParts}
+use Rattle.ts_image.specs.declared.read.series.SeriesParts.{SeriesParts}
+use Rattle.ts_image.specs.declared.read.cells.CellParts.{CellParts}
 use Rattle.ts_image.specs.SeriesParts.{key_of}
 use Rattle.ts_image.specs.CellParts.{cell_key_of}
 use Rattle.ts_image.specs.ImageTests.{IsKeyName, IsBetween, points_of_series, points_in_all, IsImageSeries, AreLows, CellsAre, count_frozen, points_of_measurement}
 use Rattle.ts_store.specs.image.SavedContent.{AreRising}
-use Rattle.ts_image.specs.declared.rule_reading.RuleParts.{RuleParts}
+use Rattle.ts_image.specs.declared.read.rules.RuleParts.{RuleParts}
 use Rattle.ts_image.specs.Images.{ImageRule, ImageSeries, ImageCell, ImageData}
 use Rattle.ts_image.specs.declared.version.Version.{Version}
 use Rattle.std.specs.List.{AllByRecursion}

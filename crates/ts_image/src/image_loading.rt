@@ -6,11 +6,11 @@ ghost use Rattle.ts_image.specs.ImageReading.{image_of};
 ghost use Rattle.ts_image.specs.ImageLoading.{LoadsImage, LoadsStore, StandsAsSaved};
 ghost use Rattle.ts_image.specs.SettingsMade.{IsMadeIf};
 
-use crate::image_checks::is_rest_possible;
-use crate::image_reading::{ImageParts, read_parts};
+use crate::build::settings::make_settings;
+use crate::build::store::make_store;
+use crate::check::image::is_rest_possible;
 use crate::load_fault::LoadFault;
-use crate::settings_making::make_settings;
-use crate::store_making::make_store;
+use crate::read::image::{ImageParts, read_parts};
 use crate::version::Version;
 use std::alloc::{AllocError, Allocator};
 use std::hash::RandomState;

@@ -29,46 +29,28 @@
 //! ```
 #![tactic(auto)]
 
-mod cell_checks;
-mod cell_reading;
-mod cell_saving;
-mod cell_writing;
-mod column_reading;
-mod column_writing;
-mod count_checks;
+mod build;
+mod check;
 mod field_fault;
-mod field_reader;
-mod field_writing;
-mod image_checks;
 mod image_loading;
-mod image_reading;
 mod laws;
 mod load_fault;
-mod part_making;
-mod points_parts;
-mod rule_checks;
-mod rule_reading;
+mod read;
 mod save_fault;
 mod saving;
-mod series_checks;
-mod series_reading;
-mod series_saving;
-mod series_writing;
-mod settings_making;
-mod settings_writing;
-mod store_making;
 mod version;
+mod write;
 
-pub use cell_reading::{CellKeyParts, CellParts, ExtremesParts, MarksParts};
 pub use image_loading::{load, load_within};
-pub use image_reading::ImageParts;
 pub use laws::{
     images_are_exact, images_of_version_1_are_loaded, reloads, saved_images_are_possible,
 };
 pub use load_fault::LoadFault;
-pub use points_parts::PointsParts;
-pub use rule_reading::{RuleParts, SettingsParts};
+pub use read::cells::{CellKeyParts, CellParts, ExtremesParts, MarksParts};
+pub use read::image::ImageParts;
+pub use read::points::PointsParts;
+pub use read::rules::{RuleParts, SettingsParts};
+pub use read::series::{ColumnParts, KeyParts, SeriesParts};
 pub use save_fault::SaveFault;
 pub use saving::save;
-pub use series_reading::{ColumnParts, KeyParts, SeriesParts};
 pub use version::Version;

@@ -7,12 +7,12 @@ ghost use Rattle.ts_image.specs.Images.{image, image_mark, version_byte, image_t
 ghost use Rattle.ts_image.specs.FieldWriting.{PutsField};
 ghost use Rattle.ts_image.specs.Saving.{store_image, cell_counts, IsOrder, IsSaved};
 
-use crate::cell_saving::{count_all_cells, put_cells_from};
-use crate::field_writing::{put_u8, put_u64};
 use crate::save_fault::SaveFault;
-use crate::series_saving::put_counted_series;
-use crate::settings_writing::{put_marks, put_settings};
 use crate::version::MARK;
+use crate::write::fields::{put_u8, put_u64};
+use crate::write::settings::{put_marks, put_settings};
+use crate::write::store_cells::{count_all_cells, put_cells_from};
+use crate::write::store_series::put_counted_series;
 use std::alloc::Allocator;
 use std::io::Write;
 use ts_core::{OutputBuffer, Refused, Sink};
