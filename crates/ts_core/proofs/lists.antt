@@ -6,6 +6,7 @@ pub mod LastBelows
 pub mod NumberedLemmas
 -- lists and comparisons, for all others
 pub mod MembersLemmas
+pub mod BesideLemmas
 pub mod ListSteps
 pub mod Remaining
 pub mod Indices

@@ -3,18 +3,20 @@ use Rattle.std.proofs.Common.{◌≡◌, ℕ, ℤ, ◌+◌, ◌≤◌, ◌<ℤ�
 use Rattle.std.proofs.lemmas.List.{length-map, nil_from_length}
 use Rattle.std.specs.FinMap as finmap
 use Rattle.ts_core.specs.lists.Members.{Among}
+use Rattle.ts_core.specs.lists.Beside.{changed_beside}
 use Rattle.ts_core.specs.facts.Facts.{Column, Fact, Series}
 use Rattle.ts_core.specs.settings.Settings.{Rule}
 use Rattle.ts_core.specs.store.Cells.{Cell}
-use Rattle.ts_core.specs.moves.Runs.{batches_of, batches_left, steps_left, Falls, count_steps, last_left}
-use Rattle.ts_core.specs.store.StoreStates.{ColumnPoints, column_of, facts_of}
+use Rattle.ts_core.specs.moves.Runs.{batches_of, batches_left, expired_count, steps_left, Falls, count_steps, last_left}
+use Rattle.ts_core.specs.store.StoreStates.{ColumnPoints, RuleCells, column_of, facts_of}
 use Rattle.ts_core.specs.store.StoreData.{CellMap, StoreData, rules_of, state_of}
-use Rattle.ts_core.specs.moves.StoreMoves.{kept_points, points_below, all_moved, column_moved, raised, run_begun, run_ended, GainsEmptyCells, GainEmptyCells, grown, put_cells, PutsFacts, put_facts}
+use Rattle.ts_core.specs.moves.StoreMoves.{kept_points, points_below, moved_cells, column_moved, raised, run_begun, run_ended, GainsEmptyCells, GainEmptyCells, grown, put_cell, put_cells, PutsFacts, put_facts}
 use Rattle.ts_core.proofs.lists.MembersLemmas.{AllDistinct-filter, Among-filter_was, Among-filter_passes, Among-filter_stays}
 use Rattle.ts_core.proofs.aggregates.Folds.{length-same}
 use Rattle.ts_core.proofs.lists.Comparisons.{lt_from}
 use Rattle.ts_core.proofs.moves.StepStands.{keys_column}
-use Rattle.ts_core.proofs.moves.MovesStand.{keys_once, key_there, key_not, put_cell-keys}
+use Rattle.ts_core.proofs.moves.StepsLeft.{batches_left-same}
+use Rattle.ts_core.proofs.moves.MovesStand.{keys_once, key_there, key_not, put_cell-keys, GainsBeside, rules_changed}
 
 -- ---- cells with the same keys
 
@@ -25,21 +27,17 @@ BelowSame low m n = length (filter (λ (k : Cell). int_lt k.index low) (finmap.k
 below_by_keys : (low : ℤ) (m n : CellMap) → finmap.keys n ≡ finmap.keys m → BelowSame low m n
 below_by_keys low m n e = ap (λ ks. length (filter (λ (k : Cell). int_lt k.index low) ks)) e
 
-turns_moved : (rs : List Rule) (lows : List ℤ) (c : Column) (ps : List (ℤ × ℤ)) (left : List Fact) (ms : List CellMap) → batches_left (rules_of rs lows (all_moved rs c ps left ms)) ≡ batches_left (rules_of rs lows ms)
-turns_moved [] lows c ps left ms = refl
-turns_moved (r ∷ rs) [] c ps left ms = refl
-turns_moved (r ∷ rs) (low ∷ lows) c ps left [] = refl
-turns_moved (r ∷ rs) (low ∷ lows) c ps left (m ∷ ms) = ap₂ (λ a b. batches_of a + b) (below_by_keys low m _ (keys_column r c ps left m)) (turns_moved rs lows c ps left ms)
-
-turns_put : (rs : List Rule) (lows : List ℤ) (f : Fact) (facts : List Fact) (ms : List CellMap) → batches_left (rules_of rs lows (put_cells rs f facts ms)) ≡ batches_left (rules_of rs lows ms)
-turns_put [] lows f facts ms = refl
-turns_put (r ∷ rs) [] f facts ms = refl
-turns_put (r ∷ rs) (low ∷ lows) f facts [] = refl
-turns_put (r ∷ rs) (low ∷ lows) f facts (m ∷ ms) = ap₂ (λ a b. batches_of a + b) (below_by_keys low m _ (put_cell-keys r f facts m)) (turns_put rs lows f facts ms)
+-- each rule keeps its keys
+pub turns_beside : (f : Rule → CellMap → CellMap) → ((r : Rule) (m : CellMap) → finmap.keys (f r m) ≡ finmap.keys m) → (rs : List Rule) (lows : List ℤ) (ms : List CellMap)
+    → batches_left (rules_of rs lows (changed_beside f rs ms)) ≡ batches_left (rules_of rs lows ms)
+turns_beside f h [] lows ms = refl
+turns_beside f h (r ∷ rs) [] ms = refl
+turns_beside f h (r ∷ rs) (low ∷ lows) [] = refl
+turns_beside f h (r ∷ rs) (low ∷ lows) (m ∷ ms) = ap₂ (λ a b. batches_of a + b) (below_by_keys low m (f r m) (h r m)) (turns_beside f h rs lows ms)
 
 turns_line : (rs : List Rule) (lows : List ℤ) (fs : List Fact) (before after : List ColumnPoints) (ms ns : List CellMap) → PutsFacts rs before ms after ns fs → batches_left (rules_of rs lows ns) ≡ batches_left (rules_of rs lows ms)
 turns_line rs lows [] before after ms ns p = ap (λ xs. batches_left (rules_of rs lows xs)) p.1
-turns_line rs lows (f ∷ fs) before after ms ns p = turns_line rs lows fs p.0 after (put_cells rs f (facts_of p.0) ms) ns p.2 ∙ turns_put rs lows f (facts_of p.0) ms
+turns_line rs lows (f ∷ fs) before after ms ns p = turns_line rs lows fs p.0 after (put_cells rs f (facts_of p.0) ms) ns p.2 ∙ turns_beside (λ (r : Rule). put_cell r f (facts_of p.0)) (λ r. put_cell-keys r f (facts_of p.0)) rs lows ms
 
 -- ---- room
 
@@ -58,12 +56,8 @@ module _ (r : Rule) (low : ℤ) (facts : List Fact) (m n : CellMap) (spare : Gai
       (below_of n m (λ k l. sym (spare.above k l))) (below_of m n spare.above)
 
 turns_roomed : (rs : List Rule) (lows : List ℤ) (facts : List Fact) (ms ns : List CellMap) → GainEmptyCells rs lows facts ms ns → batches_left (rules_of rs lows ns) ≡ batches_left (rules_of rs lows ms)
-turns_roomed [] lows facts ms ns e = refl
-turns_roomed (r ∷ rs) [] facts ms ns e = refl
-turns_roomed (r ∷ rs) (low ∷ lows) facts [] [] e = refl
-turns_roomed (r ∷ rs) (low ∷ lows) facts [] (n ∷ ns) e = absurd e
-turns_roomed (r ∷ rs) (low ∷ lows) facts (m ∷ ms) [] e = absurd e
-turns_roomed (r ∷ rs) (low ∷ lows) facts (m ∷ ms) (n ∷ ns) e = ap₂ (λ a b. batches_of a + b) (below_roomed r low facts m n e.0) (turns_roomed rs lows facts ms ns e.1)
+turns_roomed rs lows facts ms ns e =
+    batches_left-same (rules_of rs lows ms) (rules_of rs lows ns) (rules_changed (GainsBeside facts) (λ (x y : RuleCells). expired_count y ≡ expired_count x) (λ r low m n spare. below_roomed r low facts m n spare) rs lows ms ns e)
 
 -- ---- the moves
 
@@ -79,7 +73,8 @@ left-moves k c ps rest e w =
     let a = left_open k e in
     let b = left_open (column_moved c ps rest k) e in
     let n : length k.waiting ≡ length rest + 1 = ap (λ (ws : List Column). length ws) w ∙ (let m : length (c ∷ rest) ≡ length rest + 1 = omega arith in m) in
-    let t = turns_moved k.settings.rules k.marks.lows c (points_below k.marks.raw ps) (facts_of (map (kept_points c k.marks.raw) k.columns)) k.cells in
+    let left : List Fact = facts_of (map (kept_points c k.marks.raw) k.columns) in
+    let t = turns_beside (λ (r : Rule). moved_cells r c (points_below k.marks.raw ps) left) (λ r. keys_column r c (points_below k.marks.raw ps) left) k.settings.rules k.marks.lows k.cells in
     omega arith
 
 pub left-ends : (k : StoreData) → k.running ≡ true → k.waiting ≡ [] → batches_left (rules_of k.settings.rules k.marks.lows k.cells) ≡ 0 → (steps_left (state_of k) ≡ 1) × (steps_left (state_of (run_ended k)) ≡ 0)

@@ -17,8 +17,9 @@ use Rattle.ts_core.specs.store.Cells.{Cell, cell_cmp, same_cell, cell_of, is_rol
 use Rattle.ts_core.specs.lists.Changes.{or_else}
 use Rattle.ts_core.specs.store.StoreStates.{ColumnPoints, CellParts, StandsFor, HasCells, column_of, rule_of, facts_of}
 use Rattle.ts_core.specs.store.StoreData.{CellMap, StoreData, no_parts, rule_cells, rules_of, state_of, IsLive, AreLive}
-use Rattle.ts_core.specs.moves.StoreMoves.{moved_cells, all_moved, points_below, AreOf, GainsEmptyCells, GainEmptyCells, put_cell, put_cells, PutsFact, PutsFacts}
+use Rattle.ts_core.specs.moves.StoreMoves.{moved_cells, all_moved, points_below, IsOf, AreOf, GainsEmptyCells, GainEmptyCells, put_cell, put_cells, PutsFact, PutsFacts}
 use Rattle.ts_core.proofs.lists.MembersLemmas.{no_members, Among-filter_was, Among-filter_passes}
+use Rattle.ts_core.proofs.lists.BesideLemmas.{OfEach-map, OfEach-changed, OfEach-beside}
 use Rattle.ts_core.proofs.plans.PieceCells.{same_cell-eq}
 use Rattle.ts_core.proofs.store.Cuts.{Holds}
 use Rattle.ts_core.proofs.store.Moves.{left_points}
@@ -28,16 +29,11 @@ use Rattle.ts_core.proofs.moves.StepStands.{live_moved, keys_column}
 use Rattle.ts_core.proofs.moves.MovesStand.{key_there, key_not, put_here, put_else, put_cell-keys, elsewhere}
 
 pub no_live : (columns : List ColumnPoints) (rs : List Rule) → AreLive columns rs (map (λ (r : Rule). finmap.empty) rs)
-no_live columns [] = tt
-no_live columns (r ∷ rs) = (λ k p e. absurd (none-some p (sym (get-empty cell_cmp k) ∙ e)), no_live columns rs)
+no_live columns rs = OfEach-map (IsLive columns) (λ (r : Rule). finmap.empty) (λ r k p e. absurd (none-some p (sym (get-empty cell_cmp k) ∙ e))) rs
 
 -- cells that go
 pub lives_go : (columns : List ColumnPoints) (rs : List Rule) (ms ns : List CellMap) → AreOf ms ns → AreLive columns rs ms → AreLive columns rs ns
-lives_go columns [] ms ns e a = tt
-lives_go columns (r ∷ rs) [] [] e a = tt
-lives_go columns (r ∷ rs) [] (n ∷ ns) e a = absurd e
-lives_go columns (r ∷ rs) (m ∷ ms) [] e a = tt
-lives_go columns (r ∷ rs) (m ∷ ms) (n ∷ ns) e a = (λ k p s. a.0 k p (e.0 k p s), lives_go columns rs ms ns e.1 a.1)
+lives_go columns rs ms ns e a = OfEach-changed (IsLive columns) IsOf (IsLive columns) (λ r m n c l k p s. l k p (c k p s)) rs ms ns e a
 
 -- a cell that is in one of two maps with the same keys
 some_of : (m n : CellMap) (k : Cell) (p : CellParts) → finmap.keys n ≡ finmap.keys m → finmap.get n k ≡ Some p → (a : CellParts) × (finmap.get m k ≡ Some a)
@@ -58,9 +54,7 @@ module _ (c : Column) (mark : ℤ) (before : List ColumnPoints) (ps : List (ℤ 
 
   -- a column is moved
   pub lives_left : (rs : List Rule) (ms : List CellMap) → AreLive before rs ms → AreLive left_columns rs (all_moved rs c (points_below mark ps) (facts_of left_columns) ms)
-  lives_left [] ms a = tt
-  lives_left (r ∷ rs) [] a = tt
-  lives_left (r ∷ rs) (m ∷ ms) a = (live_left r m a.0, lives_left rs ms a.1)
+  lives_left rs ms a = OfEach-beside (IsLive before) (IsLive left_columns) (λ (r : Rule). moved_cells r c (points_below mark ps) (facts_of left_columns)) live_left rs ms a
 
 -- ---- room
 
@@ -111,9 +105,7 @@ live_put before after f d p r m a k q s =
     ] refl
 
 lives_put : (before after : List ColumnPoints) (f : Fact) → AllDistinct (facts_of before) → PutsFact before after f → (rs : List Rule) (ms : List CellMap) → AreLive before rs ms → AreLive after rs (put_cells rs f (facts_of after) ms)
-lives_put before after f d p [] ms a = tt
-lives_put before after f d p (r ∷ rs) [] a = tt
-lives_put before after f d p (r ∷ rs) (m ∷ ms) a = (live_put before after f d p r m a.0, lives_put before after f d p rs ms a.1)
+lives_put before after f d p rs ms a = OfEach-beside (IsLive before) (IsLive after) (λ (r : Rule). put_cell r f (facts_of after)) (live_put before after f d p) rs ms a
 
 -- a line is put
 pub lives_line : (rs : List Rule) (fs : List Fact) (before after : List ColumnPoints) (ms ns : List CellMap) → AllDistinct (facts_of before) → PutsFacts rs before ms after ns fs → AreLive before rs ms → AreLive after rs ns

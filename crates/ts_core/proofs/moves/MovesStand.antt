@@ -1,11 +1,12 @@
 -- The other transitions, on a store's content.
 use Rattle.std.proofs.Common.{◌≡◌, ℤ, ◌≤ℤ◌, true, false, cond, not, ◌&&◌, List, [], ◌∷◌, filter, map, refl, sym, ◌∙◌, ap, subst, inl, inr, ◌⊎◌, ⊎_elim, true≢false, Some, None, is_eq, T}
 use Rattle.std.specs.Int.{int_max}
-use Rattle.std.specs.List.{AllByRecursion}
+use Rattle.std.specs.List.{AllByRecursion, AllZip, zip}
 use Rattle.std.specs.FinMap as finmap
 use Rattle.std.specs.FinMap.{find, is_sorted, get-entries, entries_sorted}
 use Rattle.std.specs.FinMap.Entries.{below_all}
 use Rattle.ts_core.specs.lists.Members.{Among, AllDistinct}
+use Rattle.ts_core.specs.lists.Beside.{OfEach, AllZipBeside}
 use Rattle.ts_core.specs.facts.Facts.{Series, Column, Fact, Id, id_of, same_id}
 use Rattle.ts_core.specs.settings.Settings.{Rule, Settings}
 use Rattle.ts_core.specs.store.History.{History, Begin, Step, kept_since}
@@ -21,22 +22,22 @@ use Rattle.ts_core.proofs.plans.PieceCells.{same_cell-eq, same_cell-refl}
 use Rattle.ts_core.proofs.facts.Ids.{same_id-eq}
 use Rattle.ts_core.proofs.lists.Places.{both_of, less_of}
 use Rattle.ts_core.proofs.store.Cuts.{one_fact}
-use Rattle.ts_core.proofs.store.Moves.{AllTwo, IsRaised, IsExpired, IsWritten, FactsToo}
-use Rattle.ts_core.proofs.store.StateLemmas.{cons_not, same_rest}
+use Rattle.ts_core.proofs.store.Moves.{IsRaised, IsExpired, IsWritten, FactsToo}
+use Rattle.ts_core.proofs.store.StateLemmas.{AllZip-all, AllZip-maps, cons_not, same_rest}
 use Rattle.ts_core.proofs.store.Begins.{begin_stands}
 use Rattle.ts_core.proofs.store.RunSteps.{expire_stands, close_stands}
 use Rattle.ts_core.proofs.store.Writes.{is_other}
 use Rattle.ts_core.specs.store.TwoParts.{with_live}
 use Rattle.ts_core.specs.lists.Changes.{or_else}
 use Rattle.std.proofs.lemmas.Bool.{and_parts}
-use Rattle.ts_core.specs.store.StoreData.{CellMap, no_parts, StoreData, rules_of, state_of}
-use Rattle.ts_core.specs.moves.StoreMoves.{raised, run_begun, Expired, with_cells, run_ended, GainEmptyCells, grown, refolded, put_cell, put_cells, PutsFact}
+use Rattle.ts_core.specs.store.StoreData.{CellMap, no_parts, StoreData, rule_cells, rules_of, state_of}
+use Rattle.ts_core.specs.moves.StoreMoves.{raised, run_begun, Expired, with_cells, run_ended, GainsEmptyCells, GainEmptyCells, grown, refolded, put_cell, put_cells, PutsFact}
 use Rattle.ts_core.proofs.moves.Freezing.{frozen_in, live_in, changed_as, changed_here, changed_else, keys_changed}
 use Rattle.ts_core.proofs.moves.StepStands.{find_among, same_flip}
 
 -- ---- begin
 
-raised_rules : (now : ℤ) (rs : List Rule) (lows : List ℤ) (ms : List CellMap) → AllTwo (IsRaised now) (rules_of rs lows ms) (rules_of rs (raised now rs lows) ms)
+raised_rules : (now : ℤ) (rs : List Rule) (lows : List ℤ) (ms : List CellMap) → AllZip (IsRaised now) (rules_of rs lows ms) (rules_of rs (raised now rs lows) ms)
 raised_rules now [] lows ms = tt
 raised_rules now (r ∷ rs) [] ms = tt
 raised_rules now (r ∷ rs) (low ∷ lows) [] = tt
@@ -96,7 +97,7 @@ key_not m k a e = find_among k (finmap.entries m) a (sym (get-entries m k) ∙ e
 
 -- ---- expiry
 
-expired_rules : (rs : List Rule) (lows : List ℤ) (ms ns : List CellMap) → Expired lows ms ns → AllTwo IsExpired (rules_of rs lows ms) (rules_of rs lows ns)
+expired_rules : (rs : List Rule) (lows : List ℤ) (ms ns : List CellMap) → Expired lows ms ns → AllZip IsExpired (rules_of rs lows ms) (rules_of rs lows ns)
 expired_rules [] lows ms ns e = tt
 expired_rules (r ∷ rs) [] ms ns e = tt
 expired_rules (r ∷ rs) (low ∷ lows) [] [] e = tt
@@ -121,38 +122,38 @@ run_ends opening h k st e = close_stands opening h (state_of k) st e
 
 -- ---- what has grown
 
-grown_cells : (cut : Column → ℤ) (fs facts : List Fact) (rs : List Rule) (lows : List ℤ) (ms ns : List CellMap) → GainEmptyCells rs lows facts ms ns
-    → AllByRecursion (HasCells cut fs) (rules_of rs lows ms) → AllByRecursion (HasCells cut fs) (rules_of rs lows ns)
-grown_cells cut fs facts [] lows ms ns e a = tt
-grown_cells cut fs facts (r ∷ rs) [] ms ns e a = tt
-grown_cells cut fs facts (r ∷ rs) (low ∷ lows) [] [] e a = tt
-grown_cells cut fs facts (r ∷ rs) (low ∷ lows) [] (n ∷ ns) e a = absurd e
-grown_cells cut fs facts (r ∷ rs) (low ∷ lows) (m ∷ ms) [] e a = tt
-grown_cells cut fs facts (r ∷ rs) (low ∷ lows) (m ∷ ms) (n ∷ ns) e a = (
-  record {
-    once = keys_once n;
-    there = λ f b t l. key_there n (cell_of r f) (λ z. key_not m (cell_of r f) (a.0.there f b t l) (e.0.stays (cell_of r f) z));
-    frozen = λ k l. ap (λ (p : CellParts). p.frozen) (e.0.parts k) ∙ a.0.frozen k l;
-    live = λ k l. ap (λ (p : CellParts). p.live) (e.0.parts k) ∙ a.0.live k l;
-  },
-  grown_cells cut fs facts rs lows ms ns e.1 a.1,
-)
+-- the cells of each rule change
+module _ (C : Rule × ℤ → CellMap → CellMap → Type 0) where
+  pub rules_changed : (R : RuleCells → RuleCells → Type 0) → ((r : Rule) (low : ℤ) (m n : CellMap) → C (r, low) m n → R (rule_cells r low m) (rule_cells r low n))
+      → (rs : List Rule) (lows : List ℤ) (ms ns : List CellMap) → AllZipBeside C (zip rs lows) ms ns → AllZip R (rules_of rs lows ms) (rules_of rs lows ns)
+  rules_changed R h [] lows ms ns e = tt
+  rules_changed R h (r ∷ rs) [] ms ns e = tt
+  rules_changed R h (r ∷ rs) (low ∷ lows) [] [] e = tt
+  rules_changed R h (r ∷ rs) (low ∷ lows) [] (n ∷ ns) e = absurd e
+  rules_changed R h (r ∷ rs) (low ∷ lows) (m ∷ ms) [] e = absurd e
+  rules_changed R h (r ∷ rs) (low ∷ lows) (m ∷ ms) (n ∷ ns) e = (h r low m n e.0, rules_changed R h rs lows ms ns e.1)
 
-rules_same : (rs : List Rule) (lows : List ℤ) (facts : List Fact) (ms ns : List CellMap) → GainEmptyCells rs lows facts ms ns → map rule_of (rules_of rs lows ns) ≡ map rule_of (rules_of rs lows ms)
-rules_same [] lows facts ms ns e = refl
-rules_same (r ∷ rs) [] facts ms ns e = refl
-rules_same (r ∷ rs) (low ∷ lows) facts [] [] e = refl
-rules_same (r ∷ rs) (low ∷ lows) facts [] (n ∷ ns) e = absurd e
-rules_same (r ∷ rs) (low ∷ lows) facts (m ∷ ms) [] e = absurd e
-rules_same (r ∷ rs) (low ∷ lows) facts (m ∷ ms) (n ∷ ns) e = ap (λ xs. r ∷ xs) (rules_same rs lows facts ms ns e.1)
+  pub rules_same : {X : Type 0} (f : RuleCells → X) → ((r : Rule) (low : ℤ) (m n : CellMap) → f (rule_cells r low m) ≡ f (rule_cells r low n)) → (rs : List Rule) (lows : List ℤ) (ms ns : List CellMap)
+      → AllZipBeside C (zip rs lows) ms ns → map f (rules_of rs lows ns) ≡ map f (rules_of rs lows ms)
+  rules_same f same rs lows ms ns e =
+      sym (AllZip-maps (λ (x y : RuleCells). f x ≡ f y) f f (λ x y h. h) (rules_of rs lows ms) (rules_of rs lows ns) (rules_changed (λ (x y : RuleCells). f x ≡ f y) (λ r low m n c. same r low m n) rs lows ms ns e))
 
-lows_same : (rs : List Rule) (lows : List ℤ) (facts : List Fact) (ms ns : List CellMap) → GainEmptyCells rs lows facts ms ns → map lowest_of (rules_of rs lows ns) ≡ map lowest_of (rules_of rs lows ms)
-lows_same [] lows facts ms ns e = refl
-lows_same (r ∷ rs) [] facts ms ns e = refl
-lows_same (r ∷ rs) (low ∷ lows) facts [] [] e = refl
-lows_same (r ∷ rs) (low ∷ lows) facts [] (n ∷ ns) e = absurd e
-lows_same (r ∷ rs) (low ∷ lows) facts (m ∷ ms) [] e = absurd e
-lows_same (r ∷ rs) (low ∷ lows) facts (m ∷ ms) (n ∷ ns) e = ap (λ xs. low ∷ xs) (lows_same rs lows facts ms ns e.1)
+  pub rules_keep : (P Q : RuleCells → Type 0) → ((r : Rule) (low : ℤ) (m n : CellMap) → C (r, low) m n → P (rule_cells r low m) → Q (rule_cells r low n)) → (rs : List Rule) (lows : List ℤ) (ms ns : List CellMap)
+      → AllZipBeside C (zip rs lows) ms ns → AllByRecursion P (rules_of rs lows ms) → AllByRecursion Q (rules_of rs lows ns)
+  rules_keep P Q h rs lows ms ns e a =
+      AllZip-all (λ (x y : RuleCells). P x → Q y) P Q (λ x y k. k) (rules_of rs lows ms) (rules_of rs lows ns) (rules_changed (λ (x y : RuleCells). P x → Q y) h rs lows ms ns e) a
+
+-- a rule gains empty cells of these facts
+abbrev pub GainsBeside : List Fact → Rule × ℤ → CellMap → CellMap → Type 0
+GainsBeside facts x m n = GainsEmptyCells x.0 x.1 facts m n
+
+grown_cells : (cut : Column → ℤ) (fs facts : List Fact) (r : Rule) (low : ℤ) (m n : CellMap) → GainsEmptyCells r low facts m n → HasCells cut fs (rule_cells r low m) → HasCells cut fs (rule_cells r low n)
+grown_cells cut fs facts r low m n e a = record {
+  once = keys_once n;
+  there = λ f b t l. key_there n (cell_of r f) (λ z. key_not m (cell_of r f) (a.there f b t l) (e.stays (cell_of r f) z));
+  frozen = λ k l. ap (λ (p : CellParts). p.frozen) (e.parts k) ∙ a.frozen k l;
+  live = λ k l. ap (λ (p : CellParts). p.live) (e.parts k) ∙ a.live k l;
+}
 
 pub grows : (opening : Settings) (h : History) (k : StoreData) (series : List Series) (columns : List ColumnPoints) (ms : List CellMap) (facts : List Fact) → StandsFor opening h (state_of k)
     → AllDistinct (map column_of columns) → ((c : Column) → Among c (map column_of k.columns) → Among c (map column_of columns)) → ((c : Column) → Among c (map column_of columns) → Among c.series series)
@@ -171,9 +172,11 @@ grows opening h k series columns ms facts st once stay registered same spare = r
   registered = registered;
   once = subst AllDistinct (sym same) st.once;
   raw = λ f. (λ a. (st.raw f).0 (subst (Among f) same a), λ a. subst (Among f) (sym same) ((st.raw f).1 a));
-  rules = rules_same k.settings.rules k.marks.lows facts k.cells ms spare ∙ st.rules;
-  lows = lows_same k.settings.rules k.marks.lows facts k.cells ms spare ∙ st.lows;
-  rolled = grown_cells (kept_from opening h k.waiting) (latest_of h) facts k.settings.rules k.marks.lows k.cells ms spare st.rolled;
+  rules = rules_same (GainsBeside facts) rule_of (λ r low m n. refl) k.settings.rules k.marks.lows k.cells ms spare ∙ st.rules;
+  lows = rules_same (GainsBeside facts) lowest_of (λ r low m n. refl) k.settings.rules k.marks.lows k.cells ms spare ∙ st.lows;
+  rolled =
+      let cut : Column → ℤ = kept_from opening h k.waiting in
+      rules_keep (GainsBeside facts) (HasCells cut (latest_of h)) (HasCells cut (latest_of h)) (grown_cells cut (latest_of h) facts) k.settings.rules k.marks.lows k.cells ms spare st.rolled;
 }
 
 -- ---- facts are put
@@ -214,10 +217,7 @@ pub record HasCellsOf (r : Rule) (low : ℤ) (facts : List Fact) (m : CellMap) :
   pub there : (f : Fact) → Among f facts → is_rolled r f ≡ true → low ≤ℤ (cell_of r f).index → finmap.get m (cell_of r f) ≡ None → ⊥
 
 abbrev pub HaveCellsOf : List Rule → List ℤ → List Fact → List CellMap → Type 0
-HaveCellsOf [] lows facts ms = Unit {0}
-HaveCellsOf (r ∷ rs) [] facts ms = Unit {0}
-HaveCellsOf (r ∷ rs) (low ∷ lows) facts [] = Unit {0}
-HaveCellsOf (r ∷ rs) (low ∷ lows) facts (m ∷ ms) = HasCellsOf r low facts m × HaveCellsOf rs lows facts ms
+HaveCellsOf rs lows facts = OfEach (λ (x : Rule × ℤ). HasCellsOf x.0 x.1 facts) (zip rs lows)
 
 pub room_cells : (rs : List Rule) (lows : List ℤ) (facts : List Fact) (ms ns : List CellMap) → GainEmptyCells rs lows facts ms ns → HaveCellsOf rs lows facts ns
 room_cells [] lows facts ms ns e = tt
@@ -271,7 +271,7 @@ put_else r f facts m k t =
     ] t
 
 pub written_rules : (after : List ColumnPoints) (f : Fact) (facts : List Fact) → Among f facts → (rs : List Rule) (lows : List ℤ) (ms : List CellMap) → HaveCellsOf rs lows facts ms
-    → AllTwo (IsWritten f after) (rules_of rs lows ms) (rules_of rs lows (put_cells rs f (facts_of after) ms))
+    → AllZip (IsWritten f after) (rules_of rs lows ms) (rules_of rs lows (put_cells rs f (facts_of after) ms))
 written_rules after f facts a [] lows ms e = tt
 written_rules after f facts a (r ∷ rs) [] [] e = tt
 written_rules after f facts a (r ∷ rs) [] (m ∷ ms) e = tt

@@ -17,8 +17,8 @@ use Rattle.ts_core.specs.aggregates.Aggregates.{empty_aggregate, aggregate_of}
 use Rattle.ts_core.specs.store.Cells.{Cell, same_cell, cell_of, is_rolled, is_in_cell, total_of}
 use Rattle.ts_core.specs.lists.Changes.{or_else}
 use Rattle.ts_core.specs.moves.Runs.{batches_of, batches_left, steps_left}
-use Rattle.ts_core.specs.store.StoreStates.{ColumnPoints, RuleCells, StandsFor, lowest_of, facts_of}
-use Rattle.ts_core.specs.store.StoreData.{CellMap, StoreData, no_parts, rule_cells, rules_of, state_of, IsLive, AreLive}
+use Rattle.ts_core.specs.store.StoreStates.{RuleCells, StandsFor, lowest_of, facts_of}
+use Rattle.ts_core.specs.store.StoreData.{CellMap, StoreData, no_parts, rule_cells, rules_of, state_of}
 use Rattle.ts_core.specs.moves.RuleMoves.{IsFresh, IsEven, kept_beside, rule_added, rule_dropped}
 use Rattle.ts_core.proofs.lists.MembersLemmas.{no_members, Among-filter_was, Among-filter_passes}
 use Rattle.ts_core.proofs.plans.PieceCells.{same_cell-eq}
@@ -70,10 +70,6 @@ rule_comes opening h k r m st even well fresh =
 
 -- ---- a rule is dropped
 
-none_live : (columns : List ColumnPoints) (rs : List Rule) → AreLive columns rs []
-none_live columns [] = tt
-none_live columns (r ∷ rs) = tt
-
 module _ (p : Rule → Bool) where
   abbrev passes : RuleCells → Bool
   passes r = p r.rule
@@ -108,15 +104,6 @@ module _ (p : Rule → Bool) where
       let rest = beside_length rs xs (omega arith) in
       elim (p r) as (λ c. length (cond c (x ∷ kept_beside p rs xs) (kept_beside p rs xs)) ≡ length (cond c (r ∷ filter p rs) (filter p rs))) [ true ↦ omega arith | false ↦ rest ]
 
-  pub lives_kept : (columns : List ColumnPoints) (rs : List Rule) (ms : List CellMap) → AreLive columns rs ms → AreLive columns (filter p rs) (kept_beside p rs ms)
-  lives_kept columns [] ms a = tt
-  lives_kept columns (r ∷ rs) [] a = none_live columns (filter p (r ∷ rs))
-  lives_kept columns (r ∷ rs) (m ∷ ms) a =
-      elim (p r) as (λ c. AreLive columns (cond c (r ∷ filter p rs) (filter p rs)) (cond c (m ∷ kept_beside p rs ms) (kept_beside p rs ms))) [
-        | true ↦ (a.0, lives_kept columns rs ms a.1)
-        | false ↦ lives_kept columns rs ms a.1
-      ]
-
   turns_kept : (rs : List RuleCells) → batches_left (filter passes rs) ≤ batches_left rs
   turns_kept [] = omega arith
   turns_kept (r ∷ rs) =
@@ -139,12 +126,6 @@ rule_goes opening h k name st even named =
     (dropped_stands opening h (state_of k) name st named)
 
 -- ---- what is kept beside
-
-pub lives_push : (columns : List ColumnPoints) (rs : List Rule) (ms : List CellMap) (r : Rule) (m : CellMap) → length ms ≡ length rs → IsLive columns r m → AreLive columns rs ms → AreLive columns (rs ++ r ∷ []) (ms ++ m ∷ [])
-lives_push columns [] [] r m e l a = (l, tt)
-lives_push columns [] (x ∷ ms) r m e l a = absurd (omega arith)
-lives_push columns (q ∷ rs) [] r m e l a = absurd (omega arith)
-lives_push columns (q ∷ rs) (x ∷ ms) r m e l a = (a.0, lives_push columns rs ms r m (omega arith) l a.1)
 
 -- no cell is below the low index
 none_expired : (r : Rule) (low : ℤ) (facts : List Fact) (m : CellMap) → IsFresh r low facts m → length (filter (λ (k : Cell). int_lt k.index low) (finmap.keys m)) ≡ 0

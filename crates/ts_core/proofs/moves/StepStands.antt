@@ -1,6 +1,6 @@
 -- A step that moves a column, on a store's content.
 use Rattle.std.proofs.Common.{◌≡◌, ℤ, ◌+◌, ◌≤◌, ◌^◌, Bool, true, false, cond, not, ◌&&◌, ◌||◌, List, [], ◌∷◌, length, filter, map, refl, sym, ◌∙◌, ap, subst, inl, inr, ⊎_elim, true≢false, int_lt, arith, Option, Some, None, ◌≤ℤ◌, is_some}
-use Rattle.std.specs.List.{AllByRecursion}
+use Rattle.std.specs.List.{AllByRecursion, AllZip}
 use Rattle.std.specs.FinMap as finmap
 use Rattle.std.specs.FinMap.{find, get-entries}
 use Rattle.std.proofs.lemmas.Option.{none-some}
@@ -20,7 +20,7 @@ use Rattle.ts_core.proofs.plans.PieceCells.{same_cell-eq, same_cell-refl}
 use Rattle.ts_core.proofs.lists.Comparisons.{same_bool}
 use Rattle.ts_core.proofs.facts.Latests.{latest-distinct}
 use Rattle.ts_core.proofs.store.Cuts.{aggregate_where, one_fact, Holds, total_of-parts, live_of-held}
-use Rattle.ts_core.proofs.store.Moves.{AllTwo, IsMoved, is_left, left_points, columns_left}
+use Rattle.ts_core.proofs.store.Moves.{IsMoved, is_left, left_points, columns_left}
 use Rattle.ts_core.proofs.store.ColumnFacts.{facts_of-there}
 use Rattle.ts_core.proofs.lists.ListSteps.{length-filter}
 use Rattle.ts_core.proofs.store.StateLemmas.{cons_not, StandsFor-Holds}
@@ -237,7 +237,7 @@ rule_moved opening h lawful cut c mark before ps once there held r low m has =
 
 rules_moved : (opening : Settings) (h : History) → IsLawful opening h → (cut : Column → ℤ) (c : Column) (mark : ℤ) (before : List ColumnPoints) (ps : List (ℤ × ℤ)) → AllDistinct (map column_of before) → Among (record { column = c; points = ps }) before
     → Holds cut (latest_of h) (facts_of before) → (rs : List Rule) (lows : List ℤ) (ms : List CellMap) → AllByRecursion (HasCells cut (latest_of h)) (rules_of rs lows ms)
-    → AllTwo (IsMoved c mark before (map (left_points c mark) before)) (rules_of rs lows ms) (rules_of rs lows (all_moved rs c (points_below mark ps) (facts_of (map (left_points c mark) before)) ms))
+    → AllZip (IsMoved c mark before (map (left_points c mark) before)) (rules_of rs lows ms) (rules_of rs lows (all_moved rs c (points_below mark ps) (facts_of (map (left_points c mark) before)) ms))
 rules_moved opening h lawful cut c mark before ps once there held [] lows ms a = tt
 rules_moved opening h lawful cut c mark before ps once there held (r ∷ rs) [] [] a = tt
 rules_moved opening h lawful cut c mark before ps once there held (r ∷ rs) [] (m ∷ ms) a = tt

@@ -1,17 +1,18 @@
 -- The number of steps left: a begin lets all columns wait, each step of a run lowers it by one, and a write leaves it.
 use Rattle.std.proofs.Common.{◌≡◌, ℕ, ℤ, ◌+◌, ◌-◌, ◌<◌, true, cond, List, [], ◌∷◌, ◌++◌, length, filter, arith, refl, sym, ap, ap₂, ◌∙◌, int_lt}
+use Rattle.std.specs.List.{AllZip}
 use Rattle.std.proofs.lemmas.List.{length-map}
 use Rattle.ts_core.specs.facts.Facts.{Series, Column}
 use Rattle.ts_core.specs.store.Cells.{Cell}
 use Rattle.ts_core.specs.store.StoreStates.{ColumnPoints, RuleCells, StoreState, column_of}
 use Rattle.ts_core.specs.moves.Runs.{batches_of, expired_count, batches_left, steps_left}
-use Rattle.ts_core.proofs.store.Moves.{AllTwo, begun, IsMoved, columns_left, moved, expired, closed, written}
+use Rattle.ts_core.proofs.store.Moves.{begun, IsMoved, columns_left, moved, expired, closed, written}
 
 -- 256 fewer, or none, are one batch fewer
 batches_of-less : (n : ℕ) → 0 < n → batches_of n ≡ batches_of (n - 256) + 1
 batches_of-less n h = omega arith
 
-pub batches_left-same : (rs after : List RuleCells) → AllTwo (λ (r y : RuleCells). expired_count y ≡ expired_count r) rs after → batches_left after ≡ batches_left rs
+pub batches_left-same : (rs after : List RuleCells) → AllZip (λ (r y : RuleCells). expired_count y ≡ expired_count r) rs after → batches_left after ≡ batches_left rs
 batches_left-same [] [] t = refl
 batches_left-same [] (y ∷ ys) t = absurd t
 batches_left-same (r ∷ rs) [] t = absurd t
@@ -29,7 +30,7 @@ left_open s e = ap (λ b. cond b (length s.waiting + batches_left s.rules + 1) 0
 pub steps_left-begin : (s : StoreState) (now : ℤ) (after : List RuleCells) → steps_left (begun now after s) ≡ length s.columns + batches_left after + 1
 steps_left-begin s now after = ap (λ n. n + batches_left after + 1) (length-map s.columns column_of)
 
-same_counts : (c : Column) (mark : ℤ) (before after : List ColumnPoints) (rs ys : List RuleCells) → AllTwo (IsMoved c mark before after) rs ys → AllTwo (λ (r y : RuleCells). expired_count y ≡ expired_count r) rs ys
+same_counts : (c : Column) (mark : ℤ) (before after : List ColumnPoints) (rs ys : List RuleCells) → AllZip (IsMoved c mark before after) rs ys → AllZip (λ (r y : RuleCells). expired_count y ≡ expired_count r) rs ys
 same_counts c mark before after [] [] t = tt
 same_counts c mark before after [] (y ∷ ys) t = absurd t
 same_counts c mark before after (r ∷ rs) [] t = absurd t
@@ -37,7 +38,7 @@ same_counts c mark before after (r ∷ rs) (y ∷ ys) t =
     (ap₂ (λ (low : ℤ) ks. length (filter (λ (k : Cell). int_lt k.index low) ks)) (sym t.0.low) (sym t.0.cells), same_counts c mark before after rs ys t.1)
 
 -- a column moved
-pub steps_left-move : (s : StoreState) (c : Column) (rest : List Column) (after : List RuleCells) → s.running ≡ true → s.waiting ≡ c ∷ rest → AllTwo (IsMoved c s.marks.raw s.columns (columns_left c s)) s.rules after
+pub steps_left-move : (s : StoreState) (c : Column) (rest : List Column) (after : List RuleCells) → s.running ≡ true → s.waiting ≡ c ∷ rest → AllZip (IsMoved c s.marks.raw s.columns (columns_left c s)) s.rules after
     → steps_left s ≡ steps_left (moved c rest after s) + 1
 steps_left-move s c rest after e w t =
     let a = left_open s e in
@@ -72,6 +73,6 @@ batches_left-none [] r vs e = omega arith
 batches_left-none (u ∷ us) r vs e = batches_left-none us r vs (omega arith)
 
 -- a write adds no cell below a low index
-pub steps_left-write : (s : StoreState) (series : List Series) (columns : List ColumnPoints) (rules : List RuleCells) → AllTwo (λ (r y : RuleCells). expired_count y ≡ expired_count r) s.rules rules
+pub steps_left-write : (s : StoreState) (series : List Series) (columns : List ColumnPoints) (rules : List RuleCells) → AllZip (λ (r y : RuleCells). expired_count y ≡ expired_count r) s.rules rules
     → steps_left (written series columns rules s) ≡ steps_left s
 steps_left-write s series columns rules t = ap (λ n. cond s.running (length s.waiting + n + 1) 0) (batches_left-same s.rules rules t)

@@ -1,5 +1,6 @@
 -- The effect of a begin: it leaves the points of the columns, and both parts of each cell.
 use Rattle.std.proofs.Common.{◌≡◌, ℤ, false, cond, List, [], ◌∷◌, map, refl, sym, ◌∙◌, ap, ap₂, subst, true≢false, int_le, ◌≤ℤ◌}
+use Rattle.std.specs.List.{AllZip}
 use Rattle.std.specs.Int.{int_max}
 use Rattle.ts_core.specs.lists.Members.{Among, AllDistinct}
 use Rattle.ts_core.specs.facts.Facts.{Column, Fact}
@@ -11,8 +12,8 @@ use Rattle.ts_core.specs.store.RawFacts.{is_waiting, earlier_mark, kept_from, is
 use Rattle.ts_core.specs.store.Cells.{cell_of}
 use Rattle.ts_core.specs.store.StoreStates.{RuleCells, StoreState, StandsFor, HasCells, column_of, rule_of, lowest_of, facts_of}
 use Rattle.ts_core.proofs.store.Cuts.{CutsAgree, frozen_of-agree, live_of-agree, Holds-agree}
-use Rattle.ts_core.proofs.store.Moves.{AllTwo, IsRaised, begun}
-use Rattle.ts_core.proofs.store.StateLemmas.{AllTwo-all, AllTwo-map, same_head, same_rest, is_waiting-there, le_trans, int_max-left, raw_duration_of, Holds-raw_of, StandsFor-Holds, HasCells-as}
+use Rattle.ts_core.proofs.store.Moves.{IsRaised, begun}
+use Rattle.ts_core.proofs.store.StateLemmas.{AllZip-all, AllZip-maps, same_head, same_rest, is_waiting-there, le_trans, int_max-left, raw_duration_of, Holds-raw_of, StandsFor-Holds, HasCells-as}
 
 -- a begin lets each column keep what it kept
 pub begin_keeps : (opening : Settings) (h : History) (now : ℤ) (waiting columns : List Column) → waiting ≡ [] → (f : Fact) → Among f.column columns
@@ -22,7 +23,7 @@ begin_keeps opening h now waiting columns e f a =
     ∙ sym (ap (λ b. int_le (cond b (raw_mark opening h) (raw_mark opening (Begin now ∷ h))) f.time) (is_waiting-there f.column columns a))
 
 -- the low indices rise to those of the longer history
-raised_lows : (opening : Settings) (h : History) (now : ℤ) (rs after : List RuleCells) → AllTwo (IsRaised now) rs after
+raised_lows : (opening : Settings) (h : History) (now : ℤ) (rs after : List RuleCells) → AllZip (IsRaised now) rs after
     → map lowest_of rs ≡ map (low_of opening h) (map rule_of rs) → map lowest_of after ≡ map (low_of opening (Begin now ∷ h)) (map rule_of after)
 raised_lows opening h now [] [] t e = refl
 raised_lows opening h now [] (y ∷ ys) t e = absurd t
@@ -45,7 +46,7 @@ raised_cells cut next fs now same r after t p =
     })
 
 -- a begin where no run is open
-pub begin_stands : (opening : Settings) (h : History) (s : StoreState) (now : ℤ) (after : List RuleCells) → StandsFor opening h s → s.running ≡ false → AllTwo (IsRaised now) s.rules after
+pub begin_stands : (opening : Settings) (h : History) (s : StoreState) (now : ℤ) (after : List RuleCells) → StandsFor opening h s → s.running ≡ false → AllZip (IsRaised now) s.rules after
     → StandsFor opening (Begin now ∷ h) (begun now after s)
 begin_stands opening h s now after st e t =
     let idle : IsRunOpen h → ⊥ = λ o. true≢false (sym (st.running.1 o) ∙ e) in
@@ -55,7 +56,7 @@ begin_stands opening h s now after st e t =
     let next : Column → ℤ = kept_from opening (Begin now ∷ h) columns in
     let fs : List Fact = latest_of h in
     let same : CutsAgree cut next fs = λ f a. begin_keeps opening h now s.waiting columns none f (st.columns_there f a) in
-    let rules : map rule_of after ≡ s.settings.rules = sym (AllTwo-map (IsRaised now) rule_of rule_of (λ r y k. k.rule) s.rules after t) ∙ st.rules in
+    let rules : map rule_of after ≡ s.settings.rules = sym (AllZip-maps (IsRaised now) rule_of rule_of (λ r y k. k.rule) s.rules after t) ∙ st.rules in
     let old : map lowest_of s.rules ≡ map (low_of opening h) (map rule_of s.rules) =
     st.lows ∙ ap (λ (m : Marks). m.lows) st.marks ∙ ap (map (low_of opening h)) (sym (st.rules ∙ ap (λ (x : Settings). x.rules) st.settings)) in
     let lows : map lowest_of after ≡ map (low_of opening (Begin now ∷ h)) (settings_of opening h).rules =
@@ -78,5 +79,5 @@ begin_stands opening h s now after st e t =
       raw = λ f. Holds-raw_of opening (Begin now ∷ h) columns (facts_of s.columns) (Holds-agree cut next fs (facts_of s.columns) same (StandsFor-Holds opening h s st)) f;
       rules = rules;
       lows = refl;
-      rolled = AllTwo-all (IsRaised now) (HasCells cut fs) (HasCells next fs) (λ r y k p. raised_cells cut next fs now same r y k p) s.rules after t st.rolled;
+      rolled = AllZip-all (IsRaised now) (HasCells cut fs) (HasCells next fs) (λ r y k p. raised_cells cut next fs now same r y k p) s.rules after t st.rolled;
     }

@@ -1,6 +1,6 @@
 -- A line of several facts, inserted one by one.
 use Rattle.std.proofs.Common.{◌≡◌, ℤ, List, [], ◌∷◌, ◌++◌, length, map, refl, sym, ◌∙◌, ap, subst, ◌≤◌, ◌^◌}
-use Rattle.std.specs.List.{AllByRecursion}
+use Rattle.std.specs.List.{AllByRecursion, AllZip}
 use Rattle.ts_core.specs.lists.Members.{Among}
 use Rattle.ts_core.specs.facts.Facts.{Series, Column, Fact}
 use Rattle.ts_core.specs.settings.Settings.{Settings}
@@ -9,7 +9,7 @@ use Rattle.ts_core.specs.facts.Latest.{latest}
 use Rattle.ts_core.specs.store.RawFacts.{kept_from}
 use Rattle.ts_core.specs.store.StoreStates.{ColumnPoints, RuleCells, StoreState, StandsFor, HasCells, column_of, facts_of}
 use Rattle.ts_core.proofs.store.Cuts.{Holds}
-use Rattle.ts_core.proofs.store.Moves.{AllTwo, FactsToo, ColumnsToo, IsWritten, written}
+use Rattle.ts_core.proofs.store.Moves.{FactsToo, ColumnsToo, IsWritten, written}
 use Rattle.ts_core.proofs.store.StateLemmas.{Holds-raw_of, StandsFor-Holds}
 use Rattle.ts_core.proofs.store.Writes.{is_other, write_stands}
 
@@ -68,7 +68,7 @@ line_begun opening h s st lawful = record {
 -- one more fact of the line
 pub write_more : (opening : Settings) (h : History) (s : StoreState) (fs : List Fact) (f : Fact) (series : List Series) (columns : List ColumnPoints) (rules : List RuleCells) → StandsFor opening (Line fs ∷ h) s
     → MayBeTaken (raw_mark opening h) f → IsLawful opening (Line (fs ++ f ∷ []) ∷ h) → ColumnsToo s.columns columns f → ((c : Column) → Among c (map column_of columns) → Among c.series series)
-    → FactsToo (facts_of s.columns) (facts_of columns) f (is_other f) → AllTwo (IsWritten f columns) s.rules rules
+    → FactsToo (facts_of s.columns) (facts_of columns) f (is_other f) → AllZip (IsWritten f columns) s.rules rules
     → StandsFor opening (Line (fs ++ f ∷ []) ∷ h) (written series columns rules s)
 write_more opening h s fs f series columns rules st taken lawful there registered too t =
     let few : length (f ∷ put_before fs (accepted h)) ≤ 2 ^ 62 = subst (λ xs. length xs ≤ 2 ^ 62) (sym (put_before-push fs f (accepted h))) lawful.2 in

@@ -1,5 +1,5 @@
 -- The effect of a begin, a step and a write on a store's content.
-use Rattle.std.proofs.Common.{◌≡◌, ℤ, Bool, true, false, cond, not, ◌&&◌, ◌||◌, ◌+◌, List, [], ◌∷◌, map, filter, int_le, ◌≤ℤ◌, ◌⊎◌}
+use Rattle.std.proofs.Common.{◌≡◌, ℤ, Bool, true, false, cond, not, ◌&&◌, ◌||◌, ◌+◌, List, map, filter, int_le, ◌≤ℤ◌, ◌⊎◌}
 use Rattle.std.specs.Int.{int_max}
 use Rattle.ts_core.specs.lists.Members.{Among, AllDistinct}
 use Rattle.ts_core.specs.facts.Facts.{Series, Column, Fact}
@@ -10,13 +10,6 @@ use Rattle.ts_core.specs.store.Marks.{index_of}
 use Rattle.ts_core.specs.store.Cells.{Cell, cell_of, is_rolled, is_in_cell}
 use Rattle.ts_core.specs.store.StoreStates.{ColumnPoints, RuleCells, StoreState, column_of, lowest_of, facts_of}
 use Rattle.ts_core.proofs.store.Cuts.{aggregate_where}
-
--- two lists, member by member
-abbrev pub AllTwo : {X Y : Type 0} → (X → Y → Type 0) → List X → List Y → Type 0
-AllTwo R [] [] = Unit {0}
-AllTwo R [] (y ∷ ys) = ⊥
-AllTwo R (x ∷ xs) [] = ⊥
-AllTwo R (x ∷ xs) (y ∷ ys) = R x y × AllTwo R xs ys
 
 -- ---- begin: the marks rise, and every column waits
 

@@ -1,7 +1,7 @@
 -- The steps of a run. One moves a column, whose facts below the mark go from the live parts to the frozen ones; one
 -- removes cells below the low index; the last one ends the run.
 use Rattle.std.proofs.Common.{◌≡◌, ◌↔◌, IsTrue, ℤ, Bool, true, false, cond, not, ◌&&◌, ◌||◌, List, [], ◌∷◌, ◌++◌, filter, map, refl, sym, ◌∙◌, ap, ap₂, subst, inr, true≢false, int_le, ◌≤ℤ◌}
-use Rattle.std.specs.List.{AllByRecursion}
+use Rattle.std.specs.List.{AllByRecursion, AllZip}
 use Rattle.ts_core.specs.lists.Members.{Among, AllDistinct}
 use Rattle.ts_core.specs.facts.Facts.{Column, Fact}
 use Rattle.ts_core.specs.settings.Settings.{Rule, Settings}
@@ -16,8 +16,8 @@ use Rattle.ts_core.proofs.lists.MembersLemmas.{AllDistinct-filter, Among-filter_
 use Rattle.ts_core.proofs.facts.Latests.{latest-distinct}
 use Rattle.ts_core.proofs.lists.Comparisons.{le_true, le_from}
 use Rattle.ts_core.proofs.store.Cuts.{aggregate_where, aggregate_where-agree, CutRises, passed_of, frozen_of-gains, aggregate_where-held, live_of-held, Holds}
-use Rattle.ts_core.proofs.store.Moves.{AllTwo, is_left, left_points, columns_left, IsMoved, moved, IsExpired, expired, closed}
-use Rattle.ts_core.proofs.store.StateLemmas.{AllTwo-all, AllTwo-map, cons_not, same_column-eq, is_waiting-not, earlier_mark-le, le_trans, Holds-raw_of, StandsFor-Holds, HasCells-as}
+use Rattle.ts_core.proofs.store.Moves.{is_left, left_points, columns_left, IsMoved, moved, IsExpired, expired, closed}
+use Rattle.ts_core.proofs.store.StateLemmas.{AllZip-all, AllZip-maps, cons_not, same_column-eq, is_waiting-not, earlier_mark-le, le_trans, Holds-raw_of, StandsFor-Holds, HasCells-as}
 
 le_later : (a b t : ℤ) → a ≤ℤ b → int_le b t ≡ true → int_le a t ≡ true
 le_later a b t h k = le_true a t (le_trans a b t h (le_from b t k))
@@ -112,7 +112,7 @@ moved_cells cut next fs c mark before after rise is held left distinct r y t p =
     })
 
 pub move_stands : (opening : Settings) (h : History) (s : StoreState) (c : Column) (rest : List Column) (after : List RuleCells) → StandsFor opening h s → s.waiting ≡ c ∷ rest
-    → AllTwo (IsMoved c s.marks.raw s.columns (columns_left c s)) s.rules after → StandsFor opening (Step false ∷ h) (moved c rest after s)
+    → AllZip (IsMoved c s.marks.raw s.columns (columns_left c s)) s.rules after → StandsFor opening (Step false ∷ h) (moved c rest after s)
 move_stands opening h s c rest after st w t =
     let fs : List Fact = latest_of h in
     let old : ℤ = earlier_mark opening h in
@@ -144,9 +144,9 @@ move_stands opening h s c rest after st w t =
       registered = λ x a. st.registered x (subst (Among x) there a);
       once = left.once;
       raw = λ f. Holds-raw_of opening h rest (facts_of columns) left f;
-      rules = sym (AllTwo-map (IsMoved c s.marks.raw s.columns columns) rule_of rule_of (λ r y k. k.rule) s.rules after t) ∙ st.rules;
-      lows = sym (AllTwo-map (IsMoved c s.marks.raw s.columns columns) lowest_of lowest_of (λ r y k. k.low) s.rules after t) ∙ st.lows;
-      rolled = AllTwo-all (IsMoved c s.marks.raw s.columns columns) (HasCells cut fs) (HasCells next fs)
+      rules = sym (AllZip-maps (IsMoved c s.marks.raw s.columns columns) rule_of rule_of (λ r y k. k.rule) s.rules after t) ∙ st.rules;
+      lows = sym (AllZip-maps (IsMoved c s.marks.raw s.columns columns) lowest_of lowest_of (λ r y k. k.low) s.rules after t) ∙ st.lows;
+      rolled = AllZip-all (IsMoved c s.marks.raw s.columns columns) (HasCells cut fs) (HasCells next fs)
           (λ r y k p. moved_cells cut next fs c s.marks.raw s.columns columns rise is held left (latest-distinct (accepted h)) r y k p) s.rules after t rolled;
     }
 
@@ -176,14 +176,14 @@ step_stands opening h s ended running after st is_open idle rules lows rolled = 
 }
 
 -- cells below the low index are nobody's
-pub expire_stands : (opening : Settings) (h : History) (s : StoreState) (after : List RuleCells) → StandsFor opening h s → AllTwo IsExpired s.rules after → StandsFor opening (Step false ∷ h) (expired after s)
+pub expire_stands : (opening : Settings) (h : History) (s : StoreState) (after : List RuleCells) → StandsFor opening h s → AllZip IsExpired s.rules after → StandsFor opening (Step false ∷ h) (expired after s)
 expire_stands opening h s after st t =
     let cut : Column → ℤ = kept_from opening h s.waiting in
     let fs : List Fact = latest_of h in
     step_stands opening h s false s.running after st st.running st.idle
-    (sym (AllTwo-map IsExpired rule_of rule_of (λ r y k. k.rule) s.rules after t) ∙ st.rules)
-    (sym (AllTwo-map IsExpired lowest_of lowest_of (λ r y k. k.low) s.rules after t) ∙ st.lows)
-    (AllTwo-all IsExpired (HasCells cut fs) (HasCells cut fs) (λ r y k p. HasCells-as cut fs r y k.rule k.low (record {
+    (sym (AllZip-maps IsExpired rule_of rule_of (λ r y k. k.rule) s.rules after t) ∙ st.rules)
+    (sym (AllZip-maps IsExpired lowest_of lowest_of (λ r y k. k.low) s.rules after t) ∙ st.lows)
+    (AllZip-all IsExpired (HasCells cut fs) (HasCells cut fs) (λ r y k p. HasCells-as cut fs r y k.rule k.low (record {
       once = k.once;
       there = λ f a m l. k.stays (cell_of r.rule f) l (p.there f a m l);
       frozen = λ q l. ap (λ x. x.frozen) (k.parts q l) ∙ p.frozen q l;

@@ -2,7 +2,7 @@
 use Rattle.std.proofs.Common.{◌≡◌, ℤ, Bool, true, false, cond, ◌&&◌, ◌||◌, List, [], ◌∷◌, map, refl, sym, ◌∙◌, ap, ap₂, subst, inl, inr, ⊎_elim, int_le, ◌≤ℤ◌, arith, is_eq}
 use Rattle.std.proofs.lemmas.Int.{ints, clamps}
 use Rattle.std.proofs.lemmas.Cmp.{tied_itself}
-use Rattle.std.specs.List.{AllByRecursion}
+use Rattle.std.specs.List.{AllByRecursion, AllZip}
 use Rattle.std.specs.Int.{int_max}
 use Rattle.std.proofs.lemmas.Bool.{and_parts, or_right}
 use Rattle.ts_core.specs.lists.Members.{Among, AllDistinct}
@@ -17,21 +17,20 @@ use Rattle.ts_core.proofs.facts.Ids.{columns_total, exact_columns, equal_of}
 use Rattle.ts_core.proofs.lists.MembersLemmas.{Among-filter_passes, Among-filter_was, Among-filter_stays}
 use Rattle.ts_core.proofs.lists.Comparisons.{le_true}
 use Rattle.ts_core.proofs.store.Cuts.{Holds}
-use Rattle.ts_core.proofs.store.Moves.{AllTwo}
 
 -- ---- lists
 
-pub AllTwo-all : {X Y : Type 0} (R : X → Y → Type 0) (P : X → Type 0) (Q : Y → Type 0) → ((x : X) (y : Y) → R x y → P x → Q y) → (xs : List X) (ys : List Y) → AllTwo R xs ys → AllByRecursion P xs → AllByRecursion Q ys
-AllTwo-all R P Q h [] [] t a = tt
-AllTwo-all R P Q h [] (y ∷ ys) t a = absurd t
-AllTwo-all R P Q h (x ∷ xs) [] t a = absurd t
-AllTwo-all R P Q h (x ∷ xs) (y ∷ ys) t a = (h x y t.0 a.0, AllTwo-all R P Q h xs ys t.1 a.1)
+pub AllZip-all : {X Y : Type 0} (R : X → Y → Type 0) (P : X → Type 0) (Q : Y → Type 0) → ((x : X) (y : Y) → R x y → P x → Q y) → (xs : List X) (ys : List Y) → AllZip R xs ys → AllByRecursion P xs → AllByRecursion Q ys
+AllZip-all R P Q h [] [] t a = tt
+AllZip-all R P Q h [] (y ∷ ys) t a = absurd t
+AllZip-all R P Q h (x ∷ xs) [] t a = absurd t
+AllZip-all R P Q h (x ∷ xs) (y ∷ ys) t a = (h x y t.0 a.0, AllZip-all R P Q h xs ys t.1 a.1)
 
-pub AllTwo-map : {X Y Z : Type 0} (R : X → Y → Type 0) (f : X → Z) (g : Y → Z) → ((x : X) (y : Y) → R x y → f x ≡ g y) → (xs : List X) (ys : List Y) → AllTwo R xs ys → map f xs ≡ map g ys
-AllTwo-map R f g h [] [] t = refl
-AllTwo-map R f g h [] (y ∷ ys) t = absurd t
-AllTwo-map R f g h (x ∷ xs) [] t = absurd t
-AllTwo-map R f g h (x ∷ xs) (y ∷ ys) t = ap₂ (λ a bs. a ∷ bs) (h x y t.0) (AllTwo-map R f g h xs ys t.1)
+pub AllZip-maps : {X Y Z : Type 0} (R : X → Y → Type 0) (f : X → Z) (g : Y → Z) → ((x : X) (y : Y) → R x y → f x ≡ g y) → (xs : List X) (ys : List Y) → AllZip R xs ys → map f xs ≡ map g ys
+AllZip-maps R f g h [] [] t = refl
+AllZip-maps R f g h [] (y ∷ ys) t = absurd t
+AllZip-maps R f g h (x ∷ xs) [] t = absurd t
+AllZip-maps R f g h (x ∷ xs) (y ∷ ys) t = ap₂ (λ a bs. a ∷ bs) (h x y t.0) (AllZip-maps R f g h xs ys t.1)
 
 abbrev head_or : {X : Type 0} → X → List X → X
 head_or d [] = d

@@ -1,5 +1,6 @@
 -- The effect of an accepted fact: on the points of one column, and on the live part of one cell of each rule.
 use Rattle.std.proofs.Common.{◌≡◌, ℤ, Bool, true, false, cond, not, ◌&&◌, List, [], ◌∷◌, filter, map, refl, sym, ◌∙◌, ap, ap₂, subst, inl, inr, ◌⊎◌, ⊎_elim, true≢false, int_le, ◌≤ℤ◌, None, length, ◌+◌, add-one}
+use Rattle.std.specs.List.{AllZip}
 use Rattle.ts_core.specs.lists.Members.{Among}
 use Rattle.ts_core.specs.facts.Facts.{Series, Column, Fact, Id, id_of, same_id}
 use Rattle.ts_core.specs.settings.Settings.{Rule, Settings}
@@ -13,8 +14,8 @@ use Rattle.ts_core.proofs.lists.MembersLemmas.{Among-filter_passes, Among-filter
 use Rattle.ts_core.proofs.facts.Ids.{same_id-eq}
 use Rattle.ts_core.proofs.facts.Latests.{latest-distinct, others-new}
 use Rattle.ts_core.proofs.store.Cuts.{one_fact, aggregate_where, Holds, live_of-held}
-use Rattle.ts_core.proofs.store.Moves.{AllTwo, FactsToo, ColumnsToo, IsWritten, written}
-use Rattle.ts_core.proofs.store.StateLemmas.{AllTwo-all, AllTwo-map, is_kept-above, Holds-raw_of, StandsFor-Holds, HasCells-as}
+use Rattle.ts_core.proofs.store.Moves.{FactsToo, ColumnsToo, IsWritten, written}
+use Rattle.ts_core.proofs.store.StateLemmas.{AllZip-all, AllZip-maps, is_kept-above, Holds-raw_of, StandsFor-Holds, HasCells-as}
 
 -- a test of the id alone
 abbrev pub OfId : (Fact → Bool) → Type 0
@@ -115,7 +116,7 @@ written_cells cut fs f after raw held r y t p =
 -- a line of one fact
 pub write_stands : (opening : Settings) (h : History) (s : StoreState) (f : Fact) (series : List Series) (columns : List ColumnPoints) (rules : List RuleCells) → StandsFor opening h s
     → IsLawful opening (Line (f ∷ []) ∷ h) → ColumnsToo s.columns columns f → ((c : Column) → Among c (map column_of columns) → Among c.series series)
-    → FactsToo (facts_of s.columns) (facts_of columns) f (is_other f) → AllTwo (IsWritten f columns) s.rules rules
+    → FactsToo (facts_of s.columns) (facts_of columns) f (is_other f) → AllZip (IsWritten f columns) s.rules rules
     → StandsFor opening (Line (f ∷ []) ∷ h) (written series columns rules s)
 write_stands opening h s f series columns rules st lawful there registered too t =
     let cut : Column → ℤ = kept_from opening h s.waiting in
@@ -138,7 +139,7 @@ write_stands opening h s f series columns rules st lawful there registered too t
       registered = registered;
       once = held.once;
       raw = λ g. Holds-raw_of opening (Line (f ∷ []) ∷ h) s.waiting (facts_of columns) held g;
-      rules = sym (AllTwo-map (IsWritten f columns) rule_of rule_of (λ r y k. k.rule) s.rules rules t) ∙ st.rules;
-      lows = sym (AllTwo-map (IsWritten f columns) lowest_of lowest_of (λ r y k. k.low) s.rules rules t) ∙ st.lows;
-      rolled = AllTwo-all (IsWritten f columns) (HasCells cut (latest fs)) (HasCells cut (latest (f ∷ fs))) (λ r y k p. written_cells cut fs f columns raw held r y k p) s.rules rules t st.rolled;
+      rules = sym (AllZip-maps (IsWritten f columns) rule_of rule_of (λ r y k. k.rule) s.rules rules t) ∙ st.rules;
+      lows = sym (AllZip-maps (IsWritten f columns) lowest_of lowest_of (λ r y k. k.low) s.rules rules t) ∙ st.lows;
+      rolled = AllZip-all (IsWritten f columns) (HasCells cut (latest fs)) (HasCells cut (latest (f ∷ fs))) (λ r y k p. written_cells cut fs f columns raw held r y k p) s.rules rules t st.rolled;
     }

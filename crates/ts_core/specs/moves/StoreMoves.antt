@@ -2,8 +2,10 @@
 -- cells of a line are created, and its facts are inserted. (Own rules.)
 use Rattle.std.specs.Prelude.{◌≡◌, ◌⊎◌, ◌+◌, ℕ, ℤ, ◌≤ℤ◌, ◌<ℤ◌, true, false, Some, None, int_lt, int_le, List, [], ◌∷◌, filter, map, if◌then◌else◌}
 use Rattle.std.specs.Int.{int_max}
+use Rattle.std.specs.List.{AllZip, zip}
 use Rattle.std.specs.FinMap as finmap
 use Rattle.ts_core.specs.lists.Members.{Among, AllDistinct}
+use Rattle.ts_core.specs.lists.Beside.{AllZipBeside, changed_beside}
 use Rattle.ts_core.specs.store.History.{kept_since}
 use Rattle.ts_core.specs.store.Marks.{index_of}
 use Rattle.ts_core.specs.facts.Facts.{Series, Column, Fact, same_text, id_of, same_id}
@@ -39,9 +41,7 @@ moved_cells r c ps facts m = if same_text c.series.measurement r.measurement the
 
 -- the same for each rule
 abbrev pub all_moved : List Rule → Column → List (ℤ × ℤ) → List Fact → List CellMap → List CellMap
-all_moved [] c ps facts ms = ms
-all_moved (r ∷ rs) c ps facts [] = []
-all_moved (r ∷ rs) c ps facts (m ∷ ms) = moved_cells r c ps facts m ∷ all_moved rs c ps facts ms
+all_moved rs c ps facts = changed_beside (λ (r : Rule). moved_cells r c ps facts) rs
 
 -- the points below a mark; `kept_points` leaves the others in the column
 abbrev pub points_below : ℤ → List (ℤ × ℤ) → List (ℤ × ℤ)
@@ -61,9 +61,7 @@ column_moved c ps rest k = record k {
 -- ---- a run begins
 
 abbrev pub raised : ℤ → List Rule → List ℤ → List ℤ
-raised now [] lows = lows
-raised now (r ∷ rs) [] = []
-raised now (r ∷ rs) (low ∷ lows) = int_max low (index_of r (kept_since r.duration now)) ∷ raised now rs lows
+raised now = changed_beside (λ (r : Rule) (low : ℤ). int_max low (index_of r (kept_since r.duration now)))
 
 abbrev pub run_begun : ℤ → StoreData → StoreData
 run_begun now k = record k {
@@ -74,19 +72,21 @@ run_begun now k = record k {
 
 -- ---- cells below the low indices are removed
 
-abbrev pub Expired : List ℤ → List CellMap → List CellMap → Type 0
-Expired lows [] [] = Unit {0}
-Expired lows [] (m ∷ ms) = ⊥
-Expired lows (m ∷ ms) [] = ⊥
-Expired [] (m ∷ ms) (n ∷ ns) = Unit {0}
-Expired (low ∷ lows) (m ∷ ms) (n ∷ ns) = ((k : Cell) → low ≤ℤ k.index → finmap.get n k ≡ finmap.get m k) × Expired lows ms ns
+-- the cells from a low index on stay
+abbrev pub KeepsFrom : ℤ → CellMap → CellMap → Type 0
+KeepsFrom low m n = (k : Cell) → low ≤ℤ k.index → finmap.get n k ≡ finmap.get m k
 
--- each cell of the second maps is in the first, with the same parts
+-- the same for each rule
+abbrev pub Expired : List ℤ → List CellMap → List CellMap → Type 0
+Expired = AllZipBeside KeepsFrom
+
+-- each cell of the second map is in the first, with the same parts
+abbrev pub IsOf : CellMap → CellMap → Type 0
+IsOf m n = (k : Cell) (p : CellParts) → finmap.get n k ≡ Some p → finmap.get m k ≡ Some p
+
+-- the same for each rule
 abbrev pub AreOf : List CellMap → List CellMap → Type 0
-AreOf [] [] = Unit {0}
-AreOf [] (n ∷ ns) = ⊥
-AreOf (m ∷ ms) [] = ⊥
-AreOf (m ∷ ms) (n ∷ ns) = ((k : Cell) (p : CellParts) → finmap.get n k ≡ Some p → finmap.get m k ≡ Some p) × AreOf ms ns
+AreOf = AllZip IsOf
 
 abbrev pub with_cells : List CellMap → StoreData → StoreData
 with_cells ms k = record k { cells = ms }
@@ -104,13 +104,9 @@ pub record GainsEmptyCells (r : Rule) (low : ℤ) (facts : List Fact) (m n : Cel
   pub parts : (k : Cell) → or_else no_parts (finmap.get n k) ≡ or_else no_parts (finmap.get m k)
   pub above : (k : Cell) → k.index <ℤ low → finmap.get n k ≡ finmap.get m k
 
+-- the same for each rule
 abbrev pub GainEmptyCells : List Rule → List ℤ → List Fact → List CellMap → List CellMap → Type 0
-GainEmptyCells rs lows facts [] [] = Unit {0}
-GainEmptyCells rs lows facts [] (n ∷ ns) = ⊥
-GainEmptyCells rs lows facts (m ∷ ms) [] = ⊥
-GainEmptyCells [] lows facts (m ∷ ms) (n ∷ ns) = Unit {0}
-GainEmptyCells (r ∷ rs) [] facts (m ∷ ms) (n ∷ ns) = Unit {0}
-GainEmptyCells (r ∷ rs) (low ∷ lows) facts (m ∷ ms) (n ∷ ns) = GainsEmptyCells r low facts m n × GainEmptyCells rs lows facts ms ns
+GainEmptyCells rs lows facts = AllZipBeside (λ (x : Rule × ℤ). GainsEmptyCells x.0 x.1 facts) (zip rs lows)
 
 -- more series, columns and cells, but no more facts
 abbrev pub grown : List Series → List ColumnPoints → List CellMap → StoreData → StoreData
@@ -133,9 +129,7 @@ put_cell r f facts m = if is_rolled r f then refolded r (cell_of r f) facts m el
 
 -- the same for each rule
 abbrev pub put_cells : List Rule → Fact → List Fact → List CellMap → List CellMap
-put_cells [] f facts ms = ms
-put_cells (r ∷ rs) f facts [] = []
-put_cells (r ∷ rs) f facts (m ∷ ms) = put_cell r f facts m ∷ put_cells rs f facts ms
+put_cells rs f facts = changed_beside (λ (r : Rule). put_cell r f facts) rs
 
 -- inserts facts one after another, each into its column, and then into its cells
 abbrev pub PutsFacts : List Rule → List ColumnPoints → List CellMap → List ColumnPoints → List CellMap → List Fact → Type 0

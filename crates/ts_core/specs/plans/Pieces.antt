@@ -1,6 +1,6 @@
 -- Pieces of a plan, and when a list of them is valid, so that it covers all points ever accepted. (Own rules.)
 use Rattle.std.specs.Prelude.{◌≡◌, ◌⊎◌, ℤ, pos, ◌-ℤ◌, ◌≤ℤ◌, ◌<ℤ◌, List, [], ◌∷◌, ◌++◌, map, Option, Some, None, if◌then◌else◌}
-use Rattle.std.specs.List.{AllByRecursion}
+use Rattle.std.specs.List.{AllByRecursion, zip}
 use Rattle.std.specs.Int.{int_rem_euclid}
 use Rattle.ts_core.specs.lists.Members.{Among}
 use Rattle.ts_core.specs.facts.Facts.{Text, same_text}
@@ -28,9 +28,7 @@ pub record MarkedRule : Type 0 where
   pub low : ℤ
 
 abbrev pub marked_rules : List Rule → List ℤ → List MarkedRule
-marked_rules [] lows = []
-marked_rules (r ∷ rs) [] = []
-marked_rules (r ∷ rs) (low ∷ lows) = record { rule = r; low = low } ∷ marked_rules rs lows
+marked_rules rules lows = map (λ (p : Rule × ℤ). record { rule = p.0; low = p.1 }) (zip rules lows)
 
 -- a query, with the rules and the raw mark that it is planned under
 pub record QueryContext : Type 0 where

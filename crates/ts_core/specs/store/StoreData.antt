@@ -1,5 +1,6 @@
 -- A store's content as data, and the state that it represents. (Own rules.)
 use Rattle.std.specs.Prelude.{◌≡◌, ℕ, ℤ, Bool, false, List, [], ◌∷◌, map, Some}
+use Rattle.std.specs.List.{zip}
 use Rattle.std.specs.FinMap as finmap
 use Rattle.std.specs.FinMap.{FinMap}
 use Rattle.ts_core.specs.facts.Facts.{Series, Column}
@@ -10,6 +11,7 @@ use Rattle.ts_core.specs.aggregates.Aggregates.{empty_aggregate}
 use Rattle.ts_core.specs.store.Cells.{Cell, cell_cmp, total_of}
 use Rattle.ts_core.specs.store.StoreStates.{ColumnPoints, CellParts, RuleCells, StoreState, StandsFor, facts_of}
 use Rattle.ts_core.specs.store.Views.{Shows, view_state_of}
+use Rattle.ts_core.specs.lists.Beside.{OfEach}
 use Rattle.ts_core.specs.lists.Changes.{or_else}
 use Rattle.ts_core.specs.store.TwoParts.{both_parts}
 
@@ -43,10 +45,7 @@ rule_cells r low m = record { rule = r; low = low; cells = finmap.keys m; parts 
 
 -- each rule with its low index and its cells
 abbrev pub rules_of : List Rule → List ℤ → List CellMap → List RuleCells
-rules_of [] lows ms = []
-rules_of (r ∷ rs) [] ms = []
-rules_of (r ∷ rs) (low ∷ lows) [] = []
-rules_of (r ∷ rs) (low ∷ lows) (m ∷ ms) = rule_cells r low m ∷ rules_of rs lows ms
+rules_of rs lows ms = map (λ (p : Rule × (ℤ × CellMap)). rule_cells p.0 p.1.0 p.1.1) (zip rs (zip lows ms))
 
 abbrev pub state_of : StoreData → StoreState
 state_of k = record {
@@ -100,6 +99,4 @@ IsLive columns r m = (k : Cell) (p : CellParts) → finmap.get m k ≡ Some p �
 
 -- the same for each rule
 abbrev pub AreLive : List ColumnPoints → List Rule → List CellMap → Type 0
-AreLive columns [] ms = Unit {0}
-AreLive columns (r ∷ rs) [] = Unit {0}
-AreLive columns (r ∷ rs) (m ∷ ms) = IsLive columns r m × AreLive columns rs ms
+AreLive columns = OfEach (IsLive columns)

@@ -18,7 +18,7 @@ use Rattle.ts_core.specs.aggregates.Aggregates.{Aggregate}
 use Rattle.ts_core.specs.store.Cells.{cell_of, is_in_cell}
 use Rattle.ts_core.specs.lists.Changes.{or_else}
 use Rattle.ts_core.specs.store.StoreStates.{ColumnPoints, RuleCells, column_of, facts_of}
-use Rattle.ts_core.specs.store.StoreData.{CellMap, StoreData, no_parts, rule_cells, rules_of}
+use Rattle.ts_core.specs.store.StoreData.{CellMap, StoreData, no_parts, rule_cells, rules_of, IsLive}
 use Rattle.ts_core.specs.moves.RuleMoves.{IsEven, rule_added}
 use Rattle.ts_core.proofs.aggregates.BucketsOrder.{bucket_le, bucket_of-start}
 use Rattle.ts_core.proofs.aggregates.IndicesFit.{indices_fit}
@@ -26,7 +26,8 @@ use Rattle.ts_core.proofs.lists.ListSteps.{length-filter}
 use Rattle.ts_core.proofs.store.LowIndices.{first_from-is, first_near}
 use Rattle.ts_core.proofs.store.RulesCome.{all_last}
 use Rattle.ts_core.proofs.settings.RuleLaws.{with_rule-fault}
-use Rattle.ts_core.proofs.moves.RulesMove.{rule_comes, lives_push, left_added, even_added}
+use Rattle.ts_core.proofs.lists.BesideLemmas.{OfEach-push}
+use Rattle.ts_core.proofs.moves.RulesMove.{rule_comes, left_added, even_added}
 use Rattle.ts_core.proofs.settings.SettingsLaws.{settings_are}
 use Rattle.ts_core.proofs.moves.MovesStand.{key_there}
 use Rattle.ts_store.specs.store.CellCounts.{HoldsFew, HoldFew}
@@ -141,7 +142,7 @@ module _ (settings : Settings) (marks : Marks) (n : ℕ) (held : StoreContent) (
       rollups = rollups_push settings.rules (map column_of held.columns) held.rollups r s kept.rollups rollup.series;
       few = kept.few;
       counts = counts_push n held.columns settings.rules (cells_of held.rollups) r cells kept.sized.cells few kept.counts;
-      live = lives_push held.columns settings.rules (cells_of held.rollups) r cells kept.sized.cells rollup.fresh.live kept.live;
+      live = OfEach-push (IsLive held.columns) settings.rules (cells_of held.rollups) r cells kept.sized.cells rollup.fresh.live kept.live;
       possible = possible_push settings.rules (cells_of held.rollups) r cells kept.sized.cells rollup.possible kept.possible;
       sized = record {
         settings = with_rule-fault settings r kept.sized.settings ∙ well;

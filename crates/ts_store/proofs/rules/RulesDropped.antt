@@ -6,10 +6,11 @@ use Rattle.ts_core.specs.facts.Facts.{Text, Column}
 use Rattle.ts_core.specs.settings.Settings.{Rule, Settings, is_unnamed}
 use Rattle.ts_core.specs.store.Marks.{Marks}
 use Rattle.ts_core.specs.store.StoreStates.{ColumnPoints, RuleCells, column_of, facts_of}
-use Rattle.ts_core.specs.store.StoreData.{CellMap, StoreData, rules_of}
+use Rattle.ts_core.specs.store.StoreData.{CellMap, StoreData, rules_of, IsLive}
 use Rattle.ts_core.specs.moves.RuleMoves.{IsEven, IsRuleAt, kept_beside, rule_dropped}
 use Rattle.ts_core.proofs.settings.RuleLaws.{without_rule-faultless}
-use Rattle.ts_core.proofs.moves.RulesMove.{rule_goes, lives_kept, left_dropped, even_dropped}
+use Rattle.ts_core.proofs.lists.BesideLemmas.{OfEach-kept}
+use Rattle.ts_core.proofs.moves.RulesMove.{rule_goes, left_dropped, even_dropped}
 use Rattle.ts_store.specs.store.CellCounts.{HoldFew}
 use Rattle.ts_store.specs.store.PossibleCells.{HavePossibleCells}
 use Rattle.ts_store.specs.store.ColumnStates.{StoreContent}
@@ -118,7 +119,7 @@ module _ (settings : Settings) (marks : Marks) (n : ℕ) (held : StoreContent) (
     rollups = subst (λ (rs : List Rule). AreRollups rs (map column_of held.columns) (remove held.rollups i)) (sym at.without) (rollups_removed settings.rules (map column_of held.columns) held.rollups i kept.rollups);
     few = kept.few;
     counts = counts_beside stays n held.columns settings.rules (cells_of held.rollups) kept.counts;
-    live = lives_kept stays held.columns settings.rules (cells_of held.rollups) kept.live;
+    live = OfEach-kept (IsLive held.columns) stays settings.rules (cells_of held.rollups) kept.live;
     possible = possible_beside stays settings.rules (cells_of held.rollups) kept.possible;
     sized = record {
       settings = without_rule-faultless settings name kept.sized.settings;

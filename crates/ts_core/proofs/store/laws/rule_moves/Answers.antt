@@ -1,8 +1,10 @@
 use Rattle.ts_core.proofs.aggregates.IndicesFit.{indices_fit}
 use Rattle.ts_core.proofs.settings.Intervals.{settings_faultless}
 use Rattle.ts_core.proofs.store.LowIndices.{first_from-is, low_of-is, low_of-near}
-use Rattle.ts_core.proofs.moves.RulesMove.{rule_comes, rule_goes, lives_push, lives_kept, left_added, left_dropped, even_added, even_dropped}
+use Rattle.ts_core.proofs.moves.RulesMove.{rule_comes, rule_goes, left_added, left_dropped, even_added, even_dropped}
 use Rattle.ts_core.specs.settings.Settings.{is_unnamed}
+use Rattle.ts_core.specs.store.StoreData.{IsLive}
+use Rattle.ts_core.proofs.lists.BesideLemmas.{OfEach-push, OfEach-kept}
 use Rattle.ts_core.proofs.store.laws.rule_moves.Goals as goal
 
 pub returns-clause-faultless : goal.returns-clause-faultless
@@ -22,8 +24,8 @@ returns-clause-dropped c = λ k name even named opening h st. rule_goes opening 
 
 pub returns-clause-keep : goal.returns-clause-keep
 returns-clause-keep c = record {
-  added_live = λ k r low m even fresh a. lives_push k.columns k.settings.rules k.cells r m even.cells fresh.live a;
-  dropped_live = λ k name a. lives_kept (is_unnamed name) k.columns k.settings.rules k.cells a;
+  added_live = λ k r low m even fresh a. OfEach-push (IsLive k.columns) k.settings.rules k.cells r m even.cells fresh.live a;
+  dropped_live = λ k name a. OfEach-kept (IsLive k.columns) (is_unnamed name) k.settings.rules k.cells a;
   added_left = left_added;
   dropped_left = left_dropped;
   added_even = even_added;

@@ -1,0 +1,112 @@
+-- What holds of lists side by side: at one place, after a change, with one more item, and of those that pass a test.
+use Rattle.std.proofs.Common.{◌≡◌, ℕ, zero, suc, Bool, true, false, cond, List, [], ◌∷◌, ◌++◌, length, filter, map, refl, ap, arith, subst}
+use Rattle.std.specs.List.{AllZip, zip}
+use Rattle.std.proofs.lemmas.Option.{none-some, same_Some}
+use Rattle.ts_core.specs.settings.Settings.{Rule}
+use Rattle.ts_core.specs.lists.Beside.{OfEach, AllZipBeside, changed_beside}
+use Rattle.ts_core.specs.lists.Numbered.{IsAt}
+use Rattle.ts_core.specs.moves.RuleMoves.{kept_beside}
+
+-- ---- a relation at each place that both lists have
+
+module _ {X Y : Type 0} (R : X → Y → Type 0) where
+  pub OfEach-none : (xs : List X) → OfEach R xs []
+  OfEach-none [] = tt
+  OfEach-none (x ∷ xs) = tt
+
+  pub OfEach-map : (f : X → Y) → ((x : X) → R x (f x)) → (xs : List X) → OfEach R xs (map f xs)
+  OfEach-map f h [] = tt
+  OfEach-map f h (x ∷ xs) = (h x, OfEach-map f h xs)
+
+  pub OfEach-at : (xs : List X) (ys : List Y) (n : ℕ) (x : X) (y : Y) → OfEach R xs ys → IsAt xs n x → IsAt ys n y → R x y
+  OfEach-at [] ys n x y h a b = absurd (none-some x a)
+  OfEach-at (z ∷ xs) [] n x y h a b = absurd (none-some y b)
+  OfEach-at (z ∷ xs) (w ∷ ys) zero x y h a b = subst (R x) (same_Some w y b) (subst (λ q. R q w) (same_Some z x a) h.0)
+  OfEach-at (z ∷ xs) (w ∷ ys) (suc n) x y h a b = OfEach-at xs ys n x y h.1 a b
+
+  pub OfEach-push : (xs : List X) (ys : List Y) (x : X) (y : Y) → length ys ≡ length xs → R x y → OfEach R xs ys → OfEach R (xs ++ x ∷ []) (ys ++ y ∷ [])
+  OfEach-push [] [] x y e l a = (l, tt)
+  OfEach-push [] (w ∷ ys) x y e l a = absurd (omega arith)
+  OfEach-push (z ∷ xs) [] x y e l a = absurd (omega arith)
+  OfEach-push (z ∷ xs) (w ∷ ys) x y e l a = (a.0, OfEach-push xs ys x y (omega arith) l a.1)
+
+  pub OfEach-weaker : (S : X → Y → Type 0) → ((x : X) (y : Y) → R x y → S x y) → (xs : List X) (ys : List Y) → OfEach R xs ys → OfEach S xs ys
+  OfEach-weaker S h [] ys a = tt
+  OfEach-weaker S h (x ∷ xs) [] a = tt
+  OfEach-weaker S h (x ∷ xs) (y ∷ ys) a = (h x y a.0, OfEach-weaker S h xs ys a.1)
+
+  -- each item is changed by the one beside it
+  pub OfEach-beside : (S : X → Y → Type 0) (f : X → Y → Y) → ((x : X) (y : Y) → R x y → S x (f x y)) → (xs : List X) (ys : List Y) → OfEach R xs ys → OfEach S xs (changed_beside f xs ys)
+  OfEach-beside S f h [] ys a = tt
+  OfEach-beside S f h (x ∷ xs) [] a = tt
+  OfEach-beside S f h (x ∷ xs) (y ∷ ys) a = (h x y a.0, OfEach-beside S f h xs ys a.1)
+
+  -- each item is replaced
+  pub OfEach-changed : {Z : Type 0} (C : Y → Z → Type 0) (S : X → Z → Type 0) → ((x : X) (y : Y) (z : Z) → C y z → R x y → S x z) → (xs : List X) (ys : List Y) (zs : List Z) → AllZip C ys zs → OfEach R xs ys → OfEach S xs zs
+  OfEach-changed C S h [] ys zs c a = tt
+  OfEach-changed C S h (x ∷ xs) [] [] c a = tt
+  OfEach-changed C S h (x ∷ xs) [] (z ∷ zs) c a = absurd c
+  OfEach-changed C S h (x ∷ xs) (y ∷ ys) [] c a = tt
+  OfEach-changed C S h (x ∷ xs) (y ∷ ys) (z ∷ zs) c a = (h x y z c.0 a.0, OfEach-changed C S h xs ys zs c.1 a.1)
+
+  -- each item is replaced, by the two beside it
+  pub OfEach-over : {L : Type 0} (C : X × L → Y → Y → Type 0) (S : X → Y → Type 0) → ((x : X) (l : L) (y z : Y) → C (x, l) y z → R x y → S x z)
+      → (xs : List X) (ls : List L) (ys zs : List Y) → length ls ≡ length xs → AllZipBeside C (zip xs ls) ys zs → OfEach R xs ys → OfEach S xs zs
+  OfEach-over C S h [] ls ys zs e c a = tt
+  OfEach-over C S h (x ∷ xs) ls [] [] e c a = tt
+  OfEach-over C S h (x ∷ xs) ls [] (z ∷ zs) e c a = absurd c
+  OfEach-over C S h (x ∷ xs) ls (y ∷ ys) [] e c a = tt
+  OfEach-over C S h (x ∷ xs) [] (y ∷ ys) (z ∷ zs) e c a = absurd (omega arith)
+  OfEach-over C S h (x ∷ xs) (l ∷ ls) (y ∷ ys) (z ∷ zs) e c a = (h x l y z c.0 a.0, OfEach-over C S h xs ls ys zs (omega arith) c.1 a.1)
+
+pub OfEach-kept : {X : Type 0} (R : Rule → X → Type 0) (p : Rule → Bool) (rs : List Rule) (xs : List X) → OfEach R rs xs → OfEach R (filter p rs) (kept_beside p rs xs)
+OfEach-kept R p [] xs a = tt
+OfEach-kept R p (r ∷ rs) [] a = OfEach-none R (filter p (r ∷ rs))
+OfEach-kept R p (r ∷ rs) (x ∷ xs) a =
+    elim (p r) as (λ b. OfEach R (cond b (r ∷ filter p rs) (filter p rs)) (cond b (x ∷ kept_beside p rs xs) (kept_beside p rs xs))) [
+      | true ↦ (a.0, OfEach-kept R p rs xs a.1)
+      | false ↦ OfEach-kept R p rs xs a.1
+    ]
+
+-- ---- a relation at each place, of lists of one length
+
+pub AllZip-same : {X : Type 0} (R : X → X → Type 0) → ((x : X) → R x x) → (xs : List X) → AllZip R xs xs
+AllZip-same R h [] = tt
+AllZip-same R h (x ∷ xs) = (h x, AllZip-same R h xs)
+
+pub AllZip-then : {X Y Z : Type 0} (R : X → Y → Type 0) (S : Y → Z → Type 0) (T : X → Z → Type 0) → ((x : X) (y : Y) (z : Z) → R x y → S y z → T x z) → (xs : List X) (ys : List Y) (zs : List Z) → AllZip R xs ys → AllZip S ys zs → AllZip T xs zs
+AllZip-then R S T h [] [] [] a b = tt
+AllZip-then R S T h [] [] (z ∷ zs) a b = absurd b
+AllZip-then R S T h [] (y ∷ ys) zs a b = absurd a
+AllZip-then R S T h (x ∷ xs) [] zs a b = absurd a
+AllZip-then R S T h (x ∷ xs) (y ∷ ys) [] a b = absurd b
+AllZip-then R S T h (x ∷ xs) (y ∷ ys) (z ∷ zs) a b = (h x y z a.0 b.0, AllZip-then R S T h xs ys zs a.1 b.1)
+
+module _ {X Y : Type 0} (R : X → Y → Type 0) where
+  pub AllZip-each : (xs : List X) (ys : List Y) → AllZip R xs ys → OfEach R xs ys
+  AllZip-each [] ys a = tt
+  AllZip-each (x ∷ xs) [] a = tt
+  AllZip-each (x ∷ xs) (y ∷ ys) a = (a.0, AllZip-each xs ys a.1)
+
+  pub AllZip-at : (xs : List X) (ys : List Y) (n : ℕ) (x : X) (y : Y) → AllZip R xs ys → IsAt xs n x → IsAt ys n y → R x y
+  AllZip-at xs ys n x y a = OfEach-at R xs ys n x y (AllZip-each xs ys a)
+
+  pub AllZip-weaker : (S : X → Y → Type 0) → ((x : X) (y : Y) → R x y → S x y) → (xs : List X) (ys : List Y) → AllZip R xs ys → AllZip S xs ys
+  AllZip-weaker S h [] [] a = tt
+  AllZip-weaker S h [] (y ∷ ys) a = absurd a
+  AllZip-weaker S h (x ∷ xs) [] a = absurd a
+  AllZip-weaker S h (x ∷ xs) (y ∷ ys) a = (h x y a.0, AllZip-weaker S h xs ys a.1)
+
+-- ---- lengths
+
+pub length-beside : {X Y : Type 0} (f : X → Y → Y) (xs : List X) (ys : List Y) → length (changed_beside f xs ys) ≡ length ys
+length-beside f [] ys = refl
+length-beside f (x ∷ xs) [] = refl
+length-beside f (x ∷ xs) (y ∷ ys) = ap suc (length-beside f xs ys)
+
+pub AllZipBeside-long : {X Y Z : Type 0} (R : X → Y → Z → Type 0) (xs : List X) (ys : List Y) (zs : List Z) → length xs ≡ length ys → AllZipBeside R xs ys zs → length zs ≡ length ys
+AllZipBeside-long R xs [] [] e a = refl
+AllZipBeside-long R xs [] (z ∷ zs) e a = absurd a
+AllZipBeside-long R xs (y ∷ ys) [] e a = absurd a
+AllZipBeside-long R [] (y ∷ ys) (z ∷ zs) e a = absurd (omega arith)
+AllZipBeside-long R (x ∷ xs) (y ∷ ys) (z ∷ zs) e a = ap suc (AllZipBeside-long R xs ys zs (omega arith) a.1)

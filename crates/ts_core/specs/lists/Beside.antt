@@ -1,0 +1,22 @@
+-- Lists side by side, such as a store's rules, their low indices and their cells. (Own rules.)
+use Rattle.std.specs.Prelude.{List, [], ◌∷◌}
+
+-- R holds at each place that both lists have
+abbrev pub OfEach : {X Y : Type 0} → (X → Y → Type 0) → List X → List Y → Type 0
+OfEach R [] ys = Unit {0}
+OfEach R (x ∷ xs) [] = Unit {0}
+OfEach R (x ∷ xs) (y ∷ ys) = R x y × OfEach R xs ys
+
+-- R holds at each place that all three lists have; ys and zs end together, unless xs ends first
+abbrev pub AllZipBeside : {X Y Z : Type 0} → (X → Y → Z → Type 0) → List X → List Y → List Z → Type 0
+AllZipBeside R xs [] [] = Unit {0}
+AllZipBeside R xs [] (z ∷ zs) = ⊥
+AllZipBeside R xs (y ∷ ys) [] = ⊥
+AllZipBeside R [] (y ∷ ys) (z ∷ zs) = Unit {0}
+AllZipBeside R (x ∷ xs) (y ∷ ys) (z ∷ zs) = R x y z × AllZipBeside R xs ys zs
+
+-- each item of the second list, changed by the item of the first at its place, if there is one
+abbrev pub changed_beside : {X Y : Type 0} → (X → Y → Y) → List X → List Y → List Y
+changed_beside f [] ys = ys
+changed_beside f (x ∷ xs) [] = []
+changed_beside f (x ∷ xs) (y ∷ ys) = f x y ∷ changed_beside f xs ys
