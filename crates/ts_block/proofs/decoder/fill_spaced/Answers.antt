@@ -1,4 +1,4 @@
-use Rattle.std.proofs.Common.{rules, ◌≡◌, ◌<◌, ◌≤◌, ◌+◌, ◌-◌, ℕ, ℤ, List, [], ◌∷◌, ◌++◌, Some, length, take, append_assoc, ◌∙◌, ap, sym, subst, arith, SFits, w64, to_z, of_z, to_z-of_z}
+use Rattle.std.proofs.Common.{rules, ◌≡◌, ◌<◌, ◌+◌, ◌-◌, ℕ, ℤ, List, [], ◌∷◌, ◌++◌, Some, length, take, append_assoc, ◌∙◌, ap, sym, subst, arith, SFits, w64, to_z, of_z, to_z-of_z}
 use Rattle.std.proofs.lemmas.List.{take_more_set, take_all}
 use Rattle.ts_block.specs.Decoding.{CanRead, points_left}
 use Rattle.ts_block.proofs.DecodingLemmas.{value_is_read, time_is_known, spaced_moved, spaced_moves_on}

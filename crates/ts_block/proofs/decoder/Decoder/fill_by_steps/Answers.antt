@@ -1,4 +1,4 @@
-use Rattle.std.proofs.Common.{rules, ◌≡◌, ◌++◌, ◌∷◌, [], ◌+◌, ◌<◌, ◌≤◌, ◌∙◌, ap, sym, length, take, append_assoc, refl, arith, List, ℤ, ℕ, subst}
+use Rattle.std.proofs.Common.{rules, ◌≡◌, ◌++◌, ◌∷◌, [], ◌<◌, ◌∙◌, ap, sym, length, take, append_assoc, arith, List, ℤ, subst}
 use Rattle.std.proofs.lemmas.List.{take_more_set, take_all}
 use Rattle.ts_block.proofs.decoder.Decoder.fill_by_steps.Goals as goal
 
