@@ -18,6 +18,7 @@ use Rattle.ts_core.specs.store.StoreData.{CellMap}
 use Rattle.ts_core.proofs.lists.Comparisons.{lt_true}
 use Rattle.ts_core.proofs.aggregates.IndicesFit.{indices_fit}
 use Rattle.ts_core.proofs.lists.MembersLemmas.{Among-map}
+use Rattle.ts_store.proofs.read.ShownCells.{cells_at}
 use Rattle.ts_cells.specs.FrozenCounts.{frozen_cell_count}
 use Rattle.ts_cells.specs.Walks.{CellWithPart, entry_of, entries_within}
 use Rattle.ts_store.specs.store.PossibleCells.{IsBucketIndex, HasPossibleCells, HavePossibleCells}
@@ -140,12 +141,6 @@ at_all P [] n x at h = absurd (none-some x at)
 at_all P (y ∷ xs) zero x at h = subst P (same_Some y x at) h.0
 at_all P (y ∷ xs) (suc n) x at h = at_all P xs n x at h.1
 
-possible_at : (rs : List Rule) (ss : List RollupState) (n : ℕ) (r : Rule) (s : RollupState) → HavePossibleCells rs (cells_of ss) → IsAt rs n r → IsAt ss n s → HasPossibleCells r s.grid.cells
-possible_at [] ss n r s all at here = absurd (none-some r at)
-possible_at (x ∷ rs) [] n r s all at here = absurd (none-some s here)
-possible_at (x ∷ rs) (y ∷ ss) zero r s all at here = subst (λ q. HasPossibleCells q s.grid.cells) (same_Some x r at) (subst (λ (t : RollupState). HasPossibleCells x t.grid.cells) (same_Some y s here) all.0)
-possible_at (x ∷ rs) (y ∷ ss) (suc n) r s all at here = possible_at rs ss n r s all.1 at here
-
 pub store_near : (rs : List Rule) (names : List Column) (held : StoreContent) (n : ℕ) (r : Rule) → AreRollups rs names held.rollups → HavePossibleCells rs (cells_of held.rollups) → AllByRecursion (λ (q : Rule). pos 1000000000 ≤ℤ q.interval) rs → AllByRecursion IsPossibleRule rs
     → n < length rs → r ≡ get_or rs n r → HasNearCells held r n
 store_near rs names held n r rollups cells seconds possible there read =
@@ -156,7 +151,7 @@ store_near rs names held n r rollups cells seconds possible there read =
       there = below;
       second = at_all (λ (q : Rule). pos 1000000000 ≤ℤ q.interval) rs n r at seconds;
       offset = (at_all IsPossibleRule rs n r at possible).offset;
-      possible = possible_at rs held.rollups n r (rollup_at held.rollups n) cells at here;
+      possible = cells_at HasPossibleCells rs held.rollups n r (rollup_at held.rollups n) cells at here;
     }
 
 pub cells_at_rule : (ss : List RollupState) (n : ℕ) → (rollup_at ss n).grid.cells ≡ get_or (cells_of ss) n finmap.empty

@@ -1,5 +1,5 @@
 -- The store created from parts: it has the invariant of a store, and these parts.
-use Rattle.std.proofs.Common.{◌≡◌, ◌≤◌, ◌+◌, ℕ, suc, ℤ, Bool, true, false, not, List, [], ◌∷◌, length, map, Option, None, refl, sym, ◌∙◌, ap, subst, arith, true≢false}
+use Rattle.std.proofs.Common.{◌≡◌, ◌≤◌, ◌+◌, ℕ, ℤ, Bool, true, false, not, List, [], ◌∷◌, length, map, Option, None, refl, sym, ◌∙◌, ap, subst, arith, true≢false}
 use Rattle.std.specs.List.{AllByRecursion}
 use Rattle.std.specs.Option.{is_some}
 use Rattle.std.proofs.Math.Seq.{take-length}
@@ -13,9 +13,10 @@ use Rattle.ts_core.specs.store.Cells.{cell_of}
 use Rattle.ts_core.specs.store.StoreStates.{ColumnPoints, column_of, facts_of}
 use Rattle.ts_core.specs.store.StoreData.{CellMap, rules_of, AreLive}
 use Rattle.ts_core.proofs.moves.MovesStand.{key_there}
-use Rattle.ts_store.specs.image.Building.{AreLowIndices, IsBuildable, IsBuiltFrom, HaveCells, waiting_of}
+use Rattle.std.proofs.lemmas.Slice.Zip.{AllZip-long}
+use Rattle.ts_store.specs.image.Building.{AreLowIndices, IsBuildable, IsBuiltFrom, HaveCells, waiting_of, IsLowIndex}
 use Rattle.ts_store.specs.image.BuildingParts.{built_of, IsInOrder, FillsCells}
-use Rattle.ts_store.specs.store.CellCounts.{HoldFew, live_count}
+use Rattle.ts_store.specs.store.CellCounts.{HoldFew, live_count, HoldsFew}
 use Rattle.ts_store.specs.store.ColumnStates.{StoreContent}
 use Rattle.ts_store.specs.write.LinesPut.{OfEachRule, PutsCells}
 use Rattle.ts_store.specs.retain.OpenRuns.{Run, run_of, unflagged, waiting_in, data_of_parts, IsWithin}
@@ -24,15 +25,12 @@ use Rattle.ts_store.specs.rollup.Rollups.{RollupState, AreRollups, cells_of}
 use Rattle.ts_store.specs.store.SizedStores.{IsSizedRule}
 use Rattle.ts_store.proofs.retain.RollupMoves.{rollups_with}
 use Rattle.ts_store.proofs.rollup.RollupsGrow.{rollups-length}
-use Rattle.ts_store.proofs.rollup.RulesFilled.{others-of}
+use Rattle.ts_store.proofs.write.RuleLists.{of_rules}
 
 -- ---- rules
 
 pub lows-length : (mark : ℤ) (rs : List Rule) (lows : List ℤ) → AreLowIndices mark rs lows → length lows ≡ length rs
-lows-length mark [] [] h = refl
-lows-length mark [] (low ∷ lows) h = absurd h
-lows-length mark (r ∷ rs) [] h = absurd h
-lows-length mark (r ∷ rs) (low ∷ lows) h = ap suc (lows-length mark rs lows h.1)
+lows-length mark rs lows h = AllZip-long (IsLowIndex mark) rs lows h
 
 rules-sized : (mark : ℤ) (facts : List Fact) (rs : List Rule) (lows : List ℤ) (ns : List CellMap) → AreLowIndices mark rs lows → HaveCells rs lows facts ns → AllByRecursion (IsSizedRule mark facts) (rules_of rs lows ns)
 rules-sized mark facts [] lows ns h has_cells = tt
@@ -44,16 +42,8 @@ rules-sized mark facts (r ∷ rs) (low ∷ lows) (n ∷ ns) h has_cells = (
 )
 
 counts-built : (count : ℕ) (facts : List Fact) (columns : List ColumnPoints) (rs : List Rule) (lows : List ℤ) (ms ns : List CellMap) → length lows ≡ length rs → OfEachRule (PutsCells facts) rs lows ms ns → HoldFew count columns rs ms → HoldFew count columns rs ns
-counts-built count facts columns [] lows ms ns l puts h = tt
-counts-built count facts columns (r ∷ rs) lows ms [] l puts h = tt
-counts-built count facts columns (r ∷ rs) [] ms (n ∷ ns) l puts h = absurd (omega (arith, l))
-counts-built count facts columns (r ∷ rs) (low ∷ lows) [] (n ∷ ns) l puts h = absurd (let e = puts.0 in omega (arith, e))
-counts-built count facts columns (r ∷ rs) (low ∷ lows) (m ∷ ms) (n ∷ ns) l puts h = (
-  λ k.
-      let one : PutsCells facts r low m n = puts.1 0 r low m n refl refl refl refl in
-      subst (λ a. a + live_count r k columns ≤ count) (sym (ap (λ a. a.count) (one.frozen k))) (h.0 k),
-  counts-built count facts columns rs lows ms ns (omega (arith, l)) (others-of (PutsCells facts) r rs low lows m ms n ns puts) h.1,
-)
+counts-built count facts columns rs lows ms ns l puts h =
+    of_rules (PutsCells facts) (HoldsFew count columns) (HoldsFew count columns) (λ r low m n one few k. subst (λ a. a + live_count r k columns ≤ count) (sym (ap (λ a. a.count) (one.frozen k))) (few k)) rs lows ms ns l puts h
 
 -- ---- columns that wait
 

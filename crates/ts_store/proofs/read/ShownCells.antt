@@ -18,10 +18,12 @@ use Rattle.ts_core.specs.store.StoreData.{CellMap, StoreData, no_parts, rule_cel
 use Rattle.ts_core.specs.store.Views.{view_state_of}
 use Rattle.ts_core.proofs.store.Cuts.{one_fact}
 use Rattle.ts_core.proofs.aggregates.Folds.{fold-count}
-use Rattle.ts_core.proofs.lists.MembersLemmas.{Among-filter_was}
+use Rattle.ts_core.proofs.lists.MembersLemmas.{Among-filter_was, at_map_of}
 use Rattle.ts_core.proofs.plans.PieceCells.{cells_total}
 use Rattle.ts_core.proofs.lists.Sorted.{found_among}
 use Rattle.ts_core.specs.lists.Numbered.{IsAt}
+use Rattle.ts_core.proofs.lists.BesideLemmas.{OfEach-at}
+use Rattle.ts_core.specs.lists.Beside.{OfEach}
 use Rattle.ts_cells.specs.Walks.{CellWithPart, entry_of, entries_within}
 use Rattle.ts_store.specs.store.CellCounts.{HoldsFew, HoldFew, frozen_count}
 use Rattle.ts_store.specs.store.ColumnStates.{StoreContent}
@@ -93,17 +95,9 @@ walk_shows r low m a b ks e =
 
 -- ---- the rule of a number
 
-few_at : (k : ℕ) (columns : List ColumnPoints) (rs : List Rule) (ss : List RollupState) (n : ℕ) (r : Rule) (s : RollupState) → HoldFew k columns rs (cells_of ss) → IsAt rs n r → IsAt ss n s → HoldsFew k columns r s.grid.cells
-few_at k columns [] ss n r s all at here = absurd (none-some r at)
-few_at k columns (x ∷ rs) [] n r s all at here = absurd (none-some s here)
-few_at k columns (x ∷ rs) (y ∷ ss) zero r s all at here = subst (λ q. HoldsFew k columns q s.grid.cells) (same_Some x r at) (subst (λ t. HoldsFew k columns x t.grid.cells) (same_Some y s here) all.0)
-few_at k columns (x ∷ rs) (y ∷ ss) (suc n) r s all at here = few_at k columns rs ss n r s all.1 at here
-
-live_at : (columns : List ColumnPoints) (rs : List Rule) (ss : List RollupState) (n : ℕ) (r : Rule) (s : RollupState) → AreLive columns rs (cells_of ss) → IsAt rs n r → IsAt ss n s → IsLive columns r s.grid.cells
-live_at columns [] ss n r s all at here = absurd (none-some r at)
-live_at columns (x ∷ rs) [] n r s all at here = absurd (none-some s here)
-live_at columns (x ∷ rs) (y ∷ ss) zero r s all at here = subst (λ q. IsLive columns q s.grid.cells) (same_Some x r at) (subst (λ t. IsLive columns x t.grid.cells) (same_Some y s here) all.0)
-live_at columns (x ∷ rs) (y ∷ ss) (suc n) r s all at here = live_at columns rs ss n r s all.1 at here
+-- what holds of the cells of each rule, holds of those of one
+pub cells_at : (R : Rule → CellMap → Type 0) (rs : List Rule) (ss : List RollupState) (n : ℕ) (r : Rule) (s : RollupState) → OfEach R rs (cells_of ss) → IsAt rs n r → IsAt ss n s → R r s.grid.cells
+cells_at R rs ss n r s all at here = OfEach-at R rs (cells_of ss) n r s.grid.cells all at (at_map_of (λ (x : RollupState). x.grid.cells) ss n s here)
 
 -- it is shown by its index
 shown_at : (rs : List Rule) (lows : List ℤ) (ss : List RollupState) (n : ℕ) (r : Rule) (s : RollupState) → IsAt rs n r → IsAt ss n s → length lows ≡ length rs
@@ -143,9 +137,9 @@ store_ruled k held run n r kept columns cells there read =
     let live : AreLive held.columns rs (cells_of held.rollups) = subst (λ ms. AreLive held.columns rs ms) cells (subst (λ cs. AreLive cs rs k.cells) columns kept.live) in
     record {
       there = below;
-      live = live_at held.columns rs held.rollups n r (rollup_at held.rollups n) live at here;
+      live = cells_at (IsLive held.columns) rs held.rollups n r (rollup_at held.rollups n) live at here;
       few = rule_few k.accepted (2 ^ 62) held.columns r (rollup_at held.rollups n).grid.cells kept.sized.accepted
-          (few_at k.accepted held.columns rs held.rollups n r (rollup_at held.rollups n) counts at here);
+          (cells_at (HoldsFew k.accepted held.columns) rs held.rollups n r (rollup_at held.rollups n) counts at here);
     }
 
 -- its cells are shown

@@ -5,21 +5,20 @@ use Rattle.std.specs.FinMap as finmap
 use Rattle.std.specs.FinMap.{get-remove}
 use Rattle.std.proofs.Math.Nat.{eq-or-lt_of_le}
 use Rattle.ts_core.specs.lists.Members.{Among}
-use Rattle.ts_core.specs.facts.Facts.{Column, Fact}
 use Rattle.ts_core.specs.settings.Settings.{Rule}
 use Rattle.ts_core.specs.store.Cells.{Cell, same_cell}
 use Rattle.ts_core.specs.lists.Changes.{or_else}
 use Rattle.std.proofs.lemmas.Option.{none-some}
 use Rattle.ts_core.specs.store.StoreStates.{ColumnPoints, CellParts}
 use Rattle.ts_core.specs.store.StoreData.{CellMap, no_parts, rules_of}
-use Rattle.ts_core.specs.moves.StoreMoves.{Expired, AreOf, all_moved}
+use Rattle.ts_core.specs.moves.StoreMoves.{Expired, AreOf, IsOf}
 use Rattle.ts_core.specs.moves.Runs.{batches_of, batches_left}
 use Rattle.ts_core.proofs.aggregates.Folds.{length-same}
-use Rattle.ts_core.proofs.moves.StepStands.{keys_column}
 use Rattle.ts_core.proofs.lists.MembersLemmas.{no_members, Among-filter_was, Among-filter_passes, Among-filter_stays, AllDistinct-filter}
 use Rattle.ts_core.proofs.moves.MovesStand.{keys_once, key_there, key_not}
 use Rattle.ts_core.proofs.plans.PieceCells.{cells_total, same_cell-eq, same_cell-refl}
 use Rattle.ts_core.proofs.lists.Comparisons.{lt_from, lt_true}
+use Rattle.ts_core.proofs.lists.BesideLemmas.{AllZip-same}
 use Rattle.std.proofs.lemmas.Int.{ints}
 use Rattle.ts_cells.specs.Expiry.{Removes, RemovesOne, IsAbove}
 use Rattle.ts_store.specs.store.CellCounts.{frozen_count, HoldFew}
@@ -133,15 +132,6 @@ counts-removed n cs (r ∷ rs) (low ∷ lows) (m ∷ ms) (x ∷ xs) l few =
     ⊎_elim {C = HoldFew n cs (r ∷ rs) (x ∷ xs)} (λ p. (λ k. let most = all_hold low p.0.count m x k p.0.below.removed in let all = few.0 k in omega arith, subst (λ (ys : List CellMap). HoldFew n cs rs ys) (sym p.1) few.1))
     (λ p. (λ k. let same : frozen_count x k ≡ frozen_count m k = ap (λ (y : CellMap). frozen_count y k) p.1 in let all = few.0 k in omega arith, counts-removed n cs rs lows ms xs p.2 few.1)) l
 
--- ---- after points were frozen
-
-pub batches_left-moved : (c : Column) (ps : List (ℤ × ℤ)) (facts : List Fact) (rs : List Rule) (lows : List ℤ) (ms : List CellMap) → batches_left (rules_of rs lows (all_moved rs c ps facts ms)) ≡ batches_left (rules_of rs lows ms)
-batches_left-moved c ps facts [] lows ms = refl
-batches_left-moved c ps facts (r ∷ rs) [] ms = refl
-batches_left-moved c ps facts (r ∷ rs) (low ∷ lows) [] = refl
-batches_left-moved c ps facts (r ∷ rs) (low ∷ lows) (m ∷ ms) =
-    ap₂ (λ (ks : List Cell) n. batches_of (length (filter (λ (k : Cell). int_lt k.index low) ks)) + n) (keys_column r c ps facts m) (batches_left-moved c ps facts rs lows ms)
-
 -- ---- cells that go, and none that comes
 
 of-one : (low : ℤ) (m n : CellMap) → RemovesOne low m n → (k : Cell) (p : CellParts) → finmap.get n k ≡ Some p → finmap.get m k ≡ Some p
@@ -156,16 +146,12 @@ pub of-all : (low : ℤ) (count : ℕ) (m after : CellMap) → Removes low count
 of-all low zero m after r k p e = ap (λ (x : CellMap). finmap.get x k) (sym r) ∙ e
 of-all low (suc count) m after r k p e = of-all low count m r.0 r.1 k p (of-one low r.0 after r.2 k p e)
 
-of-same : (ms : List CellMap) → AreOf ms ms
-of-same [] = tt
-of-same (m ∷ ms) = (λ k p e. e, of-same ms)
-
 pub of-loses : (lows : List ℤ) (ms ns : List CellMap) → FirstLoses lows ms ns → AreOf ms ns
 of-loses [] ms ns l = absurd l
 of-loses (low ∷ lows) [] ns l = absurd l
 of-loses (low ∷ lows) (m ∷ ms) [] l = absurd l
 of-loses (low ∷ lows) (m ∷ ms) (n ∷ ns) l =
-    ⊎_elim {C = AreOf (m ∷ ms) (n ∷ ns)} (λ q. (of-all low q.0.count m n q.0.below.removed, subst (AreOf ms) (sym q.1) (of-same ms)))
+    ⊎_elim {C = AreOf (m ∷ ms) (n ∷ ns)} (λ q. (of-all low q.0.count m n q.0.below.removed, subst (AreOf ms) (sym q.1) (AllZip-same IsOf (λ m k p e. e) ms)))
     (λ q. (λ k p e. ap (λ (x : CellMap). finmap.get x k) (sym q.1) ∙ e, of-loses lows ms ns q.2)) l
 
 -- ---- no batch is left where no rule has cells below its low index

@@ -14,8 +14,9 @@ use Rattle.ts_core.specs.store.TwoParts.{in_frozen}
 use Rattle.ts_core.proofs.moves.Freezing.{gone_held, refolded_frozen}
 use Rattle.ts_core.proofs.store.Moves.{is_left}
 use Rattle.ts_core.proofs.store.RunSteps.{facts_of-left}
-use Rattle.ts_store.specs.store.CellCounts.{frozen_count, live_count, HoldFew}
-use Rattle.ts_store.specs.retain.RollupSteps.{points_in_cell, FreezeFit}
+use Rattle.ts_core.proofs.lists.BesideLemmas.{OfEach-weaker, OfEach-beside}
+use Rattle.ts_store.specs.store.CellCounts.{frozen_count, live_count, HoldFew, HoldsFew}
+use Rattle.ts_store.specs.retain.RollupSteps.{points_in_cell, FreezeFit, FreezesFit}
 use Rattle.ts_store.proofs.retain.PointsFrozen.{frozen_most, first_in}
 
 -- ---- the frozen part
@@ -75,18 +76,15 @@ live_moved r k mark s cs once there =
 
 module _ (n : ℕ) (mark : ℤ) (s : ColumnPoints) (cs : List ColumnPoints) (once : AllDistinct (map column_of cs)) (there : Among s cs) where
   pub counts-fit : n ≤ 2 ^ 62 → (rs : List Rule) (ms : List CellMap) → HoldFew n cs rs ms → FreezeFit rs s.column (points_below mark s.points) ms
-  counts-fit most [] ms few = tt
-  counts-fit most (r ∷ rs) [] few = tt
-  counts-fit most (r ∷ rs) (m ∷ ms) few = (λ k. let moved = live_moved r k mark s cs once there in let all = few.0 k in omega arith, counts-fit most rs ms few.1)
+  counts-fit most rs ms few =
+      OfEach-weaker (HoldsFew n cs) (λ (r : Rule). FreezesFit r s.column (points_below mark s.points)) (λ r m all k. let moved = live_moved r k mark s cs once there in let count = all k in omega arith) rs ms few
 
   pub counts-moved : (rs : List Rule) (ms : List CellMap) → HoldFew n cs rs ms → HoldFew n (map (kept_points s.column mark) cs) rs (all_moved rs s.column (points_below mark s.points) (facts_of (map (kept_points s.column mark) cs)) ms)
-  counts-moved [] ms few = tt
-  counts-moved (r ∷ rs) [] few = tt
-  counts-moved (r ∷ rs) (m ∷ ms) few = (
-    λ k.
-        let moved = live_moved r k mark s cs once there in
-        let frozen = column_most r s.column (points_below mark s.points) (facts_of (map (kept_points s.column mark) cs)) m k in
-        let all = few.0 k in
-        omega arith,
-    counts-moved rs ms few.1,
-  )
+  counts-moved rs ms few =
+      let left : List Fact = facts_of (map (kept_points s.column mark) cs) in
+      OfEach-beside (HoldsFew n cs) (HoldsFew n (map (kept_points s.column mark) cs)) (λ (r : Rule). moved_cells r s.column (points_below mark s.points) left)
+      (λ r m all k.
+      let moved = live_moved r k mark s cs once there in
+      let frozen = column_most r s.column (points_below mark s.points) left m k in
+      let count = all k in
+      omega arith) rs ms few

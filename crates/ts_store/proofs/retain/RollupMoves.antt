@@ -39,16 +39,11 @@ cells_with [] (s ∷ ss) l = absurd (omega arith)
 cells_with (m ∷ ms) (s ∷ ss) l = ap (λ ns. m ∷ ns) (cells_with ms ss (omega arith))
 
 pub rollups_with : (rs : List Rule) (cs : List Column) (ms : List CellMap) (ss : List RollupState) → AreRollups rs cs ss → AreRollups rs cs (with_all_grid_cells ms ss)
-rollups_with [] cs ms [] a = tt
-rollups_with [] cs ms (s ∷ ss) a = absurd a
-rollups_with (r ∷ rs) cs ms [] a = absurd a
-rollups_with (r ∷ rs) cs [] (s ∷ ss) a = a
+rollups_with rs cs [] ss a = a
+rollups_with [] cs (m ∷ ms) [] a = tt
+rollups_with [] cs (m ∷ ms) (s ∷ ss) a = absurd a
+rollups_with (r ∷ rs) cs (m ∷ ms) [] a = absurd a
 rollups_with (r ∷ rs) cs (m ∷ ms) (s ∷ ss) a = (a.0, rollups_with rs cs ms ss a.1)
-
-pub moved-length : (rs : List Rule) (c : Column) (ps : List (ℤ × ℤ)) (facts : List Fact) (ms : List CellMap) → length (all_moved rs c ps facts ms) ≡ length ms
-moved-length [] c ps facts ms = refl
-moved-length (r ∷ rs) c ps facts [] = refl
-moved-length (r ∷ rs) c ps facts (m ∷ ms) = let e = moved-length rs c ps facts ms in omega arith
 
 -- ---- a column is moved under a rule
 
@@ -105,8 +100,9 @@ columns_within (r ∷ rs) cs (s ∷ ss) n a l = (let e = rollup_series-length r 
 
 -- without rules
 pub none_frozen : (ms : List CellMap) (ss : List RollupState) → length ss ≡ 0 → ss ≡ with_all_grid_cells ms ss
-none_frozen ms [] e = refl
-none_frozen ms (s ∷ ss) e = absurd (omega arith)
+none_frozen [] ss e = refl
+none_frozen (m ∷ ms) [] e = refl
+none_frozen (m ∷ ms) (s ∷ ss) e = absurd (omega arith)
 
 pub all_moved-none : (rs : List Rule) (cs : List Column) (ss : List RollupState) (c : Column) (ps : List (ℤ × ℤ)) (facts : List Fact) → length rs ≡ 0 → AreRollups rs cs ss → ss ≡ with_all_grid_cells (all_moved rs c ps facts (cells_of ss)) ss
 all_moved-none [] cs ss c ps facts e a = grids_kept ss

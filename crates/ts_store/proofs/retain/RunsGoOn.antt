@@ -3,7 +3,7 @@ use Rattle.std.proofs.Common.{◌≡◌, ◌⊎◌, ℕ, ℤ, ◌+◌, ◌≤◌
 use Rattle.std.specs.Int.{int_max}
 use Rattle.std.proofs.lemmas.List.{length-map, append-nil}
 use Rattle.std.proofs.lemmas.Option.{slice_get-get_or}
-use Rattle.ts_core.specs.facts.Facts.{Column}
+use Rattle.ts_core.specs.facts.Facts.{Column, Fact}
 use Rattle.ts_core.specs.settings.Settings.{Rule, Settings}
 use Rattle.ts_core.specs.store.Marks.{Marks}
 use Rattle.ts_core.specs.store.History.{Step, kept_since}
@@ -11,13 +11,15 @@ use Rattle.ts_core.specs.store.RawFacts.{same_column}
 use Rattle.ts_core.specs.store.StoreStates.{ColumnPoints, StandsFor, column_of, facts_of}
 use Rattle.ts_core.specs.store.StoreData.{CellMap, StoreData, rules_of, state_of, AreLive, GoesOn}
 use Rattle.ts_core.proofs.moves.LivesKept.{lives_go, lives_left}
-use Rattle.ts_core.specs.moves.StoreMoves.{all_moved, points_below, kept_points, column_moved, raised, run_begun, with_cells, run_ended}
+use Rattle.ts_core.specs.moves.StoreMoves.{all_moved, points_below, kept_points, column_moved, raised, run_begun, with_cells, run_ended, moved_cells}
 use Rattle.ts_core.specs.moves.Runs.{batches_left, steps_left}
-use Rattle.ts_core.proofs.moves.StepStands.{step_stands}
+use Rattle.ts_core.proofs.moves.StepStands.{step_stands, keys_column}
 use Rattle.ts_core.proofs.moves.MovesStand.{cells_go, run_ends}
 use Rattle.ts_core.proofs.store.RunSteps.{idle_step_stands}
 use Rattle.ts_core.specs.lists.Numbered.{IsAt}
 use Rattle.ts_core.proofs.lists.NumberedLemmas.{at_among}
+use Rattle.ts_core.proofs.moves.LeftOnData.{turns_beside}
+use Rattle.ts_core.proofs.lists.BesideLemmas.{length-beside}
 use Rattle.ts_store.specs.store.CellCounts.{HoldFew}
 use Rattle.ts_store.specs.store.ColumnStates.{StoreContent}
 use Rattle.std.specs.Option.{is_some}
@@ -30,12 +32,12 @@ use Rattle.ts_store.specs.store.SizedStores.{IsSized}
 use Rattle.ts_store.specs.store.PossibleCells.{HavePossibleCells}
 use Rattle.ts_store.specs.retain.RollupSteps.{content_with_cells, FreezeFit, content_moved}
 use Rattle.ts_store.proofs.retain.CountsMoved.{counts-fit, counts-moved}
-use Rattle.ts_store.proofs.retain.RollupMoves.{cells_with, rollups_with, moved-length}
+use Rattle.ts_store.proofs.retain.RollupMoves.{cells_with, rollups_with}
 use Rattle.ts_store.proofs.rollup.RollupsGrow.{rollups-length}
 use Rattle.ts_store.proofs.store.PossibleCellsKept.{possible_moved, possible_gone}
 use Rattle.ts_store.proofs.store.SizesKept.{sized_begun, sized_moved, sized_gone, sized_ended}
 use Rattle.ts_store.specs.retain.WholeRuns.{AreAbove, FirstLoses, MovesFirst, RemovesCells}
-use Rattle.ts_store.proofs.retain.BatchesLeft.{batches_left-loses, batches_left-moved, of-loses, expired-loses, counts-removed, batches_left-above}
+use Rattle.ts_store.proofs.retain.BatchesLeft.{batches_left-loses, of-loses, expired-loses, counts-removed, batches_left-above}
 
 -- ---- a column keeps its name
 
@@ -79,7 +81,7 @@ module _ (settings : Settings) (marks : Marks) (n : ℕ) where
 
     cells : cells_of after.rollups ≡ all_moved settings.rules s.column (points_below marks.raw s.points) (facts_of (map (kept_points s.column marks.raw) held.columns)) (cells_of held.rollups)
     cells = cells_with (all_moved settings.rules s.column (points_below marks.raw s.points) (facts_of (map (kept_points s.column marks.raw) held.columns)) (cells_of held.rollups)) held.rollups
-        (moved-length settings.rules s.column (points_below marks.raw s.points) (facts_of (map (kept_points s.column marks.raw) held.columns)) (cells_of held.rollups) ∙ length-map held.rollups (λ (u : RollupState). u.grid.cells))
+        (length-beside (λ (r : Rule). moved_cells r s.column (points_below marks.raw s.points) (facts_of (map (kept_points s.column marks.raw) held.columns))) settings.rules (cells_of held.rollups) ∙ length-map held.rollups (λ (u : RollupState). u.grid.cells))
 
     is_moved : column_moved s.column s.points rest before ≡ moved
     unfolding rest
@@ -108,9 +110,10 @@ module _ (settings : Settings) (marks : Marks) (n : ℕ) where
     moved-steps =
         let one : length before.waiting ≡ length rest + 1 = ap (λ (ws : List Column). length ws) waits ∙ (let m : length (s.column ∷ rest) ≡ length rest + 1 = omega arith in m) in
         let others : length moved.waiting ≡ length rest = ap (λ (k : StoreData). length k.waiting) (sym is_moved) in
+        let facts : List Fact = facts_of (map (kept_points s.column marks.raw) held.columns) in
         let batches : batches_left (rules_of settings.rules marks.lows moved.cells) ≡ batches_left (rules_of settings.rules marks.lows (cells_of held.rollups)) =
         ap (λ (ms : List CellMap). batches_left (rules_of settings.rules marks.lows ms)) cells
-        ∙ batches_left-moved s.column (points_below marks.raw s.points) (facts_of (map (kept_points s.column marks.raw) held.columns)) settings.rules marks.lows (cells_of held.rollups) in
+        ∙ turns_beside (λ (r : Rule). moved_cells r s.column (points_below marks.raw s.points) facts) (λ r. keys_column r s.column (points_below marks.raw s.points) facts) settings.rules marks.lows (cells_of held.rollups) in
         omega arith
 
     pub moved-kept : IsSoundStore moved after (Some left)

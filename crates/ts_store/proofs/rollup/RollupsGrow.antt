@@ -5,9 +5,11 @@ use Rattle.std.proofs.lemmas.List.{append-nil}
 use Rattle.ts_core.specs.facts.Facts.{Column}
 use Rattle.ts_core.specs.settings.Settings.{Rule}
 use Rattle.ts_cells.specs.Grids.{RollupSeries}
-use Rattle.ts_store.specs.rollup.Rollups.{RollupState, cells_of, rollup_series_under, IsRollupSeriesOf, HaveRollupSeries, AreRollups, Extends, KeepCells, HaveNext, joined_rollup_series, with_next}
+use Rattle.ts_store.specs.rollup.Rollups.{RollupState, cells_of, rollup_series_under, IsRollupSeriesOf, HaveRollupSeries, AreRollups, Extends, KeepsCells, KeepCells, HaveNext, joined_rollup_series, with_next}
 use Rattle.ts_core.specs.lists.Members.{Among}
 use Rattle.ts_core.specs.lists.Numbered.{IsAt, Gains}
+use Rattle.ts_core.proofs.lists.BesideLemmas.{AllZip-same, AllZip-then, AllZip-weaker}
+use Rattle.std.proofs.lemmas.Slice.Zip.{AllZip-long, all_zipped_more}
 use Rattle.std.proofs.lemmas.Option.{none-some, same_Some}
 use Rattle.ts_store.proofs.write.StagedColumns.{slice_get_left}
 
@@ -17,8 +19,7 @@ none_next [] c (s ∷ ss) e h = absurd (omega arith)
 none_next (r ∷ rs) c ss e h = absurd (omega arith)
 
 pub keep_same : (ss : List RollupState) → KeepCells ss ss
-keep_same [] = tt
-keep_same (s ∷ ss) = (record { made = ([], sym (append-nil s.grid.rollup_series)); cells = refl; kept = refl }, keep_same ss)
+keep_same ss = AllZip-same KeepsCells (λ s. record { made = ([], sym (append-nil s.grid.rollup_series)); cells = refl; kept = refl }) ss
 
 -- ---- more rollup series
 
@@ -27,21 +28,17 @@ rollup_series_kept r c rollup_series rollup_series' None e at = at
 rollup_series_kept r c rollup_series rollup_series' (Some l) e at = (at.0, ap (λ (ls : List RollupSeries). slice_get ls l) e.1 ∙ slice_get_left rollup_series e.0 l (rollup_series_under r c) at.1)
 
 pub rollup_series_all_kept : (r : Rule) (rollup_series rollup_series' : List RollupSeries) (cs : List Column) (os : List (Option ℕ)) → Extends rollup_series rollup_series' → HaveRollupSeries r rollup_series cs os → HaveRollupSeries r rollup_series' cs os
-rollup_series_all_kept r rollup_series rollup_series' [] [] e h = tt
-rollup_series_all_kept r rollup_series rollup_series' [] (o ∷ os) e h = absurd h
-rollup_series_all_kept r rollup_series rollup_series' (c ∷ cs) [] e h = absurd h
-rollup_series_all_kept r rollup_series rollup_series' (c ∷ cs) (o ∷ os) e h = (rollup_series_kept r c rollup_series rollup_series' o e h.0, rollup_series_all_kept r rollup_series rollup_series' cs os e h.1)
+rollup_series_all_kept r rollup_series rollup_series' cs os e h =
+    AllZip-weaker (λ (c : Column). IsRollupSeriesOf r c rollup_series) (λ (c : Column). IsRollupSeriesOf r c rollup_series') (λ c o. rollup_series_kept r c rollup_series rollup_series' o e) cs os h
+
+-- the rollup of a rule
+abbrev pub IsOfRule : List Column → Rule → RollupState → Type 0
+IsOfRule cs r s = HaveRollupSeries r s.grid.rollup_series cs s.series_of_column
 
 pub rollups_kept : (rs : List Rule) (cs : List Column) (ss ts : List RollupState) → AreRollups rs cs ss → KeepCells ss ts → AreRollups rs cs ts
-rollups_kept [] cs [] [] h k = tt
-rollups_kept [] cs [] (t ∷ ts) h k = absurd k
-rollups_kept [] cs (s ∷ ss) ts h k = absurd h
-rollups_kept (r ∷ rs) cs [] ts h k = absurd h
-rollups_kept (r ∷ rs) cs (s ∷ ss) [] h k = absurd k
-rollups_kept (r ∷ rs) cs (s ∷ ss) (t ∷ ts) h k = (
-  subst (HaveRollupSeries r t.grid.rollup_series cs) (sym k.0.kept) (rollup_series_all_kept r s.grid.rollup_series t.grid.rollup_series cs s.series_of_column k.0.made h.0),
-  rollups_kept rs cs ss ts h.1 k.1,
-)
+rollups_kept rs cs ss ts h k =
+    AllZip-then (IsOfRule cs) KeepsCells (IsOfRule cs)
+    (λ r s t have keeps. subst (HaveRollupSeries r t.grid.rollup_series cs) (sym keeps.kept) (rollup_series_all_kept r s.grid.rollup_series t.grid.rollup_series cs s.series_of_column keeps.made have)) rs ss ts h k
 
 pub cells_kept : (ss ts : List RollupState) → KeepCells ss ts → cells_of ts ≡ cells_of ss
 cells_kept [] [] k = refl
@@ -58,16 +55,10 @@ at_behind (d ∷ cs) zero c away at = absurd (away (inl (sym (same_Some d c at))
 at_behind (d ∷ cs) (suc n) c away at = ap suc (at_behind cs n c (λ a. away (inr a)) at)
 
 pub rollups-length : (rs : List Rule) (cs : List Column) (ss : List RollupState) → AreRollups rs cs ss → length ss ≡ length rs
-rollups-length [] cs [] h = refl
-rollups-length [] cs (s ∷ ss) h = absurd h
-rollups-length (r ∷ rs) cs [] h = absurd h
-rollups-length (r ∷ rs) cs (s ∷ ss) h = ap suc (rollups-length rs cs ss h.1)
+rollups-length rs cs ss h = AllZip-long (IsOfRule cs) rs ss h
 
 pub rollup_series-length : (r : Rule) (rollup_series : List RollupSeries) (cs : List Column) (os : List (Option ℕ)) → HaveRollupSeries r rollup_series cs os → length os ≡ length cs
-rollup_series-length r rollup_series [] [] h = refl
-rollup_series-length r rollup_series [] (o ∷ os) h = absurd h
-rollup_series-length r rollup_series (c ∷ cs) [] h = absurd h
-rollup_series-length r rollup_series (c ∷ cs) (o ∷ os) h = ap suc (rollup_series-length r rollup_series cs os h.1)
+rollup_series-length r rollup_series cs os h = AllZip-long (λ (c : Column). IsRollupSeriesOf r c rollup_series) cs os h
 
 -- each number of a column is the index of a rollup series
 pub numbers_inside : (rs : List Rule) (cs : List Column) (ss : List RollupState) (ns : List ℕ) → AreRollups rs cs ss → AllByRecursion (λ n. n < length cs) ns → AllByRecursion (λ (s : RollupState). AllByRecursion (λ n. n < length s.series_of_column) ns) ss
@@ -77,10 +68,7 @@ numbers_inside (r ∷ rs) cs [] ns h a = absurd h
 numbers_inside (r ∷ rs) cs (s ∷ ss) ns h a = (subst (λ m. AllByRecursion (λ n. n < m) ns) (sym (rollup_series-length r s.grid.rollup_series cs s.series_of_column h.0)) a, numbers_inside rs cs ss ns h.1 a)
 
 pub rollup_series_push : (r : Rule) (rollup_series : List RollupSeries) (cs : List Column) (os : List (Option ℕ)) (c : Column) (o : Option ℕ) → HaveRollupSeries r rollup_series cs os → IsRollupSeriesOf r c rollup_series o → HaveRollupSeries r rollup_series (cs ++ c ∷ []) (os ++ o ∷ [])
-rollup_series_push r rollup_series [] [] c o h at = (at, tt)
-rollup_series_push r rollup_series [] (p ∷ os) c o h at = absurd h
-rollup_series_push r rollup_series (d ∷ cs) [] c o h at = absurd h
-rollup_series_push r rollup_series (d ∷ cs) (p ∷ os) c o h at = (h.0, rollup_series_push r rollup_series cs os c o h.1 at)
+rollup_series_push r rollup_series cs os c o h at = all_zipped_more (λ (d : Column). IsRollupSeriesOf r d rollup_series) cs os c o h at
 
 pub rollups_made : (rs : List Rule) (cs : List Column) (c : Column) (ss : List RollupState) → AreRollups rs cs ss → HaveNext rs c ss → AreRollups rs (cs ++ c ∷ []) (map with_next ss)
 rollups_made [] cs c [] h k = tt

@@ -16,11 +16,14 @@ use Rattle.ts_core.specs.store.StoreStates.{ColumnPoints, CellParts, column_of, 
 use Rattle.ts_core.specs.store.StoreData.{CellMap, no_parts, IsLive, AreLive}
 use Rattle.ts_core.proofs.moves.MovesStand.{key_there, key_not}
 use Rattle.ts_core.proofs.plans.PieceCells.{same_cell-eq, same_cell-refl}
+use Rattle.ts_core.proofs.lists.BesideLemmas.{OfEach-at, OfEach-weaker, OfEach-changed, AllZip-same, AllZip-then, AllZip-at}
+use Rattle.ts_store.proofs.write.RuleLists.{others_of, of_rules}
+use Rattle.std.proofs.lemmas.Slice.Zip.{AllZip-long}
 use Rattle.ts_store.specs.image.Building.{HaveCells}
 use Rattle.ts_store.specs.image.BuildingParts.{IsIdle, AreIdle, MakesCells, FillsCells, KeepsFrozen, KeepFrozen, IsFilledBut, AreFilledBut}
 use Rattle.ts_raw.specs.Columns.{ColumnState}
 use Rattle.ts_raw.specs.Indexed.{Indexed}
-use Rattle.ts_store.specs.store.PossibleCells.{HavePossibleCells}
+use Rattle.ts_store.specs.store.PossibleCells.{HasPossibleCells, HavePossibleCells}
 use Rattle.ts_store.specs.store.ColumnStates.{IsSoundContent, content_of, columns_in, with_points, point_maps}
 use Rattle.ts_store.specs.write.LinesPut.{OfEachRule, IsOfFacts, PutsCells}
 use Rattle.ts_store.specs.rollup.Rollups.{RollupState, AreRollups, HaveRollupSeries, IsRollupSeriesOf, rollup_series_at, cells_of}
@@ -47,31 +50,13 @@ wide_first n (s ∷ ss) m l h = (subst (λ k. m < k) (sym h.0) l, wide_first n s
 -- ---- frozen parts stay
 
 pub frozen-same : (ms : List CellMap) → KeepFrozen ms ms
-frozen-same [] = tt
-frozen-same (m ∷ ms) = (λ k. refl, frozen-same ms)
+frozen-same ms = AllZip-same KeepsFrozen (λ m k. refl) ms
 
 pub frozen-both : (ms ns os : List CellMap) → KeepFrozen ms ns → KeepFrozen ns os → KeepFrozen ms os
-frozen-both [] [] [] a b = tt
-frozen-both [] [] (o ∷ os) a b = absurd b
-frozen-both [] (n ∷ ns) os a b = absurd a
-frozen-both (m ∷ ms) [] os a b = absurd a
-frozen-both (m ∷ ms) (n ∷ ns) [] a b = absurd b
-frozen-both (m ∷ ms) (n ∷ ns) (o ∷ os) a b = (λ k. b.0 k ∙ a.0 k, frozen-both ms ns os a.1 b.1)
+frozen-both ms ns os a b = AllZip-then KeepsFrozen KeepsFrozen KeepsFrozen (λ m n o p q k. q k ∙ p k) ms ns os a b
 
 pub frozen-more : (s t : RollupState) (ss ts ss' : List RollupState) → ss' ≡ s ∷ ss → KeepsFrozen s.grid.cells t.grid.cells → KeepFrozen (cells_of ss) (cells_of ts) → KeepFrozen (cells_of ss') (cells_of (t ∷ ts))
 frozen-more s t ss ts ss' e one others = subst (λ (us : List RollupState). KeepFrozen (cells_of us) (cells_of (t ∷ ts))) (sym e) (one, others)
-
-frozen-length : (ms ns : List CellMap) → KeepFrozen ms ns → length ns ≡ length ms
-frozen-length [] [] a = refl
-frozen-length [] (n ∷ ns) a = absurd a
-frozen-length (m ∷ ms) [] a = absurd a
-frozen-length (m ∷ ms) (n ∷ ns) a = ap suc (frozen-length ms ns a.1)
-
-frozen-at : (ms ns : List CellMap) (i : ℕ) (m n : CellMap) → KeepFrozen ms ns → IsAt ms i m → IsAt ns i n → KeepsFrozen m n
-frozen-at [] ns i m n a am an = absurd (none-some m am)
-frozen-at (x ∷ ms) [] i m n a am an = absurd (none-some n an)
-frozen-at (x ∷ ms) (y ∷ ns) zero m n a am an = subst (KeepsFrozen m) (same_Some y n an) (subst (λ (z : CellMap). KeepsFrozen z y) (same_Some x m am) a.0)
-frozen-at (x ∷ ms) (y ∷ ns) (suc i) m n a am an = frozen-at ms ns i m n a.1 am an
 
 -- ---- facts that are left
 
@@ -98,9 +83,8 @@ filled-idle all (r ∷ rs) (m ∷ ms) h = (λ k p e. ap (λ a. merged a (total_o
 
 -- nothing is left
 pub filled-live : (columns : List ColumnPoints) (rs : List Rule) (ms : List CellMap) → AreFilledBut [] (facts_of columns) rs ms → AreLive columns rs ms
-filled-live columns [] ms h = tt
-filled-live columns (r ∷ rs) [] h = tt
-filled-live columns (r ∷ rs) (m ∷ ms) h = (λ k p e. sym (aggregate_laws.comm p.live empty_aggregate ∙ aggregate_laws.unit p.live) ∙ h.0 k p e, filled-live columns rs ms h.1)
+filled-live columns rs ms h =
+    OfEach-weaker (IsFilledBut [] (facts_of columns)) (IsLive columns) (λ r m filled k p e. sym (aggregate_laws.comm p.live empty_aggregate ∙ aggregate_laws.unit p.live) ∙ filled k p e) rs ms h
 
 -- ---- cells with their parts
 
@@ -197,12 +181,6 @@ module _ (columns : List ColumnPoints) (r : Rule) (low : ℤ) (m o n : CellMap) 
     others = others-kept;
   }
 
-live-at : (columns : List ColumnPoints) (rs : List Rule) (ns : List CellMap) (i : ℕ) (r : Rule) (n : CellMap) → AreLive columns rs ns → IsAt rs i r → IsAt ns i n → IsLive columns r n
-live-at columns [] ns i r n h ar an = absurd (none-some r ar)
-live-at columns (q ∷ rs) [] i r n h ar an = absurd (none-some n an)
-live-at columns (q ∷ rs) (x ∷ ns) zero r n h ar an = subst (IsLive columns r) (same_Some x n an) (subst (λ (z : Rule). IsLive columns z x) (same_Some q r ar) h.0)
-live-at columns (q ∷ rs) (x ∷ ns) (suc i) r n h ar an = live-at columns rs ns i r n h.1 ar an
-
 idle-at : (ms : List CellMap) (i : ℕ) (m : CellMap) → AreIdle ms → IsAt ms i m → IsIdle m
 idle-at [] i m h am = absurd (none-some m am)
 idle-at (x ∷ ms) zero m h am = subst IsIdle (same_Some x m am) h.0
@@ -211,18 +189,14 @@ idle-at (x ∷ ms) (suc i) m h am = idle-at ms i m h.1 am
 pub all-filled : (columns : List ColumnPoints) (rs : List Rule) (lows : List ℤ) (ms os ns : List CellMap) → OfEachRule (MakesCells (facts_of columns)) rs lows ms os → KeepFrozen os ns → AreLive columns rs ns → AreIdle ms
     → OfEachRule (PutsCells (facts_of columns)) rs lows ms ns
 all-filled columns rs lows ms os ns made keeps live idle = (
-  frozen-length os ns keeps ∙ made.0,
+  AllZip-long KeepsFrozen os ns keeps ∙ made.0,
   λ i r low m n ar al am an.
       let o : CellMap = get_or os i finmap.empty in
       let ao : IsAt os i o = slice_get-get_or os i finmap.empty (subst (λ (z : ℕ). i < z) (sym made.0) (slice_get_within ms i m am)) in
-      fills columns r low m o n (made.1 i r low m o ar al am ao) (frozen-at os ns i o n keeps ao an) (live-at columns rs ns i r n live ar an) (idle-at ms i m idle am),
+      fills columns r low m o n (made.1 i r low m o ar al am ao) (AllZip-at KeepsFrozen os ns i o n keeps ao an) (OfEach-at (IsLive columns) rs ns i r n live ar an) (idle-at ms i m idle am),
 )
 
 -- ---- what follows
-
--- the others
-pub others-of : (P : Rule → ℤ → CellMap → CellMap → Type 0) (r : Rule) (rs : List Rule) (low : ℤ) (lows : List ℤ) (m : CellMap) (ms : List CellMap) (n : CellMap) (ns : List CellMap) → OfEachRule P (r ∷ rs) (low ∷ lows) (m ∷ ms) (n ∷ ns) → OfEachRule P rs lows ms ns
-others-of P r rs low lows m ms n ns h = (let e = h.0 in omega (arith, e), λ i. h.1 (suc i))
 
 pub has_cells-had : (facts : List Fact) (rs : List Rule) (lows : List ℤ) (ms ns : List CellMap) → OfEachRule (PutsCells facts) rs lows ms ns → HaveCells rs lows facts ns
 has_cells-had facts [] lows ms ns h = tt
@@ -233,18 +207,11 @@ has_cells-had facts (r ∷ rs) (low ∷ lows) (m ∷ ms) (n ∷ ns) h = (
   λ f a rolled above none.
       let puts : PutsCells facts r low m n = h.1 0 r low m n refl refl refl refl in
       (puts.there (cell_of r f)).1 (inr (above, (f, a, ap (λ b. b && same_cell (cell_of r f) (cell_of r f)) rolled ∙ same_cell-refl (cell_of r f)))) none,
-  has_cells-had facts rs lows ms ns (others-of (PutsCells facts) r rs low lows m ms n ns h),
+  has_cells-had facts rs lows ms ns (others_of (PutsCells facts) r rs low lows m ms n ns h),
 )
 
 pub possible-had : (facts : List Fact) (rs : List Rule) (lows : List ℤ) (ms os : List CellMap) → length lows ≡ length rs → OfEachRule (MakesCells facts) rs lows ms os → HavePossibleCells rs ms → HavePossibleCells rs os
-possible-had facts [] lows ms os l h v = tt
-possible-had facts (r ∷ rs) lows ms [] l h v = tt
-possible-had facts (r ∷ rs) [] ms (o ∷ os) l h v = absurd (omega (arith, l))
-possible-had facts (r ∷ rs) (low ∷ lows) [] (o ∷ os) l h v = absurd (let e = h.0 in omega (arith, e))
-possible-had facts (r ∷ rs) (low ∷ lows) (m ∷ ms) (o ∷ os) l h v = (
-  let made : MakesCells facts r low m o = h.1 0 r low m o refl refl refl refl in made.possible v.0,
-  possible-had facts rs lows ms os (omega (arith, l)) (others-of (MakesCells facts) r rs low lows m ms o os h) v.1,
-)
+possible-had facts rs lows ms os l h v = of_rules (MakesCells facts) HasPossibleCells HasPossibleCells (λ r low m o made. made.possible) rs lows ms os l h v
 
 still-keys : (m n : CellMap) → KeepsFrozen m n → (k : Cell) → Among k (finmap.keys n) → Among k (finmap.keys m)
 still-keys m n keeps k a =
@@ -254,11 +221,7 @@ still-keys m n keeps k a =
     ] refl)
 
 pub possible-kept : (rs : List Rule) (ms ns : List CellMap) → KeepFrozen ms ns → HavePossibleCells rs ms → HavePossibleCells rs ns
-possible-kept [] ms ns keeps v = tt
-possible-kept (r ∷ rs) [] [] keeps v = tt
-possible-kept (r ∷ rs) [] (n ∷ ns) keeps v = absurd keeps
-possible-kept (r ∷ rs) (m ∷ ms) [] keeps v = absurd keeps
-possible-kept (r ∷ rs) (m ∷ ms) (n ∷ ns) keeps v = (λ k a. v.0 k (still-keys m n keeps.0 k a), possible-kept rs ms ns keeps.1 v.1)
+possible-kept rs ms ns keeps v = OfEach-changed HasPossibleCells KeepsFrozen HasPossibleCells (λ r m n keep all k a. all k (still-keys m n keep k a)) rs ms ns keeps v
 
 -- created cells have no live part
 idle-made : (facts : List Fact) (rs : List Rule) (lows : List ℤ) (ms os : List CellMap) → length lows ≡ length rs → length ms ≡ length rs → OfEachRule (MakesCells facts) rs lows ms os → AreIdle ms → AreIdle os
@@ -273,7 +236,7 @@ idle-made facts (r ∷ rs) (low ∷ lows) (m ∷ ms) (o ∷ os) l n h idle = (
         | None ↦ λ none. ap (λ (y : CellParts). y.live) (made.gains.created k p none e).0
         | Some q ↦ λ some. ap (λ (y : CellParts). y.live) (same_Some p q (sym e ∙ made.gains.stays k q some)) ∙ idle.0 k q some
       ] refl,
-  idle-made facts rs lows ms os (omega (arith, l)) (omega (arith, n)) (others-of (MakesCells facts) r rs low lows m ms o os h) idle.1,
+  idle-made facts rs lows ms os (omega (arith, l)) (omega (arith, n)) (others_of (MakesCells facts) r rs low lows m ms o os h) idle.1,
 )
 
 -- ---- the whole

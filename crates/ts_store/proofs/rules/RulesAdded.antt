@@ -17,7 +17,7 @@ use Rattle.ts_core.specs.store.Marks.{Marks, index_of, first_from}
 use Rattle.ts_core.specs.aggregates.Aggregates.{Aggregate}
 use Rattle.ts_core.specs.store.Cells.{cell_of, is_in_cell}
 use Rattle.ts_core.specs.lists.Changes.{or_else}
-use Rattle.ts_core.specs.store.StoreStates.{ColumnPoints, RuleCells, column_of, facts_of}
+use Rattle.ts_core.specs.store.StoreStates.{RuleCells, column_of, facts_of}
 use Rattle.ts_core.specs.store.StoreData.{CellMap, StoreData, no_parts, rule_cells, rules_of, IsLive}
 use Rattle.ts_core.specs.moves.RuleMoves.{IsEven, rule_added}
 use Rattle.ts_core.proofs.aggregates.BucketsOrder.{bucket_le, bucket_of-start}
@@ -26,12 +26,13 @@ use Rattle.ts_core.proofs.lists.ListSteps.{length-filter}
 use Rattle.ts_core.proofs.store.LowIndices.{first_from-is, first_near}
 use Rattle.ts_core.proofs.store.RulesCome.{all_last}
 use Rattle.ts_core.proofs.settings.RuleLaws.{with_rule-fault}
-use Rattle.ts_core.proofs.lists.BesideLemmas.{OfEach-push}
 use Rattle.ts_core.proofs.moves.RulesMove.{rule_comes, left_added, even_added}
 use Rattle.ts_core.proofs.settings.SettingsLaws.{settings_are}
 use Rattle.ts_core.proofs.moves.MovesStand.{key_there}
-use Rattle.ts_store.specs.store.CellCounts.{HoldsFew, HoldFew}
-use Rattle.ts_store.specs.store.PossibleCells.{HasPossibleCells, HavePossibleCells}
+use Rattle.ts_core.proofs.lists.BesideLemmas.{OfEach-push}
+use Rattle.std.proofs.lemmas.Slice.Zip.{all_zipped_more}
+use Rattle.ts_store.specs.store.CellCounts.{HoldsFew}
+use Rattle.ts_store.specs.store.PossibleCells.{HasPossibleCells}
 use Rattle.ts_store.specs.store.ColumnStates.{StoreContent}
 use Rattle.ts_store.specs.retain.OpenRuns.{Run, data_of_parts}
 use Rattle.ts_store.specs.store.SoundStores.{IsSoundStore}
@@ -39,26 +40,12 @@ use Rattle.ts_store.specs.rollup.Rollups.{RollupState, HaveRollupSeries, AreRoll
 use Rattle.ts_store.specs.rules.RuleRollups.{IsRollupOf, with_rollup}
 use Rattle.ts_store.specs.rules.RulesChanged.{RuleComes, AddsRule}
 use Rattle.ts_store.specs.store.SizedStores.{IsSizedRule}
+use Rattle.ts_store.proofs.rollup.RollupsGrow.{IsOfRule}
 
 -- ---- lists that are one longer
 
 rollups_push : (rs : List Rule) (cs : List Column) (ss : List RollupState) (r : Rule) (s : RollupState) → AreRollups rs cs ss → HaveRollupSeries r s.grid.rollup_series cs s.series_of_column → AreRollups (rs ++ r ∷ []) cs (ss ++ s ∷ [])
-rollups_push [] cs [] r s h one = (one, tt)
-rollups_push [] cs (t ∷ ss) r s h one = absurd h
-rollups_push (q ∷ rs) cs [] r s h one = absurd h
-rollups_push (q ∷ rs) cs (t ∷ ss) r s h one = (h.0, rollups_push rs cs ss r s h.1 one)
-
-counts_push : (n : ℕ) (columns : List ColumnPoints) (rs : List Rule) (ms : List CellMap) (r : Rule) (m : CellMap) → length ms ≡ length rs → HoldsFew n columns r m → HoldFew n columns rs ms → HoldFew n columns (rs ++ r ∷ []) (ms ++ m ∷ [])
-counts_push n columns [] [] r m e one h = (one, tt)
-counts_push n columns [] (x ∷ ms) r m e one h = absurd (omega (arith, e))
-counts_push n columns (q ∷ rs) [] r m e one h = absurd (omega (arith, e))
-counts_push n columns (q ∷ rs) (x ∷ ms) r m e one h = (h.0, counts_push n columns rs ms r m (omega (arith, e)) one h.1)
-
-possible_push : (rs : List Rule) (ms : List CellMap) (r : Rule) (m : CellMap) → length ms ≡ length rs → HasPossibleCells r m → HavePossibleCells rs ms → HavePossibleCells (rs ++ r ∷ []) (ms ++ m ∷ [])
-possible_push [] [] r m e one h = (one, tt)
-possible_push [] (x ∷ ms) r m e one h = absurd (omega (arith, e))
-possible_push (q ∷ rs) [] r m e one h = absurd (omega (arith, e))
-possible_push (q ∷ rs) (x ∷ ms) r m e one h = (h.0, possible_push rs ms r m (omega (arith, e)) one h.1)
+rollups_push rs cs ss r s h one = all_zipped_more (IsOfRule cs) rs ss r s h one
 
 sized_push : (P : RuleCells → Type 0) (rs : List Rule) (lows : List ℤ) (ms : List CellMap) (r : Rule) (low : ℤ) (m : CellMap) → length lows ≡ length rs → length ms ≡ length rs → P (rule_cells r low m) → AllByRecursion P (rules_of rs lows ms)
     → AllByRecursion P (rules_of (rs ++ r ∷ []) (lows ++ low ∷ []) (ms ++ m ∷ []))
@@ -141,9 +128,9 @@ module _ (settings : Settings) (marks : Marks) (n : ℕ) (held : StoreContent) (
     kept_added = record {
       rollups = rollups_push settings.rules (map column_of held.columns) held.rollups r s kept.rollups rollup.series;
       few = kept.few;
-      counts = counts_push n held.columns settings.rules (cells_of held.rollups) r cells kept.sized.cells few kept.counts;
+      counts = OfEach-push (HoldsFew n held.columns) settings.rules (cells_of held.rollups) r cells kept.sized.cells few kept.counts;
       live = OfEach-push (IsLive held.columns) settings.rules (cells_of held.rollups) r cells kept.sized.cells rollup.fresh.live kept.live;
-      possible = possible_push settings.rules (cells_of held.rollups) r cells kept.sized.cells rollup.possible kept.possible;
+      possible = OfEach-push HasPossibleCells settings.rules (cells_of held.rollups) r cells kept.sized.cells rollup.possible kept.possible;
       sized = record {
         settings = with_rule-fault settings r kept.sized.settings ∙ well;
         accepted = kept.sized.accepted;

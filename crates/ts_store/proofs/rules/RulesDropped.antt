@@ -5,14 +5,14 @@ use Rattle.std.specs.List.{AllByRecursion, remove}
 use Rattle.ts_core.specs.facts.Facts.{Text, Column}
 use Rattle.ts_core.specs.settings.Settings.{Rule, Settings, is_unnamed}
 use Rattle.ts_core.specs.store.Marks.{Marks}
-use Rattle.ts_core.specs.store.StoreStates.{ColumnPoints, RuleCells, column_of, facts_of}
+use Rattle.ts_core.specs.store.StoreStates.{RuleCells, column_of, facts_of}
 use Rattle.ts_core.specs.store.StoreData.{CellMap, StoreData, rules_of, IsLive}
 use Rattle.ts_core.specs.moves.RuleMoves.{IsEven, IsRuleAt, kept_beside, rule_dropped}
 use Rattle.ts_core.proofs.settings.RuleLaws.{without_rule-faultless}
-use Rattle.ts_core.proofs.lists.BesideLemmas.{OfEach-kept}
 use Rattle.ts_core.proofs.moves.RulesMove.{rule_goes, left_dropped, even_dropped}
-use Rattle.ts_store.specs.store.CellCounts.{HoldFew}
-use Rattle.ts_store.specs.store.PossibleCells.{HavePossibleCells}
+use Rattle.ts_core.proofs.lists.BesideLemmas.{OfEach-kept}
+use Rattle.ts_store.specs.store.PossibleCells.{HasPossibleCells}
+use Rattle.ts_store.specs.store.CellCounts.{HoldsFew}
 use Rattle.ts_store.specs.store.ColumnStates.{StoreContent}
 use Rattle.ts_store.specs.retain.OpenRuns.{Run, data_of_parts}
 use Rattle.ts_store.specs.store.SoundStores.{IsSoundStore}
@@ -38,32 +38,6 @@ rollups_removed (r ∷ rs) cs (s ∷ ss) zero h = h.1
 rollups_removed (r ∷ rs) cs (s ∷ ss) (suc i) h = (h.0, rollups_removed rs cs ss i h.1)
 
 module _ (p : Rule → Bool) where
-  none_few : (n : ℕ) (columns : List ColumnPoints) (rs : List Rule) → HoldFew n columns rs []
-  none_few n columns [] = tt
-  none_few n columns (r ∷ rs) = tt
-
-  counts_beside : (n : ℕ) (columns : List ColumnPoints) (rs : List Rule) (ms : List CellMap) → HoldFew n columns rs ms → HoldFew n columns (filter p rs) (kept_beside p rs ms)
-  counts_beside n columns [] ms h = tt
-  counts_beside n columns (r ∷ rs) [] h = none_few n columns (filter p (r ∷ rs))
-  counts_beside n columns (r ∷ rs) (m ∷ ms) h =
-      elim (p r) as (λ b. HoldFew n columns (cond b (r ∷ filter p rs) (filter p rs)) (cond b (m ∷ kept_beside p rs ms) (kept_beside p rs ms))) [
-        | true ↦ (h.0, counts_beside n columns rs ms h.1)
-        | false ↦ counts_beside n columns rs ms h.1
-      ]
-
-  none_there : (rs : List Rule) → HavePossibleCells rs []
-  none_there [] = tt
-  none_there (r ∷ rs) = tt
-
-  possible_beside : (rs : List Rule) (ms : List CellMap) → HavePossibleCells rs ms → HavePossibleCells (filter p rs) (kept_beside p rs ms)
-  possible_beside [] ms h = tt
-  possible_beside (r ∷ rs) [] h = none_there (filter p (r ∷ rs))
-  possible_beside (r ∷ rs) (m ∷ ms) h =
-      elim (p r) as (λ b. HavePossibleCells (cond b (r ∷ filter p rs) (filter p rs)) (cond b (m ∷ kept_beside p rs ms) (kept_beside p rs ms))) [
-        | true ↦ (h.0, possible_beside rs ms h.1)
-        | false ↦ possible_beside rs ms h.1
-      ]
-
   sized_beside : (P : RuleCells → Type 0) (rs : List Rule) (lows : List ℤ) (ms : List CellMap) → length lows ≡ length rs → length ms ≡ length rs → AllByRecursion P (rules_of rs lows ms)
       → AllByRecursion P (rules_of (filter p rs) (kept_beside p rs lows) (kept_beside p rs ms))
   sized_beside P [] lows ms d e h = tt
@@ -118,9 +92,9 @@ module _ (settings : Settings) (marks : Marks) (n : ℕ) (held : StoreContent) (
   kept_dropped = record {
     rollups = subst (λ (rs : List Rule). AreRollups rs (map column_of held.columns) (remove held.rollups i)) (sym at.without) (rollups_removed settings.rules (map column_of held.columns) held.rollups i kept.rollups);
     few = kept.few;
-    counts = counts_beside stays n held.columns settings.rules (cells_of held.rollups) kept.counts;
+    counts = OfEach-kept (HoldsFew n held.columns) stays settings.rules (cells_of held.rollups) kept.counts;
     live = OfEach-kept (IsLive held.columns) stays settings.rules (cells_of held.rollups) kept.live;
-    possible = possible_beside stays settings.rules (cells_of held.rollups) kept.possible;
+    possible = OfEach-kept HasPossibleCells stays settings.rules (cells_of held.rollups) kept.possible;
     sized = record {
       settings = without_rule-faultless settings name kept.sized.settings;
       accepted = kept.sized.accepted;

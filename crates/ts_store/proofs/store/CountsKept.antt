@@ -12,10 +12,11 @@ use Rattle.ts_core.specs.lists.Changes.{or_else}
 use Rattle.ts_core.specs.store.StoreStates.{ColumnPoints, CellParts, facts_of}
 use Rattle.ts_core.specs.store.TwoParts.{with_live}
 use Rattle.ts_core.specs.store.StoreData.{CellMap, no_parts}
-use Rattle.ts_core.specs.moves.StoreMoves.{Puts, refolded, put_cell, put_cells, PutsFacts, GainEmptyCells}
+use Rattle.ts_core.specs.moves.StoreMoves.{Puts, refolded, put_cell, put_cells, PutsFacts, GainEmptyCells, GainsEmptyCells}
 use Rattle.ts_core.proofs.lists.MembersLemmas.{Split, split_at, out_of_middle, Among-filter_was, Among-filter_passes, Among-filter_stays, AllDistinct-filter}
 use Rattle.ts_core.proofs.moves.Freezing.{frozen_in, changed_as}
-use Rattle.ts_store.specs.store.CellCounts.{frozen_count, live_count, HoldFew}
+use Rattle.ts_core.proofs.lists.BesideLemmas.{OfEach-map, OfEach-beside, OfEach-over}
+use Rattle.ts_store.specs.store.CellCounts.{frozen_count, live_count, HoldFew, HoldsFew}
 
 -- ---- how many more by one more fact
 
@@ -56,12 +57,9 @@ frozen_put r f facts m k =
     ]
 
 counts-one : (n : ℕ) (before after : List ColumnPoints) (f : Fact) → Puts (facts_of before) (facts_of after) f → (rs : List Rule) (ms : List CellMap) → HoldFew n before rs ms → HoldFew (n + 1) after rs (put_cells rs f (facts_of after) ms)
-counts-one n before after f put [] ms few = tt
-counts-one n before after f put (r ∷ rs) [] few = tt
-counts-one n before after f put (r ∷ rs) (m ∷ ms) few = (
-  λ k. let more = puts_one (is_in_cell r k) (facts_of before) (facts_of after) f put in let same = frozen_put r f (facts_of after) m k in let all = few.0 k in omega (arith, more, same, all),
-  counts-one n before after f put rs ms few.1,
-)
+counts-one n before after f put rs ms few =
+    OfEach-beside (HoldsFew n before) (HoldsFew (n + 1) after) (λ (r : Rule). put_cell r f (facts_of after))
+    (λ r m all k. let more = puts_one (is_in_cell r k) (facts_of before) (facts_of after) f put in let same = frozen_put r f (facts_of after) m k in let most = all k in omega (arith, more, same, most)) rs ms few
 
 -- facts are put in
 pub counts-put : (n : ℕ) (rs : List Rule) (before : List ColumnPoints) (ms : List CellMap) (after : List ColumnPoints) (ns : List CellMap) (fs : List Fact) → PutsFacts rs before ms after ns fs → HoldFew n before rs ms → HoldFew (n + length fs) after rs ns
@@ -72,26 +70,18 @@ counts-put n rs before ms after ns (f ∷ fs) put few =
 
 -- columns and cells are created, without facts
 pub counts-grown : (n : ℕ) (before after : List ColumnPoints) → facts_of after ≡ facts_of before → (facts : List Fact) (rs : List Rule) (lows : List ℤ) (ms ns : List CellMap) → length lows ≡ length rs → GainEmptyCells rs lows facts ms ns → HoldFew n before rs ms → HoldFew n after rs ns
-counts-grown n before after same facts [] lows ms ns l capacity few = tt
-counts-grown n before after same facts (r ∷ rs) lows ms [] l capacity few = tt
-counts-grown n before after same facts (r ∷ rs) lows [] (x ∷ ns) l capacity few = absurd capacity
-counts-grown n before after same facts (r ∷ rs) [] (m ∷ ms) (x ∷ ns) l capacity few = absurd (omega (arith, l))
-counts-grown n before after same facts (r ∷ rs) (low ∷ lows) (m ∷ ms) (x ∷ ns) l capacity few = (
-  λ k.
-      let frozen : frozen_count x k ≡ frozen_count m k = ap (λ (a : CellParts). a.frozen.count) (capacity.0.parts k) in
-      let live : live_count r k after ≡ live_count r k before = ap (λ fs. length (filter (is_in_cell r k) fs)) same in
-      let all = few.0 k in
-      omega (arith, frozen, live, all),
-  counts-grown n before after same facts rs lows ms ns (omega (arith, l)) capacity.1 few.1,
-)
+counts-grown n before after same facts rs lows ms ns l capacity few =
+    OfEach-over (HoldsFew n before) (λ (x : Rule × ℤ). GainsEmptyCells x.0 x.1 facts) (HoldsFew n after)
+    (λ r low m x gains all k.
+    let frozen : frozen_count x k ≡ frozen_count m k = ap (λ (a : CellParts). a.frozen.count) (gains.parts k) in
+    let live : live_count r k after ≡ live_count r k before = ap (λ fs. length (filter (is_in_cell r k) fs)) same in
+    let most = all k in
+    omega (arith, frozen, live, most)) rs lows ms ns l capacity few
 
 -- nothing is there yet
 pub counts-new : (rs : List Rule) → HoldFew 0 [] rs (map (λ (r : Rule). finmap.empty) rs)
-counts-new [] = tt
-counts-new (r ∷ rs) = (
-  λ k. let none : frozen_count finmap.empty k ≡ 0 = ap (λ o. (or_else no_parts o).frozen.count) (get-empty cell_cmp k) in omega (arith, none),
-  counts-new rs,
-)
+counts-new rs =
+    OfEach-map (HoldsFew 0 []) (λ (r : Rule). finmap.empty) (λ r k. let none : frozen_count finmap.empty k ≡ 0 = ap (λ o. (or_else no_parts o).frozen.count) (get-empty cell_cmp k) in omega (arith, none)) rs
 
 -- ---- all facts
 

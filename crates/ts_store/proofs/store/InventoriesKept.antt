@@ -2,7 +2,9 @@
 use Rattle.std.proofs.Common.{◌≡◌, ◌⊎◌, ⊎_elim, ℕ, zero, suc, ℤ, ◌+◌, ◌-◌, ◌≤ℤ◌, int_lt, true, false, List, [], ◌∷◌, length, map, filter, refl, sym, ◌∙◌, ap, ap₂, subst, inl, inr, arith, cond, Some, None}
 use Rattle.std.specs.FinMap as finmap
 use Rattle.std.proofs.Math.Nat.{eq-or-lt_of_le}
+use Rattle.std.specs.List.{zip}
 use Rattle.std.proofs.lemmas.List.{nil_from_length}
+use Rattle.std.proofs.lemmas.List.Sums.{sum_by-cons}
 use Rattle.std.proofs.lemmas.Option.{none-some, same_Some}
 use Rattle.ts_core.specs.lists.Members.{Among}
 use Rattle.ts_core.specs.lists.Numbered.{IsAt}
@@ -92,10 +94,14 @@ steps_to old new m = ⊎_elim {C = StepsTo old.marks.lows (inventory_of old) Mov
 
 -- ---- the end
 
+-- the batches of the first rule, and of the others
+batches_first : (low : ℤ) (lows : List ℤ) (a : List Cell) (cells : List (List Cell)) → batches_in (low ∷ lows) (a ∷ cells) ≡ batches_of (expired_in low a) + batches_in lows cells
+batches_first low lows a cells = sum_by-cons (λ (p : ℤ × List Cell). batches_of (expired_in p.0 p.1)) (low, a) (zip lows cells)
+
 no_turns : (lows : List ℤ) (ms : List CellMap) → AreAbove lows ms → batches_in lows (all_keys ms) ≡ 0
 no_turns [] ms a = refl
 no_turns (low ∷ lows) [] a = refl
-no_turns (low ∷ lows) (m ∷ ms) a = ap₂ (λ x y. batches_of x + y) (none_below low m a.0) (no_turns lows ms a.1)
+no_turns (low ∷ lows) (m ∷ ms) a = batches_first low lows (finmap.keys m) (all_keys ms) ∙ ap₂ (λ x y. batches_of x + y) (none_below low m a.0) (no_turns lows ms a.1)
 
 none_wait : (k : StoreData) → k.running ≡ true → steps_left (state_of k) ≡ 1 → k.waiting ≡ []
 none_wait k runs last =
@@ -160,6 +166,8 @@ first_turn [] old new e = absurd e
 first_turn (low ∷ lows) [] new e = absurd e
 first_turn (low ∷ lows) (a ∷ old) [] e = absurd e
 first_turn (low ∷ lows) (a ∷ old) (b ∷ new) e =
+    let before = batches_first low lows a old in
+    let after = batches_first low lows b new in
     ⊎_elim {C = batches_in (low ∷ lows) (a ∷ old) ≡ batches_in (low ∷ lows) (b ∷ new) + 1}
     (λ p. let one = turn_taken low a b p.0 in let others : batches_in lows new ≡ batches_in lows old = ap (batches_in lows) p.1 in omega arith)
     (λ p. let same : batches_of (expired_in low b) ≡ batches_of (expired_in low a) = ap (λ (x : List Cell). batches_of (expired_in low x)) p.1 in let others = first_turn lows old new p.2 in omega arith) e
@@ -206,10 +214,13 @@ recent_at [] old ns keeps none i low a b at_low at_old at_new = absurd (none-som
 recent_at (l ∷ lows) [] ns keeps none i low a b at_low at_old at_new = absurd (none-some a at_old)
 recent_at (l ∷ lows) (x ∷ old) [] keeps none i low a b at_low at_old at_new = absurd (none-some b at_new)
 recent_at (l ∷ lows) (x ∷ old) (n ∷ ns) keeps none zero low a b at_low at_old at_new =
+    let parts = batches_first l lows (finmap.keys n) (all_keys ns) in
     subst (λ (q : ℤ). LeavesFrom q a b) (same_Some l low at_low)
     (subst (λ (q : List Cell). LeavesFrom l q b) (same_Some x a at_old)
     (subst (λ (q : List Cell). LeavesFrom l x q) (same_Some (finmap.keys n) b at_new) (one_recent l x n keeps.0 (omega arith))))
-recent_at (l ∷ lows) (x ∷ old) (n ∷ ns) keeps none (suc i) low a b at_low at_old at_new = recent_at lows old ns keeps.1 (omega arith) i low a b at_low at_old at_new
+recent_at (l ∷ lows) (x ∷ old) (n ∷ ns) keeps none (suc i) low a b at_low at_old at_new =
+    let parts = batches_first l lows (finmap.keys n) (all_keys ns) in
+    recent_at lows old ns keeps.1 (omega arith) i low a b at_low at_old at_new
 
 kept_length : (lows : List ℤ) (old new : List (List Cell)) → KeepAll lows old new → length new ≡ length old
 kept_length lows [] [] k = refl

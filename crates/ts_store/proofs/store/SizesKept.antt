@@ -1,9 +1,10 @@
 -- The plain facts about a store's data, which hold of a new store and after each transition.
-use Rattle.std.proofs.Common.{◌≡◌, ℕ, ℤ, pos, ◌+ℤ◌, ◌+◌, ◌≤◌, ◌≤ℤ◌, ◌^◌, List, [], ◌∷◌, ◌++◌, length, filter, map, refl, sym, ◌∙◌, ap, subst, inl, inr, ⊎_elim, None, arith}
+use Rattle.std.proofs.Common.{◌≡◌, ℕ, ℤ, pos, ◌+ℤ◌, ◌+◌, ◌≤◌, ◌≤ℤ◌, ◌^◌, List, [], ◌∷◌, ◌++◌, length, filter, map, sym, ◌∙◌, ap, subst, inl, inr, ⊎_elim, None, arith}
+use Rattle.std.proofs.lemmas.Slice.Zip.{length-zip}
 use Rattle.std.specs.Int.{int_max}
 use Rattle.std.specs.Int.Signed.{≤ℤ_refl}
 use Rattle.std.specs.FinMap as finmap
-use Rattle.std.specs.List.{AllByRecursion}
+use Rattle.std.specs.List.{AllByRecursion, zip}
 use Rattle.std.proofs.lemmas.Int.{ints, clamps}
 use Rattle.std.proofs.lemmas.List.{length-map}
 use Rattle.ts_core.specs.lists.Members.{Among, AllDistinct}
@@ -16,7 +17,7 @@ use Rattle.ts_core.specs.store.Marks.{index_of, low_of}
 use Rattle.ts_core.specs.store.Cells.{cell_of}
 use Rattle.ts_core.specs.store.StoreStates.{ColumnPoints, RuleCells, column_of, facts_of}
 use Rattle.ts_core.specs.store.StoreData.{CellMap, StoreData, rule_cells, rules_of, new_data}
-use Rattle.ts_core.specs.moves.StoreMoves.{PutsFacts, GainEmptyCells, Expired, put_cells, points_below, kept_points, all_moved, column_moved, raised, run_begun, with_cells, run_ended, grown, put_facts}
+use Rattle.ts_core.specs.moves.StoreMoves.{PutsFacts, GainEmptyCells, Expired, put_cells, points_below, kept_points, all_moved, column_moved, raised, run_begun, with_cells, run_ended, grown, put_facts, KeepsFrom, moved_cells, GainsEmptyCells}
 use Rattle.ts_core.proofs.settings.SettingsLaws.{settings_wide, settings_are}
 use Rattle.ts_core.proofs.aggregates.BucketsOrder.{bucket_le}
 use Rattle.ts_core.proofs.store.StateLemmas.{le_trans, int_max-left, int_max-right}
@@ -26,38 +27,19 @@ use Rattle.ts_core.proofs.lists.MembersLemmas.{Among-left, Among-right, Among-ap
 use Rattle.ts_core.proofs.store.Moves.{is_left}
 use Rattle.ts_core.proofs.store.RunSteps.{facts_of-left, columns_of-left}
 use Rattle.ts_core.proofs.moves.StepStands.{keys_column}
-use Rattle.ts_core.proofs.moves.MovesStand.{key_there, key_not, put_cell-keys}
+use Rattle.ts_core.proofs.moves.MovesStand.{key_there, key_not, put_cell-keys, GainsBeside, rules_keep}
+use Rattle.ts_core.proofs.lists.BesideLemmas.{length-beside, AllZipBeside-long}
 use Rattle.ts_line.specs.Names.{IsKey, IsStatable}
 use Rattle.ts_store.specs.store.SizedStores.{IsSizedRule, IsSized}
 use Rattle.ts_store.proofs.store.CountsKept.{facts-put}
-use Rattle.ts_store.proofs.retain.RollupMoves.{moved-length}
-use Rattle.ts_store.proofs.write.CellsMade.{put-length}
+use Rattle.ts_store.proofs.write.CellsMade.{line-length}
 
 -- ---- lists of the same length
 
-raised-length : (now : ℤ) (rs : List Rule) (lows : List ℤ) → length lows ≡ length rs → length (raised now rs lows) ≡ length rs
-raised-length now [] lows e = e
-raised-length now (r ∷ rs) [] e = e
-raised-length now (r ∷ rs) (low ∷ lows) e = let rest = raised-length now rs lows (omega (arith, e)) in omega (arith, rest)
-
 capacity-length : (rs : List Rule) (lows : List ℤ) (facts : List Fact) (ms ns : List CellMap) → length lows ≡ length rs → length ms ≡ length rs → GainEmptyCells rs lows facts ms ns → length ns ≡ length rs
-capacity-length rs lows facts [] [] l e capacity = e
-capacity-length rs lows facts [] (n ∷ ns) l e capacity = absurd capacity
-capacity-length rs lows facts (m ∷ ms) [] l e capacity = absurd capacity
-capacity-length [] lows facts (m ∷ ms) (n ∷ ns) l e capacity = absurd (omega (arith, e))
-capacity-length (r ∷ rs) [] facts (m ∷ ms) (n ∷ ns) l e capacity = absurd (omega (arith, l))
-capacity-length (r ∷ rs) (low ∷ lows) facts (m ∷ ms) (n ∷ ns) l e capacity = let rest = capacity-length rs lows facts ms ns (omega (arith, l)) (omega (arith, e)) capacity.1 in omega (arith, rest)
-
-expired-length : (lows : List ℤ) (ms ns : List CellMap) → length lows ≡ length ms → Expired lows ms ns → length ns ≡ length ms
-expired-length lows [] [] l e = refl
-expired-length lows [] (n ∷ ns) l e = absurd e
-expired-length lows (m ∷ ms) [] l e = absurd e
-expired-length [] (m ∷ ms) (n ∷ ns) l e = absurd (omega (arith, l))
-expired-length (low ∷ lows) (m ∷ ms) (n ∷ ns) l e = let rest = expired-length lows ms ns (omega (arith, l)) e.1 in omega (arith, rest)
-
-puts-length : (rs : List Rule) (before : List ColumnPoints) (ms : List CellMap) (after : List ColumnPoints) (ns : List CellMap) (fs : List Fact) → PutsFacts rs before ms after ns fs → length ns ≡ length ms
-puts-length rs before ms after ns [] p = ap (λ (xs : List CellMap). length xs) p.1
-puts-length rs before ms after ns (f ∷ fs) p = puts-length rs p.0 (put_cells rs f (facts_of p.0) ms) after ns fs p.2 ∙ put-length rs f (facts_of p.0) ms
+capacity-length rs lows facts ms ns l e capacity =
+    let long = length-zip rs lows in
+    AllZipBeside-long (λ (x : Rule × ℤ). GainsEmptyCells x.0 x.1 facts) (zip rs lows) ms ns (omega (arith, long, l, e)) capacity ∙ e
 
 -- ---- numbers
 
@@ -163,14 +145,9 @@ rules_gone mark facts (r ∷ rs) (low ∷ lows) (m ∷ ms) (n ∷ ns) e s = (
 
 -- capacity is reserved
 rules_grown : (mark : ℤ) (made facts : List Fact) (rs : List Rule) (lows : List ℤ) (ms ns : List CellMap) → GainEmptyCells rs lows made ms ns → AreSizedRules mark facts rs lows ms → AreSizedRules mark facts rs lows ns
-rules_grown mark made facts [] lows ms ns capacity s = tt
-rules_grown mark made facts (r ∷ rs) [] ms ns capacity s = tt
-rules_grown mark made facts (r ∷ rs) (low ∷ lows) ms [] capacity s = tt
-rules_grown mark made facts (r ∷ rs) (low ∷ lows) [] (n ∷ ns) capacity s = absurd capacity
-rules_grown mark made facts (r ∷ rs) (low ∷ lows) (m ∷ ms) (n ∷ ns) capacity s = (
-  record { least = s.0.least; most = s.0.most; there = λ f a t l. key_there n (cell_of r f) (λ z. key_not m (cell_of r f) (s.0.there f a t l) (capacity.0.stays (cell_of r f) z)) },
-  rules_grown mark made facts rs lows ms ns capacity.1 s.1,
-)
+rules_grown mark made facts rs lows ms ns capacity s =
+    rules_keep (GainsBeside made) (IsSizedRule mark facts) (IsSizedRule mark facts)
+    (λ r low m n gains had. record { least = had.least; most = had.most; there = λ f a t l. key_there n (cell_of r f) (λ z. key_not m (cell_of r f) (had.there f a t l) (gains.stays (cell_of r f) z)) }) rs lows ms ns capacity s
 
 -- for these facts too
 rules_roomy : (mark : ℤ) (made facts : List Fact) (rs : List Rule) (lows : List ℤ) (ms ns : List CellMap) → GainEmptyCells rs lows made ms ns → AreSizedRules mark facts rs lows ns → AreSizedRules mark (made ++ facts) rs lows ns
@@ -238,7 +215,7 @@ sized_begun k now s = record {
   registered = s.registered;
   keys = s.keys;
   once = s.once;
-  lows = raised-length now k.settings.rules k.marks.lows s.lows;
+  lows = length-beside (λ (r : Rule) (low : ℤ). int_max low (index_of r (kept_since r.duration now))) k.settings.rules k.marks.lows ∙ s.lows;
   cells = s.cells;
   rules = rules_raised now k.settings.raw_duration k.marks.raw (facts_of k.columns) k.settings.rules k.marks.lows k.cells (settings_wide k.settings s.settings) (settings_are k.settings s.settings).lasting s.rules;
 }
@@ -261,7 +238,7 @@ sized_moved k c ps rest s =
       keys = λ d a. s.keys d (subst (Among d) names a);
       once = subst AllDistinct (sym left) (AllDistinct-filter (is_left c mark) (facts_of k.columns) s.once);
       lows = s.lows;
-      cells = moved-length k.settings.rules c (points_below mark ps) (facts_of columns) k.cells ∙ s.cells;
+      cells = length-beside (λ (r : Rule). moved_cells r c (points_below mark ps) (facts_of columns)) k.settings.rules k.cells ∙ s.cells;
       rules = rules_moved mark c (points_below mark ps) (facts_of k.columns) (facts_of columns) (λ f a. Among-filter_was (is_left c mark) f (facts_of k.columns) (subst (Among f) left a)) k.settings.rules k.marks.lows k.cells s.rules;
     }
 
@@ -277,7 +254,7 @@ sized_gone k ms e s = record {
   keys = s.keys;
   once = s.once;
   lows = s.lows;
-  cells = expired-length k.marks.lows k.cells ms (s.lows ∙ sym s.cells) e ∙ s.cells;
+  cells = AllZipBeside-long KeepsFrom k.marks.lows k.cells ms (s.lows ∙ sym s.cells) e ∙ s.cells;
   rules = rules_gone k.marks.raw (facts_of k.columns) k.settings.rules k.marks.lows k.cells ms e s.rules;
 }
 
@@ -332,7 +309,7 @@ sized_put k columns facts ms ns capacity put few s =
       keys = λ c a. s.keys c (subst (Among c) names a);
       once = puts-once rs k.columns k.cells columns ns facts s.once put;
       lows = s.lows;
-      cells = puts-length rs k.columns k.cells columns ns facts put ∙ s.cells;
+      cells = line-length rs facts k.columns columns k.cells ns put ∙ s.cells;
       rules = rules_fewer k.marks.raw (facts ++ facts_of k.columns) (facts_of columns) (puts-only rs k.columns k.cells columns ns facts put) rs lows ns
           (rules_puts k.marks.raw (facts ++ facts_of k.columns) rs lows k.columns k.cells columns ns facts put (rules_roomy k.marks.raw facts (facts_of k.columns) rs lows ms k.cells capacity s.rules));
     }

@@ -15,11 +15,13 @@ use Rattle.ts_core.specs.moves.StoreMoves.{GainsEmptyCells, GainEmptyCells}
 use Rattle.std.proofs.lemmas.Int.{ints}
 use Rattle.ts_core.proofs.lists.Comparisons.{lt_from, lt_not, lt_true}
 use Rattle.ts_core.proofs.plans.PieceCells.{same_cell-eq, same_cell-refl}
+use Rattle.ts_core.proofs.lists.BesideLemmas.{AllZip-same, AllZip-then}
 use Rattle.ts_cells.specs.CellChanges.{inserted_if_absent}
 use Rattle.ts_cells.specs.Grids.{RollupSeries, no_rollup_series, cell_at, cell_in}
 use Rattle.ts_cells.proofs.GridMoves.{get-inserted_if_absent}
 use Rattle.ts_store.specs.rollup.Rollups.{RollupState, cells_of, rollup_series_under, IsRollupSeriesOf, HaveRollupSeries, AreRollups, with_grid_cells, cell_created_in, rollup_series_at}
 use Rattle.ts_store.specs.write.CellsCreated.{cells_created_for, cells_created_from, cells_created_under, IsCreatedInPart, AreCreatedInPart, KeepRollupSeries}
+use Rattle.ts_store.proofs.rollup.RollupsGrow.{IsOfRule}
 
 -- the facts are of the columns of these numbers, and of one time
 abbrev pub AreAt : List Column → ℤ → List ℕ → List Fact → Type 0
@@ -173,19 +175,11 @@ no_rollups (r ∷ rs) (low ∷ lows) time ns [] e = refl
 no_rollups (r ∷ rs) (low ∷ lows) time ns (s ∷ ss) e = absurd (omega arith)
 
 pub rollup_series_same : (ss : List RollupState) → KeepRollupSeries ss ss
-rollup_series_same [] = tt
-rollup_series_same (s ∷ ss) = (refl, rollup_series_same ss)
+rollup_series_same ss = AllZip-same (λ (s t : RollupState). t ≡ with_grid_cells t.grid.cells s) (λ s. refl) ss
 
 pub rollups_stay : (rs : List Rule) (cs : List Column) (ss ts : List RollupState) → AreRollups rs cs ss → KeepRollupSeries ss ts → AreRollups rs cs ts
-rollups_stay [] cs [] [] h k = tt
-rollups_stay [] cs [] (t ∷ ts) h k = absurd k
-rollups_stay [] cs (s ∷ ss) ts h k = absurd h
-rollups_stay (r ∷ rs) cs [] ts h k = absurd h
-rollups_stay (r ∷ rs) cs (s ∷ ss) [] h k = absurd k
-rollups_stay (r ∷ rs) cs (s ∷ ss) (t ∷ ts) h k = (
-  subst (λ (u : RollupState). HaveRollupSeries r u.grid.rollup_series cs u.series_of_column) (sym k.0) h.0,
-  rollups_stay rs cs ss ts h.1 k.1,
-)
+rollups_stay rs cs ss ts h k =
+    AllZip-then (IsOfRule cs) (λ (s t : RollupState). t ≡ with_grid_cells t.grid.cells s) (IsOfRule cs) (λ r s t have same. subst (IsOfRule cs r) (sym same) have) rs ss ts h k
 
 -- ---- step by step
 

@@ -17,6 +17,7 @@ use Rattle.ts_core.proofs.lists.Comparisons.{lt_not}
 use Rattle.ts_core.proofs.moves.Freezing.{frozen_in}
 use Rattle.ts_core.proofs.moves.MovesStand.{key_there, key_not, put_cell-keys, put_frozen, put_else}
 use Rattle.ts_core.proofs.plans.PieceCells.{same_cell-eq, same_cell-refl}
+use Rattle.ts_core.proofs.lists.BesideLemmas.{length-beside}
 use Rattle.ts_cells.specs.Grids.{no_rollup_series, cell_at, cell_in}
 use Rattle.ts_cells.proofs.GridMoves.{get-inserted_if_absent}
 use Rattle.ts_store.specs.write.LinesPut.{OfEachRule, IsOfFacts, PutsCells, GainsCells}
@@ -167,14 +168,9 @@ put_at (q ∷ rs) f facts [] i r m ar am = absurd (none-some m am)
 put_at (q ∷ rs) f facts (x ∷ ms) zero r m ar am = ap₂ (λ (a : Rule) (b : CellMap). Some (put_cell a f facts b)) (same_Some q r ar) (same_Some x m am)
 put_at (q ∷ rs) f facts (x ∷ ms) (suc i) r m ar am = put_at rs f facts ms i r m ar am
 
-pub put-length : (rs : List Rule) (f : Fact) (facts : List Fact) (ms : List CellMap) → length (put_cells rs f facts ms) ≡ length ms
-put-length [] f facts ms = refl
-put-length (r ∷ rs) f facts [] = refl
-put-length (r ∷ rs) f facts (m ∷ ms) = ap suc (put-length rs f facts ms)
-
-line-length : (rs : List Rule) (fs : List Fact) (before after : List ColumnPoints) (ms ns : List CellMap) → PutsFacts rs before ms after ns fs → length ns ≡ length ms
+pub line-length : (rs : List Rule) (fs : List Fact) (before after : List ColumnPoints) (ms ns : List CellMap) → PutsFacts rs before ms after ns fs → length ns ≡ length ms
 line-length rs [] before after ms ns p = ap (λ (xs : List CellMap). length xs) p.1
-line-length rs (f ∷ fs) before after ms ns p = line-length rs fs p.0 after (put_cells rs f (facts_of p.0) ms) ns p.2 ∙ put-length rs f (facts_of p.0) ms
+line-length rs (f ∷ fs) before after ms ns p = line-length rs fs p.0 after (put_cells rs f (facts_of p.0) ms) ns p.2 ∙ length-beside (λ (r : Rule). put_cell r f (facts_of p.0)) rs ms
 
 line_keeps : (rs : List Rule) (fs : List Fact) (before after : List ColumnPoints) (ms ns : List CellMap) → PutsFacts rs before ms after ns fs → (i : ℕ) (r : Rule) (m n : CellMap) → IsAt rs i r → IsAt ms i m → IsAt ns i n → KeepsKeys fs r m n
 line_keeps rs [] before after ms ns p i r m n ar am an =

@@ -190,7 +190,8 @@ pub grids_kept_more : (s t : RollupState) (ss ts ss' : List RollupState) → ss'
 grids_kept_more s t ss ts ss' e one others = ap₂ (λ (u : RollupState) (us : List RollupState). u ∷ us) one others ∙ sym (ap (with_all_grid_cells (cells_of (t ∷ ts))) e)
 
 pub grids_kept_then : (ss ts us : List RollupState) → ts ≡ with_all_grid_cells (cells_of ts) ss → us ≡ with_all_grid_cells (cells_of us) ts → us ≡ with_all_grid_cells (cells_of us) ss
-grids_kept_then [] ts us e f = f ∙ ap (with_all_grid_cells (cells_of us)) e
+grids_kept_then [] [] us e f = f
+grids_kept_then [] (t ∷ ts) us e f = absurd (let n : length (t ∷ ts) ≡ 0 = ap (λ (xs : List RollupState). length xs) e in omega (arith, n))
 grids_kept_then (s ∷ ss) [] us e f = absurd (let n : 0 ≡ length (s ∷ ss) = ap (λ (xs : List RollupState). length xs) e in omega (arith, n))
 grids_kept_then (s ∷ ss) (t ∷ ts) [] e f = absurd (let n : 0 ≡ length (t ∷ ts) = ap (λ (xs : List RollupState). length xs) f in omega (arith, n))
 grids_kept_then (s ∷ ss) (t ∷ ts) (u ∷ us) e f =
@@ -200,8 +201,8 @@ grids_kept_then (s ∷ ss) (t ∷ ts) (u ∷ us) e f =
     ap₂ (λ (x : RollupState) (xs : List RollupState). x ∷ xs) (two ∙ ap (with_grid_cells u.grid.cells) one) (grids_kept_then ss ts us (ap (λ (xs : List RollupState). drop 1 xs) e) (ap (λ (xs : List RollupState). drop 1 xs) f))
 
 wide_with : (n : ℕ) (ms : List CellMap) (ss : List RollupState) → AllByRecursion (λ (s : RollupState). length s.series_of_column ≡ n) ss → AllByRecursion (λ (s : RollupState). length s.series_of_column ≡ n) (with_all_grid_cells ms ss)
-wide_with n ms [] all = tt
-wide_with n [] (s ∷ ss) all = all
+wide_with n [] ss all = all
+wide_with n (m ∷ ms) [] all = tt
 wide_with n (m ∷ ms) (s ∷ ss) all = (all.0, wide_with n ms ss all.1)
 
 -- each has as many columns as before
@@ -247,8 +248,8 @@ line_puts rs cs ss ss' n ns ns' x xs xs' time value after us us' ends (f ∷ fs)
     let of : AreOfFields time (x ∷ xs) (f ∷ fs) = subst (λ (ys : List (LinePart × ℤ)). AreOfFields time ys (f ∷ fs)) d fields in
     let put : AreStaged cs ss (n ∷ ns) (f ∷ fs) = subst (λ (ms : List ℕ). AreStaged cs ss ms (f ∷ fs)) e staged in
     let first : AreStaged cs ss (n ∷ []) (f ∷ []) = (put.0, put.1, tt) in
-    puts_more rs cs ss ss' n f fs after (cells_of us) (cells_of us') ends once each first is (one f of.0 (of.1 ∙ sym v) first) live
-    (λ lives. others fs of.2 (ap length is ∙ length-set ss n s ∙ each) (subst (AreRollups rs cs) (sym kept) (rollups_with rs cs (cells_of us') us have))
+    puts_more rs cs ss ss' n f fs after (cells_of us) (cells_of us') ends once each first is (one f of.0.0 (of.0.1 ∙ sym v) first) live
+    (λ lives. others fs of.1 (ap length is ∙ length-set ss n s ∙ each) (subst (AreRollups rs cs) (sym kept) (rollups_with rs cs (cells_of us') us have))
     (subst (λ (ys : List ColumnState). AreStaged cs ys ns fs) (sym is) (staged_others cs ss ns fs n s away put.2)) lives)
 
 -- the facts of columns and fields, which are staged, bring columns and cells to an end
@@ -286,7 +287,7 @@ none_committed ss (n ∷ ns) e = absurd (omega arith)
 
 pub of_fields : (p : Parts) (time : ℤ) → p.time ≡ time → (xs : List (LinePart × ℤ)) → AreOfFields time xs (map (fact_of p) xs)
 of_fields p time e [] = tt
-of_fields p time e (x ∷ xs) = (e, refl, of_fields p time e xs)
+of_fields p time e (x ∷ xs) = ((e, refl), of_fields p time e xs)
 
 pub staged_length : (cs : List Column) (ss : List ColumnState) (ns : List ℕ) (fs : List Fact) → AreStaged cs ss ns fs → length ns ≡ length fs
 staged_length cs ss [] [] a = refl

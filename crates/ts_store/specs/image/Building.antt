@@ -1,10 +1,11 @@
 -- A store from parts: settings, marks, columns with their points, and frozen parts of cells. All that follows from
 -- these, such as live parts, is computed. (Own rules.)
-use Rattle.std.specs.Prelude.{◌≡◌, ℕ, ℤ, pos, ◌+ℤ◌, ◌≤◌, ◌≤ℤ◌, ◌^◌, Bool, true, false, List, [], ◌∷◌, ◌++◌, length, map, set, get_or, None, if◌then◌else◌, refl}
+use Rattle.std.specs.Prelude.{◌≡◌, ℕ, ℤ, pos, ◌+ℤ◌, ◌≤◌, ◌≤ℤ◌, ◌^◌, Bool, true, false, List, [], ◌∷◌, ◌++◌, length, map, filter, set, get_or, None, refl}
 use Rattle.std.specs.FinMap as finmap
-use Rattle.std.specs.List.{AllByRecursion}
+use Rattle.std.specs.List.{AllByRecursion, AllZip, zip}
 use Rattle.std.specs.Coded.{Coded, code_by, coded×, coded_list, coded_bool}
 use Rattle.ts_core.specs.lists.Members.{Among}
+use Rattle.ts_core.specs.lists.Beside.{OfEach}
 use Rattle.ts_core.specs.facts.Facts.{Series, Column, Fact}
 use Rattle.ts_core.specs.settings.Settings.{Rule, Settings}
 use Rattle.ts_core.specs.facts.Times.{least_time}
@@ -78,10 +79,7 @@ pub record IsLowIndex (mark : ℤ) (r : Rule) (low : ℤ) : Type 0 where
 
 -- each rule has one
 abbrev pub AreLowIndices : ℤ → List Rule → List ℤ → Type 0
-AreLowIndices mark [] [] = Unit {0}
-AreLowIndices mark [] (low ∷ lows) = ⊥
-AreLowIndices mark (r ∷ rs) [] = ⊥
-AreLowIndices mark (r ∷ rs) (low ∷ lows) = IsLowIndex mark r low × AreLowIndices mark rs lows
+AreLowIndices mark = AllZip (IsLowIndex mark)
 
 -- No count overflows, each rule has a low index, and each cell is one that its rule can have. No column waits unless a
 -- run is in progress.
@@ -97,17 +95,15 @@ pub record IsBuildable (b : Built) : Type 0 where
 
 -- the columns that wait, in creation order
 abbrev pub waiting_of : List ColumnPoints → List Bool → List Column
-waiting_of [] ws = []
-waiting_of (c ∷ cs) [] = []
-waiting_of (c ∷ cs) (w ∷ ws) = if w then c.column ∷ waiting_of cs ws else waiting_of cs ws
+waiting_of columns waits = map (λ (p : ColumnPoints × Bool). p.0.column) (filter (λ (p : ColumnPoints × Bool). p.1) (zip columns waits))
 
--- each fact has its cell under each rule, from the low index on
+-- the rule has the cell of each of these facts, from the low index on
+abbrev pub HasCellsOf : List Fact → Rule → ℤ → CellMap → Type 0
+HasCellsOf facts r low m = (f : Fact) → Among f facts → is_rolled r f ≡ true → low ≤ℤ (cell_of r f).index → finmap.get m (cell_of r f) ≡ None → ⊥
+
+-- the same for each rule
 abbrev pub HaveCells : List Rule → List ℤ → List Fact → List CellMap → Type 0
-HaveCells [] lows facts ms = Unit {0}
-HaveCells (r ∷ rs) [] facts ms = Unit {0}
-HaveCells (r ∷ rs) (low ∷ lows) facts [] = Unit {0}
-HaveCells (r ∷ rs) (low ∷ lows) facts (m ∷ ms) =
-    ((f : Fact) → Among f facts → is_rolled r f ≡ true → low ≤ℤ (cell_of r f).index → finmap.get m (cell_of r f) ≡ None → ⊥) × HaveCells rs lows facts ms
+HaveCells rs lows facts = OfEach (λ (x : Rule × ℤ). HasCellsOf facts x.0 x.1) (zip rs lows)
 
 -- The store has these parts. Besides the cells of the parts it has those of raw facts from the low index on, and no
 -- others. Frozen parts are those of the parts, and live parts those of the raw facts.

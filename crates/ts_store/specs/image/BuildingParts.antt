@@ -1,17 +1,18 @@
 -- The parts of a store under construction in memory. (Own rules.)
-use Rattle.std.specs.Prelude.{◌≡◌, ◌≤◌, ◌≤ℤ◌, ℕ, ℤ, Bool, true, not, List, [], ◌∷◌, length, map, Some, None, option_map}
+use Rattle.std.specs.Prelude.{◌≡◌, ◌≤◌, ℕ, ℤ, Bool, not, List, length, map, Some, option_map}
 use Rattle.std.specs.FinMap as finmap
-use Rattle.std.specs.List.{AllByRecursion}
+use Rattle.std.specs.List.{AllByRecursion, AllZip}
 use Rattle.ts_core.specs.lists.Members.{Among, AllDistinct}
+use Rattle.ts_core.specs.lists.Beside.{OfEach}
 use Rattle.ts_core.specs.facts.Facts.{Series, Column, Fact}
 use Rattle.ts_core.specs.settings.Settings.{Rule, Settings}
 use Rattle.ts_core.specs.store.Marks.{Marks}
 use Rattle.ts_core.specs.aggregates.Aggregates.{empty_aggregate, merged}
-use Rattle.ts_core.specs.store.Cells.{Cell, cell_of, is_rolled, total_of}
+use Rattle.ts_core.specs.store.Cells.{Cell, total_of}
 use Rattle.ts_core.specs.store.StoreStates.{CellParts, column_of, facts_of}
 use Rattle.ts_core.specs.store.StoreData.{CellMap, AreLive}
 use Rattle.ts_line.specs.Names.{IsKey, IsStatable}
-use Rattle.ts_store.specs.image.Building.{Built, HaveCells}
+use Rattle.ts_store.specs.image.Building.{Built, HasCellsOf, HaveCells}
 use Rattle.ts_store.specs.store.PossibleCells.{HasPossibleCells, HavePossibleCells}
 use Rattle.ts_store.specs.store.ColumnStates.{StoreContent, AreKnown}
 use Rattle.ts_store.specs.write.LinesPut.{OfEachRule, PutsCells, GainsCells}
@@ -49,10 +50,6 @@ pub record IsInOrder (settings : Settings) (held : StoreContent) (passed : List 
 
 -- ---- cells of raw facts
 
--- the rule has the cell of each of these facts, from the low index on
-abbrev pub HasCellsOf : List Fact → Rule → ℤ → CellMap → Type 0
-HasCellsOf facts r low m = (f : Fact) → Among f facts → is_rolled r f ≡ true → low ≤ℤ (cell_of r f).index → finmap.get m (cell_of r f) ≡ None → ⊥
-
 -- the missing cells of these facts are created, without content, but none below the low index, and none that the rule
 -- can't have
 pub record MakesCells (facts : List Fact) (r : Rule) (low : ℤ) (m n : CellMap) : Type 0 where
@@ -64,20 +61,17 @@ pub record MakesCells (facts : List Fact) (r : Rule) (low : ℤ) (m n : CellMap)
 abbrev pub KeepsFrozen : CellMap → CellMap → Type 0
 KeepsFrozen m n = (k : Cell) → option_map (λ (p : CellParts). p.frozen) (finmap.get n k) ≡ option_map (λ (p : CellParts). p.frozen) (finmap.get m k)
 
+-- the same for each rule
 abbrev pub KeepFrozen : List CellMap → List CellMap → Type 0
-KeepFrozen [] [] = Unit {0}
-KeepFrozen [] (n ∷ ns) = ⊥
-KeepFrozen (m ∷ ms) [] = ⊥
-KeepFrozen (m ∷ ms) (n ∷ ns) = KeepsFrozen m n × KeepFrozen ms ns
+KeepFrozen = AllZip KeepsFrozen
 
 -- merged with the facts that are still to be added, each live part is the aggregate of all facts
 abbrev pub IsFilledBut : List Fact → List Fact → Rule → CellMap → Type 0
 IsFilledBut left all r m = (k : Cell) (p : CellParts) → finmap.get m k ≡ Some p → merged p.live (total_of r k left) ≡ total_of r k all
 
+-- the same for each rule
 abbrev pub AreFilledBut : List Fact → List Fact → List Rule → List CellMap → Type 0
-AreFilledBut left all [] ms = Unit {0}
-AreFilledBut left all (r ∷ rs) [] = Unit {0}
-AreFilledBut left all (r ∷ rs) (m ∷ ms) = IsFilledBut left all r m × AreFilledBut left all rs ms
+AreFilledBut left all = OfEach (IsFilledBut left all)
 
 -- the missing cells of raw facts are created, and the facts are added to empty live parts; series, columns and rollup
 -- series stay

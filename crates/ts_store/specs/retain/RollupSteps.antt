@@ -1,6 +1,7 @@
 -- The effect of a step of a run on the cells of rules: points of a column are frozen. (Own rules.)
-use Rattle.std.specs.Prelude.{◌≡◌, ℕ, ℤ, ◌+◌, ◌^◌, ◌≤◌, List, [], ◌∷◌, filter, length, map, Some}
+use Rattle.std.specs.Prelude.{◌≡◌, ℕ, ℤ, ◌+◌, ◌^◌, ◌≤◌, List, filter, length, map, Some}
 use Rattle.std.specs.FinMap as finmap
+use Rattle.ts_core.specs.lists.Beside.{OfEach, changed_beside}
 use Rattle.ts_core.specs.facts.Facts.{Column, Fact}
 use Rattle.ts_core.specs.settings.Settings.{Rule}
 use Rattle.ts_core.specs.aggregates.Aggregates.{Aggregate, merged_within}
@@ -17,9 +18,7 @@ use Rattle.ts_store.specs.rollup.Rollups.{RollupState, with_grid_cells, cells_of
 
 -- other cells for each rule, under the same rollup series
 abbrev pub with_all_grid_cells : List CellMap → List RollupState → List RollupState
-with_all_grid_cells ms [] = []
-with_all_grid_cells [] (s ∷ ss) = s ∷ ss
-with_all_grid_cells (m ∷ ms) (s ∷ ss) = with_grid_cells m s ∷ with_all_grid_cells ms ss
+with_all_grid_cells = changed_beside with_grid_cells
 
 abbrev pub content_with_cells : List CellMap → StoreContent → StoreContent
 content_with_cells ms held = record held { rollups = with_all_grid_cells ms held.rollups }
@@ -48,9 +47,7 @@ FreezesFit r c ps m = (k : Cell) → frozen_count m k + points_in_cell r c k ps 
 
 -- the same for each rule
 abbrev pub FreezeFit : List Rule → Column → List (ℤ × ℤ) → List CellMap → Type 0
-FreezeFit [] c ps ms = Unit {0}
-FreezeFit (r ∷ rs) c ps [] = Unit {0}
-FreezeFit (r ∷ rs) c ps (m ∷ ms) = FreezesFit r c ps m × FreezeFit rs c ps ms
+FreezeFit rs c ps = OfEach (λ (r : Rule). FreezesFit r c ps) rs
 
 -- the points of a column below a mark are frozen under each rule and removed; the live parts of their cells are folded
 -- from the remaining points

@@ -2,6 +2,7 @@
 -- (Own rules.)
 use Rattle.std.specs.Prelude.{◌≡◌, ◌⊎◌, ◌↔◌, ◌+◌, ◌<◌, ℕ, ℤ, zero, suc, false, true, IsTrue, List, [], ◌∷◌, Result, IfOk, OnOk, OnErr, IsErr}
 use Rattle.ts_core.specs.lists.Members.{Among}
+use Rattle.ts_core.specs.lists.Beside.{OfEach}
 use Rattle.ts_core.specs.facts.Facts.{Column}
 use Rattle.ts_core.specs.store.History.{History, Begin, Step}
 use Rattle.ts_core.specs.moves.Runs.{steps_left}
@@ -24,9 +25,7 @@ whole_run now n h = Step true ∷ steps_taken n (Begin now ∷ h)
 
 -- no rule has cells below its low index
 abbrev pub AreAbove : List ℤ → List CellMap → Type 0
-AreAbove [] ms = Unit {0}
-AreAbove (low ∷ lows) [] = Unit {0}
-AreAbove (low ∷ lows) (m ∷ ms) = IsAbove low m × AreAbove lows ms
+AreAbove = OfEach (λ (low : ℤ) (m : CellMap). IsAbove low m)
 
 -- removes at least one cell below an index: 256, or all if there are fewer
 pub record LosesCells (low : ℤ) (before after : CellMap) : Type 0 where

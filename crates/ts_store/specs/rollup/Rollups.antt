@@ -1,6 +1,7 @@
 -- The rollup of a rule: its cells, and the rollup series of each column. A rollup series is a field with a group,
 -- referred to by its index. (Own rules.)
 use Rattle.std.specs.Prelude.{◌≡◌, ◌==◌, nat_lt, Vec, vec_len, vec_capacity, ℕ, ℤ, Bool, true, false, get_or, List, [], ◌∷◌, ◌++◌, length, map, Option, Some, None, refl}
+use Rattle.std.specs.List.{AllZip}
 use Rattle.std.specs.FinMap as finmap
 use Rattle.std.specs.Coded.{Coded, code_by, coded×, coded_ℕ, coded_list, coded_option}
 use Rattle.ts_core.specs.lists.Members.{AllDistinct}
@@ -46,17 +47,11 @@ IsRollupSeriesOf r c rollup_series (Some l) = (same_text c.series.measurement r.
 
 -- each column has its rollup series
 abbrev pub HaveRollupSeries : Rule → List RollupSeries → List Column → List (Option ℕ) → Type 0
-HaveRollupSeries r rollup_series [] [] = Unit {0}
-HaveRollupSeries r rollup_series [] (o ∷ os) = ⊥
-HaveRollupSeries r rollup_series (c ∷ cs) [] = ⊥
-HaveRollupSeries r rollup_series (c ∷ cs) (o ∷ os) = IsRollupSeriesOf r c rollup_series o × HaveRollupSeries r rollup_series cs os
+HaveRollupSeries r rollup_series = AllZip (λ (c : Column). IsRollupSeriesOf r c rollup_series)
 
 -- the rollups of the rules, one per rule, over these columns
 abbrev pub AreRollups : List Rule → List Column → List RollupState → Type 0
-AreRollups [] cs [] = Unit {0}
-AreRollups [] cs (s ∷ ss) = ⊥
-AreRollups (r ∷ rs) cs [] = ⊥
-AreRollups (r ∷ rs) cs (s ∷ ss) = HaveRollupSeries r s.grid.rollup_series cs s.series_of_column × AreRollups rs cs ss
+AreRollups rs cs = AllZip (λ (r : Rule) (s : RollupState). HaveRollupSeries r s.grid.rollup_series cs s.series_of_column) rs
 
 -- a column is of the rollup series with this index
 abbrev pub is_of_rollup_series : ℕ → Option ℕ → Bool
@@ -110,20 +105,15 @@ pub record KeepsCells (before after : RollupState) : Type 0 where
 
 -- the same for each rule
 abbrev pub KeepCells : List RollupState → List RollupState → Type 0
-KeepCells [] [] = Unit {0}
-KeepCells [] (t ∷ ts) = ⊥
-KeepCells (s ∷ ss) [] = ⊥
-KeepCells (s ∷ ss) (t ∷ ts) = KeepsCells s t × KeepCells ss ts
+KeepCells = AllZip KeepsCells
 
 -- a column is prepared: its rollup series is known
 abbrev pub HasNext : Rule → Column → RollupState → Type 0
 HasNext r c s = (o : Option ℕ) × (s.next ≡ Some o) × IsRollupSeriesOf r c s.grid.rollup_series o
 
+-- the same for each rule
 abbrev pub HaveNext : List Rule → Column → List RollupState → Type 0
-HaveNext [] c [] = Unit {0}
-HaveNext [] c (s ∷ ss) = ⊥
-HaveNext (r ∷ rs) c [] = ⊥
-HaveNext (r ∷ rs) c (s ∷ ss) = HasNext r c s × HaveNext rs c ss
+HaveNext rs c = AllZip (λ (r : Rule). HasNext r c) rs
 
 abbrev pub joined_rollup_series : List (Option ℕ) → Option (Option ℕ) → List (Option ℕ)
 joined_rollup_series rollup_series None = rollup_series

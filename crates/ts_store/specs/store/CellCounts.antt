@@ -1,7 +1,8 @@
 -- The number of facts of a cell, in both parts. `StandsFor` doesn't restrict cells below a low index, which exist until
 -- a step removes them. So the limit of their counts is an invariant of its own. (Own rule.)
-use Rattle.std.specs.Prelude.{ℕ, ◌+◌, ◌≤◌, List, [], ◌∷◌, length, filter}
+use Rattle.std.specs.Prelude.{ℕ, ◌+◌, ◌≤◌, List, length, filter}
 use Rattle.std.specs.FinMap as finmap
+use Rattle.ts_core.specs.lists.Beside.{OfEach}
 use Rattle.ts_core.specs.settings.Settings.{Rule}
 use Rattle.ts_core.specs.store.Cells.{Cell, is_in_cell}
 use Rattle.ts_core.specs.lists.Changes.{or_else}
@@ -22,6 +23,4 @@ HoldsFew n columns r m = (k : Cell) → frozen_count m k + live_count r k column
 
 -- the same for each rule
 abbrev pub HoldFew : ℕ → List ColumnPoints → List Rule → List CellMap → Type 0
-HoldFew n columns [] ms = Unit {0}
-HoldFew n columns (r ∷ rs) [] = Unit {0}
-HoldFew n columns (r ∷ rs) (m ∷ ms) = HoldsFew n columns r m × HoldFew n columns rs ms
+HoldFew n columns = OfEach (HoldsFew n columns)

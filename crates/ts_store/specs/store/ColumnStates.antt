@@ -1,5 +1,6 @@
 -- Columns with their points, and the effect of committing staged points. (Own rule.)
 use Rattle.std.specs.Prelude.{◌≡◌, ◌⊎◌, ℕ, ℤ, List, [], ◌∷◌, ◌++◌, ◌<◌, length, map, IsSome, Option, Some, None, Result, IfOk, OnOk, OnErr, slice_get, set, get_or, refl}
+use Rattle.std.specs.List.{zip}
 use Rattle.std.specs.FinMap as finmap
 use Rattle.ts_core.specs.lists.Members.{Among, AllDistinct}
 use Rattle.ts_core.specs.facts.Facts.{Series, Column, Fact}
@@ -19,9 +20,7 @@ point_maps states = map (λ (s : ColumnState). s.points) states
 
 -- the columns with their points, in creation order
 abbrev pub with_points : List Column → List PointMap → List ColumnPoints
-with_points [] maps = []
-with_points (c ∷ cs) [] = []
-with_points (c ∷ cs) (m ∷ ms) = record { column = c; points = finmap.entries m } ∷ with_points cs ms
+with_points cs maps = map (λ (p : Column × PointMap). record { column = p.0; points = finmap.entries p.1 }) (zip cs maps)
 
 -- the columns of an index with their points
 abbrev pub columns_in : Indexed → List ColumnState → List ColumnPoints

@@ -2,6 +2,7 @@
 -- it, and it determines the steps of a run. (Own rules.)
 use Rattle.std.specs.Prelude.{◌≡◌, ◌⊎◌, ◌↔◌, ◌+◌, ◌-◌, ◌<◌, ℕ, ℤ, int_lt, ◌≤ℤ◌, List, [], ◌∷◌, ◌++◌, map, filter, length, Result, Ok, Err, Option, Some, None}
 use Rattle.std.specs.FinMap as finmap
+use Rattle.std.specs.List.{sum_by, zip}
 use Rattle.ts_core.specs.lists.Members.{Among, AllDistinct}
 use Rattle.ts_core.specs.lists.Numbered.{IsAt}
 use Rattle.ts_core.specs.facts.Facts.{Column, Fact}
@@ -119,9 +120,7 @@ FirstExpires (low ∷ lows) (a ∷ old) (b ∷ new) = (Expires low a b × (new �
 
 -- the number of steps that remove all cells below the low indices
 abbrev pub batches_in : List ℤ → List (List Cell) → ℕ
-batches_in [] cells = 0
-batches_in (low ∷ lows) [] = 0
-batches_in (low ∷ lows) (a ∷ cells) = batches_of (expired_in low a) + batches_in lows cells
+batches_in lows cells = sum_by (λ (p : ℤ × List Cell). batches_of (expired_in p.0 p.1)) (zip lows cells)
 
 -- the number of steps that an open run still takes: each waiting column takes one, and so does the end
 abbrev pub steps_in : List ℤ → Inventory → ℕ

@@ -1,8 +1,9 @@
 -- The existing cells of a rule: each is one that a valid time and some tag values have. With the range of times, the
 -- interval and the offset of a rule, the index of such a cell fits in 64 bits. (Own rules.)
-use Rattle.std.specs.Prelude.{◌≡◌, ℤ, List, [], ◌∷◌, length}
+use Rattle.std.specs.Prelude.{◌≡◌, ℤ, List, length}
 use Rattle.std.specs.FinMap as finmap
 use Rattle.ts_core.specs.lists.Members.{Among}
+use Rattle.ts_core.specs.lists.Beside.{OfEach}
 use Rattle.ts_core.specs.facts.Times.{IsTime}
 use Rattle.ts_core.specs.settings.Settings.{Rule}
 use Rattle.ts_core.specs.store.Marks.{index_of}
@@ -24,6 +25,4 @@ HasPossibleCells r m = (k : Cell) → Among k (finmap.keys m) → IsPossibleCell
 
 -- the same for each rule
 abbrev pub HavePossibleCells : List Rule → List CellMap → Type 0
-HavePossibleCells [] ms = Unit {0}
-HavePossibleCells (r ∷ rs) [] = Unit {0}
-HavePossibleCells (r ∷ rs) (m ∷ ms) = HasPossibleCells r m × HavePossibleCells rs ms
+HavePossibleCells = OfEach HasPossibleCells

@@ -1,5 +1,7 @@
 -- Creation of the cells of columns' points at one time. (Own rules.)
 use Rattle.std.specs.Prelude.{◌≡◌, ℕ, ℤ, int_lt, List, [], ◌∷◌, take, if◌then◌else◌}
+use Rattle.std.specs.List.{AllZip, zip}
+use Rattle.ts_core.specs.lists.Beside.{changed_beside}
 use Rattle.ts_core.specs.settings.Settings.{Rule}
 use Rattle.ts_core.specs.store.Marks.{index_of}
 use Rattle.ts_store.specs.rollup.Rollups.{RollupState, with_grid_cells, cell_created_in, rollup_series_at}
@@ -15,10 +17,7 @@ cells_created_from low index ns s = if int_lt index low then s else cells_create
 
 -- the same under each rule, in its bucket of a time
 abbrev pub cells_created_under : List Rule → List ℤ → ℤ → List ℕ → List RollupState → List RollupState
-cells_created_under [] lows time ns ss = ss
-cells_created_under (r ∷ rs) [] time ns ss = ss
-cells_created_under (r ∷ rs) (low ∷ lows) time ns [] = []
-cells_created_under (r ∷ rs) (low ∷ lows) time ns (s ∷ ss) = cells_created_from low (index_of r time) ns s ∷ cells_created_under rs lows time ns ss
+cells_created_under rs lows time ns = changed_beside (λ (x : Rule × ℤ). cells_created_from x.1 (index_of x.0 time) ns) (zip rs lows)
 
 -- with the cells of the first of the columns, in its bucket of a time
 abbrev pub IsCreatedInPart : Rule → ℤ → ℤ → List ℕ → RollupState → RollupState → Type 0
@@ -34,7 +33,4 @@ AreCreatedInPart (r ∷ rs) (low ∷ lows) time ns (s ∷ ss) (t ∷ ts) = IsCre
 
 -- the cells of each rule may have changed, and nothing else
 abbrev pub KeepRollupSeries : List RollupState → List RollupState → Type 0
-KeepRollupSeries [] [] = Unit {0}
-KeepRollupSeries [] (t ∷ ts) = ⊥
-KeepRollupSeries (s ∷ ss) [] = ⊥
-KeepRollupSeries (s ∷ ss) (t ∷ ts) = (t ≡ with_grid_cells t.grid.cells s) × KeepRollupSeries ss ts
+KeepRollupSeries = AllZip (λ (s t : RollupState). t ≡ with_grid_cells t.grid.cells s)

@@ -1,5 +1,6 @@
 -- A fact that is inserted into its column, and the resulting cells. (Own rules.)
-use Rattle.std.specs.Prelude.{◌≡◌, ℕ, ℤ, ◌+◌, ◌≤◌, ◌^◌, false, List, [], ◌∷◌, length, slice_get, Option, Some, None}
+use Rattle.std.specs.Prelude.{◌≡◌, ℕ, ℤ, ◌+◌, ◌≤◌, ◌^◌, false, List, length, slice_get, Option, Some, None}
+use Rattle.std.specs.List.{AllZip}
 use Rattle.ts_core.specs.lists.Members.{Among, AllDistinct}
 use Rattle.ts_core.specs.facts.Facts.{Column, Fact, id_of, same_id}
 use Rattle.ts_core.specs.settings.Settings.{Rule}
@@ -33,10 +34,7 @@ pub record IsLivePut (cs : List Column) (states : List ColumnState) (before : Li
 
 -- the facts are of this time, and have the values of fields
 abbrev pub AreOfFields : ℤ → List (LinePart × ℤ) → List Fact → Type 0
-AreOfFields time [] [] = Unit {0}
-AreOfFields time [] (f ∷ fs) = ⊥
-AreOfFields time (x ∷ xs) [] = ⊥
-AreOfFields time (x ∷ xs) (f ∷ fs) = (f.time ≡ time) × (f.value ≡ x.1) × AreOfFields time xs fs
+AreOfFields time = AllZip (λ (x : LinePart × ℤ) (f : Fact). (f.time ≡ time) × (f.value ≡ x.1))
 
 -- with more cells created, the live part of each existing cell is still that of its raw facts
 abbrev pub StayLive : List Rule → List ℤ → List ColumnPoints → List CellMap → Type 0
