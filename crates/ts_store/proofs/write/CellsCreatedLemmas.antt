@@ -20,7 +20,7 @@ use Rattle.ts_cells.specs.CellChanges.{inserted_if_absent}
 use Rattle.ts_cells.specs.Grids.{RollupSeries, no_rollup_series, cell_at, cell_in}
 use Rattle.ts_cells.proofs.GridMoves.{get-inserted_if_absent}
 use Rattle.ts_store.specs.rollup.Rollups.{RollupState, cells_of, rollup_series_under, IsRollupSeriesOf, HaveRollupSeries, AreRollups, with_grid_cells, cell_created_in, rollup_series_at}
-use Rattle.ts_store.specs.write.CellsCreated.{cells_created_for, cells_created_from, cells_created_under, IsCreatedInPart, AreCreatedInPart, KeepRollupSeries}
+use Rattle.ts_store.specs.write.CellsCreated.{buckets_of, cells_created_for, cells_created_from, cells_created_under, IsCreatedInPart, AreCreatedInPart, KeepRollupSeries}
 use Rattle.ts_store.proofs.rollup.RollupsGrow.{IsOfRule}
 
 -- the facts are of the columns of these numbers, and of one time
@@ -151,28 +151,28 @@ unruled lows fs [] = tt
 unruled lows fs (m ∷ ms) = tt
 
 pub rooms_made : (rs : List Rule) (lows : List ℤ) (cs : List Column) (time : ℤ) (ns : List ℕ) (fs : List Fact) (ss : List RollupState) → AreRollups rs cs ss → AreAt cs time ns fs
-    → GainEmptyCells rs lows fs (cells_of ss) (cells_of (cells_created_under rs lows time ns ss))
+    → GainEmptyCells rs lows fs (cells_of ss) (cells_of (cells_created_under (buckets_of rs time) lows ns ss))
 rooms_made [] lows cs time ns fs [] h a = tt
 rooms_made [] lows cs time ns fs (s ∷ ss) h a = absurd h
 rooms_made (r ∷ rs) lows cs time ns fs [] h a = absurd h
 rooms_made (r ∷ rs) [] cs time ns fs (s ∷ ss) h a = tt
 rooms_made (r ∷ rs) (low ∷ lows) cs time ns fs (s ∷ ss) h a = (from_roomed r low cs time ns fs s h.0 a, rooms_made rs lows cs time ns fs ss h.1 a)
 
--- without rules, low indices, or what is kept, nothing changes
-pub no_rules : (rs : List Rule) (lows : List ℤ) (time : ℤ) (ns : List ℕ) (ss : List RollupState) → length rs ≡ 0 → ss ≡ cells_created_under rs lows time ns ss
-no_rules [] lows time ns ss e = refl
-no_rules (r ∷ rs) lows time ns ss e = absurd (omega arith)
+-- without buckets, low indices, or what is kept, nothing changes
+pub no_buckets : (is lows : List ℤ) (ns : List ℕ) (ss : List RollupState) → length is ≡ 0 → ss ≡ cells_created_under is lows ns ss
+no_buckets [] lows ns ss e = refl
+no_buckets (i ∷ is) lows ns ss e = absurd (omega arith)
 
-pub no_lows : (rs : List Rule) (lows : List ℤ) (time : ℤ) (ns : List ℕ) (ss : List RollupState) → length lows ≡ 0 → ss ≡ cells_created_under rs lows time ns ss
-no_lows [] lows time ns ss e = refl
-no_lows (r ∷ rs) [] time ns ss e = refl
-no_lows (r ∷ rs) (low ∷ lows) time ns ss e = absurd (omega arith)
+pub no_lows : (is lows : List ℤ) (ns : List ℕ) (ss : List RollupState) → length lows ≡ 0 → ss ≡ cells_created_under is lows ns ss
+no_lows [] lows ns ss e = refl
+no_lows (i ∷ is) [] ns ss e = refl
+no_lows (i ∷ is) (low ∷ lows) ns ss e = absurd (omega arith)
 
-pub no_rollups : (rs : List Rule) (lows : List ℤ) (time : ℤ) (ns : List ℕ) (ss : List RollupState) → length ss ≡ 0 → ss ≡ cells_created_under rs lows time ns ss
-no_rollups [] lows time ns ss e = refl
-no_rollups (r ∷ rs) [] time ns ss e = refl
-no_rollups (r ∷ rs) (low ∷ lows) time ns [] e = refl
-no_rollups (r ∷ rs) (low ∷ lows) time ns (s ∷ ss) e = absurd (omega arith)
+pub no_rollups : (is lows : List ℤ) (ns : List ℕ) (ss : List RollupState) → length ss ≡ 0 → ss ≡ cells_created_under is lows ns ss
+no_rollups [] lows ns ss e = refl
+no_rollups (i ∷ is) [] ns ss e = refl
+no_rollups (i ∷ is) (low ∷ lows) ns [] e = refl
+no_rollups (i ∷ is) (low ∷ lows) ns (s ∷ ss) e = absurd (omega arith)
 
 pub rollup_series_same : (ss : List RollupState) → KeepRollupSeries ss ss
 rollup_series_same ss = AllZip-same (λ (s t : RollupState). t ≡ with_grid_cells t.grid.cells s) (λ s. refl) ss
@@ -211,45 +211,45 @@ roomed_below low index ns s below = ap (λ b. cond b s (cells_created_for index 
 
 -- ---- room for some of the columns
 
-pub some_roomed : (r : Rule) (low time : ℤ) (ns : List ℕ) (i : ℕ) (s t : RollupState) → low ≤ℤ index_of r time → t ≡ cells_created_for (index_of r time) (take i ns) s → IsCreatedInPart r low time ns s t
-some_roomed r low time ns i s t above made = (i, made ∙ sym (roomed_above low (index_of r time) (take i ns) s above))
+pub some_roomed : (low index : ℤ) (ns : List ℕ) (i : ℕ) (s t : RollupState) → low ≤ℤ index → t ≡ cells_created_for index (take i ns) s → IsCreatedInPart low index ns s t
+some_roomed low index ns i s t above made = (i, made ∙ sym (roomed_above low index (take i ns) s above))
 
-none_roomed_yet : (r : Rule) (low time : ℤ) (ns : List ℕ) (s : RollupState) → IsCreatedInPart r low time ns s s
-none_roomed_yet r low time ns s = (0, elim (int_lt (index_of r time) low) as (λ b. s ≡ cond b s s) [ true ↦ refl | false ↦ refl ])
+none_roomed_yet : (low index : ℤ) (ns : List ℕ) (s : RollupState) → IsCreatedInPart low index ns s s
+none_roomed_yet low index ns s = (0, elim (int_lt index low) as (λ b. s ≡ cond b s s) [ true ↦ refl | false ↦ refl ])
 
-none_yet : (rs : List Rule) (lows : List ℤ) (time : ℤ) (ns : List ℕ) (ss : List RollupState) → AreCreatedInPart rs lows time ns ss ss
-none_yet [] lows time ns ss = refl
-none_yet (r ∷ rs) [] time ns ss = refl
-none_yet (r ∷ rs) (low ∷ lows) time ns [] = refl
-none_yet (r ∷ rs) (low ∷ lows) time ns (s ∷ ss) = (none_roomed_yet r low time ns s, none_yet rs lows time ns ss)
+none_yet : (is lows : List ℤ) (ns : List ℕ) (ss : List RollupState) → AreCreatedInPart is lows ns ss ss
+none_yet [] lows ns ss = refl
+none_yet (i ∷ is) [] ns ss = refl
+none_yet (i ∷ is) (low ∷ lows) ns [] = refl
+none_yet (i ∷ is) (low ∷ lows) ns (s ∷ ss) = (none_roomed_yet low i ns s, none_yet is lows ns ss)
 
-all_roomed_now : (r : Rule) (low time : ℤ) (ns : List ℕ) (s : RollupState) → IsCreatedInPart r low time ns s (cells_created_from low (index_of r time) ns s)
-all_roomed_now r low time ns s = (length ns, ap (λ ms. cells_created_from low (index_of r time) ms s) (sym (take_all (length ns) ns (omega arith))))
+all_roomed_now : (low index : ℤ) (ns : List ℕ) (s : RollupState) → IsCreatedInPart low index ns s (cells_created_from low index ns s)
+all_roomed_now low index ns s = (length ns, ap (λ ms. cells_created_from low index ms s) (sym (take_all (length ns) ns (omega arith))))
 
 -- for all of them
-pub all_now : (rs : List Rule) (lows : List ℤ) (time : ℤ) (ns : List ℕ) (ss : List RollupState) → AreCreatedInPart rs lows time ns ss (cells_created_under rs lows time ns ss)
-all_now [] lows time ns ss = refl
-all_now (r ∷ rs) [] time ns ss = refl
-all_now (r ∷ rs) (low ∷ lows) time ns [] = refl
-all_now (r ∷ rs) (low ∷ lows) time ns (s ∷ ss) = (all_roomed_now r low time ns s, all_now rs lows time ns ss)
+pub all_now : (is lows : List ℤ) (ns : List ℕ) (ss : List RollupState) → AreCreatedInPart is lows ns ss (cells_created_under is lows ns ss)
+all_now [] lows ns ss = refl
+all_now (i ∷ is) [] ns ss = refl
+all_now (i ∷ is) (low ∷ lows) ns [] = refl
+all_now (i ∷ is) (low ∷ lows) ns (s ∷ ss) = (all_roomed_now low i ns s, all_now is lows ns ss)
 
 -- out of memory under the first rule
-pub room_begins : (r : Rule) (low : ℤ) (rs rs' : List Rule) (lows lows' : List ℤ) (time : ℤ) (ns : List ℕ) (s t : RollupState) (ss ss' : List RollupState) → rs' ≡ r ∷ rs → lows' ≡ low ∷ lows → ss' ≡ s ∷ ss → IsCreatedInPart r low time ns s t
-    → AreCreatedInPart rs' lows' time ns ss' (t ∷ ss)
-room_begins r low rs rs' lows lows' time ns s t ss ss' e d f capacity =
-    subst (λ (qs : List Rule). AreCreatedInPart qs lows' time ns ss' (t ∷ ss)) (sym e)
-    (subst (λ (ls : List ℤ). AreCreatedInPart (r ∷ rs) ls time ns ss' (t ∷ ss)) (sym d)
-    (subst (λ (us : List RollupState). AreCreatedInPart (r ∷ rs) (low ∷ lows) time ns us (t ∷ ss)) (sym f) (capacity, none_yet rs lows time ns ss)))
+pub room_begins : (i low : ℤ) (is is' lows lows' : List ℤ) (ns : List ℕ) (s t : RollupState) (ss ss' : List RollupState) → is' ≡ i ∷ is → lows' ≡ low ∷ lows → ss' ≡ s ∷ ss → IsCreatedInPart low i ns s t
+    → AreCreatedInPart is' lows' ns ss' (t ∷ ss)
+room_begins i low is is' lows lows' ns s t ss ss' e d f capacity =
+    subst (λ (js : List ℤ). AreCreatedInPart js lows' ns ss' (t ∷ ss)) (sym e)
+    (subst (λ (ls : List ℤ). AreCreatedInPart (i ∷ is) ls ns ss' (t ∷ ss)) (sym d)
+    (subst (λ (us : List RollupState). AreCreatedInPart (i ∷ is) (low ∷ lows) ns us (t ∷ ss)) (sym f) (capacity, none_yet is lows ns ss)))
 
 -- out of memory under a later rule
-pub room_stays : {T E : Type 0} (result : Result T E) (r : Rule) (low : ℤ) (rs rs' : List Rule) (lows lows' : List ℤ) (time : ℤ) (ns : List ℕ) (s t : RollupState) (ss ss' ts : List RollupState) → rs' ≡ r ∷ rs → lows' ≡ low ∷ lows → ss' ≡ s ∷ ss
-    → t ≡ cells_created_from low (index_of r time) ns s → OnErr result (AreCreatedInPart rs lows time ns ss ts) → OnErr result (AreCreatedInPart rs' lows' time ns ss' (t ∷ ts))
-room_stays (Ok x) r low rs rs' lows lows' time ns s t ss ss' ts e d f made has_cells = tt
-room_stays (Err x) r low rs rs' lows lows' time ns s t ss ss' ts e d f made has_cells =
-    subst (λ (qs : List Rule). AreCreatedInPart qs lows' time ns ss' (t ∷ ts)) (sym e)
-    (subst (λ (ls : List ℤ). AreCreatedInPart (r ∷ rs) ls time ns ss' (t ∷ ts)) (sym d)
-    (subst (λ (us : List RollupState). AreCreatedInPart (r ∷ rs) (low ∷ lows) time ns us (t ∷ ts)) (sym f)
-    (subst (IsCreatedInPart r low time ns s) (sym made) (all_roomed_now r low time ns s), has_cells)))
+pub room_stays : {T E : Type 0} (result : Result T E) (i low : ℤ) (is is' lows lows' : List ℤ) (ns : List ℕ) (s t : RollupState) (ss ss' ts : List RollupState) → is' ≡ i ∷ is → lows' ≡ low ∷ lows → ss' ≡ s ∷ ss
+    → t ≡ cells_created_from low i ns s → OnErr result (AreCreatedInPart is lows ns ss ts) → OnErr result (AreCreatedInPart is' lows' ns ss' (t ∷ ts))
+room_stays (Ok x) i low is is' lows lows' ns s t ss ss' ts e d f made has_cells = tt
+room_stays (Err x) i low is is' lows lows' ns s t ss ss' ts e d f made has_cells =
+    subst (λ (js : List ℤ). AreCreatedInPart js lows' ns ss' (t ∷ ts)) (sym e)
+    (subst (λ (ls : List ℤ). AreCreatedInPart (i ∷ is) ls ns ss' (t ∷ ts)) (sym d)
+    (subst (λ (us : List RollupState). AreCreatedInPart (i ∷ is) (low ∷ lows) ns us (t ∷ ts)) (sym f)
+    (subst (IsCreatedInPart low i ns s) (sym made) (all_roomed_now low i ns s), has_cells)))
 
 -- ---- each has room for no facts
 
@@ -265,7 +265,7 @@ kept_from r low index ns s =
       | false ↦ λ e. kept_rooms r low index ns s (lt_not index low e)
     ] refl
 
-pub part_rooms : (rs : List Rule) (lows : List ℤ) (time : ℤ) (ns : List ℕ) (ss ts : List RollupState) → AreCreatedInPart rs lows time ns ss ts → GainEmptyCells rs lows [] (cells_of ss) (cells_of ts)
+pub part_rooms : (rs : List Rule) (lows : List ℤ) (time : ℤ) (ns : List ℕ) (ss ts : List RollupState) → AreCreatedInPart (buckets_of rs time) lows ns ss ts → GainEmptyCells rs lows [] (cells_of ss) (cells_of ts)
 part_rooms [] lows time ns ss ts a = subst (λ (us : List RollupState). GainEmptyCells [] lows [] (cells_of ss) (cells_of us)) (sym a) (rooms_same [] lows (cells_of ss))
 part_rooms (r ∷ rs) [] time ns ss ts a = subst (λ (us : List RollupState). GainEmptyCells (r ∷ rs) [] [] (cells_of ss) (cells_of us)) (sym a) (rooms_same (r ∷ rs) [] (cells_of ss))
 part_rooms (r ∷ rs) (low ∷ lows) time ns [] ts a = subst (λ (us : List RollupState). GainEmptyCells (r ∷ rs) (low ∷ lows) [] [] (cells_of us)) (sym a) tt

@@ -1,10 +1,14 @@
 -- Creation of the cells of columns' points at one time. (Own rules.)
-use Rattle.std.specs.Prelude.{◌≡◌, ℕ, ℤ, int_lt, List, [], ◌∷◌, take, if◌then◌else◌}
+use Rattle.std.specs.Prelude.{◌≡◌, ℕ, ℤ, int_lt, List, [], ◌∷◌, map, take, if◌then◌else◌}
 use Rattle.std.specs.List.{AllZip, zip}
 use Rattle.ts_core.specs.lists.Beside.{changed_beside}
 use Rattle.ts_core.specs.settings.Settings.{Rule}
 use Rattle.ts_core.specs.store.Marks.{index_of}
 use Rattle.ts_store.specs.rollup.Rollups.{RollupState, with_grid_cells, cell_created_in, rollup_series_at}
+
+-- the index of a time's bucket under each rule
+abbrev pub buckets_of : List Rule → ℤ → List ℤ
+buckets_of rules time = map (λ (r : Rule). index_of r time) rules
 
 -- with the cells of a bucket, column after column
 abbrev pub cells_created_for : ℤ → List ℕ → RollupState → RollupState
@@ -15,21 +19,21 @@ cells_created_for index (n ∷ ns) s = cells_created_for index ns (with_grid_cel
 abbrev pub cells_created_from : ℤ → ℤ → List ℕ → RollupState → RollupState
 cells_created_from low index ns s = if int_lt index low then s else cells_created_for index ns s
 
--- the same under each rule, in its bucket of a time
-abbrev pub cells_created_under : List Rule → List ℤ → ℤ → List ℕ → List RollupState → List RollupState
-cells_created_under rs lows time ns = changed_beside (λ (x : Rule × ℤ). cells_created_from x.1 (index_of x.0 time) ns) (zip rs lows)
+-- the same under each rule, in the bucket with its index
+abbrev pub cells_created_under : List ℤ → List ℤ → List ℕ → List RollupState → List RollupState
+cells_created_under buckets lows ns = changed_beside (λ (x : ℤ × ℤ). cells_created_from x.1 x.0 ns) (zip buckets lows)
 
--- with the cells of the first of the columns, in its bucket of a time
-abbrev pub IsCreatedInPart : Rule → ℤ → ℤ → List ℕ → RollupState → RollupState → Type 0
-IsCreatedInPart r low time ns s t = (n : ℕ) × (t ≡ cells_created_from low (index_of r time) (take n ns) s)
+-- with the cells of a bucket, of the first of the columns
+abbrev pub IsCreatedInPart : ℤ → ℤ → List ℕ → RollupState → RollupState → Type 0
+IsCreatedInPart low index ns s t = (n : ℕ) × (t ≡ cells_created_from low index (take n ns) s)
 
--- the same under each rule
-abbrev pub AreCreatedInPart : List Rule → List ℤ → ℤ → List ℕ → List RollupState → List RollupState → Type 0
-AreCreatedInPart [] lows time ns ss ts = ts ≡ ss
-AreCreatedInPart (r ∷ rs) [] time ns ss ts = ts ≡ ss
-AreCreatedInPart (r ∷ rs) (low ∷ lows) time ns [] ts = ts ≡ []
-AreCreatedInPart (r ∷ rs) (low ∷ lows) time ns (s ∷ ss) [] = ⊥
-AreCreatedInPart (r ∷ rs) (low ∷ lows) time ns (s ∷ ss) (t ∷ ts) = IsCreatedInPart r low time ns s t × AreCreatedInPart rs lows time ns ss ts
+-- the same under each rule, in the bucket with its index
+abbrev pub AreCreatedInPart : List ℤ → List ℤ → List ℕ → List RollupState → List RollupState → Type 0
+AreCreatedInPart [] lows ns ss ts = ts ≡ ss
+AreCreatedInPart (index ∷ buckets) [] ns ss ts = ts ≡ ss
+AreCreatedInPart (index ∷ buckets) (low ∷ lows) ns [] ts = ts ≡ []
+AreCreatedInPart (index ∷ buckets) (low ∷ lows) ns (s ∷ ss) [] = ⊥
+AreCreatedInPart (index ∷ buckets) (low ∷ lows) ns (s ∷ ss) (t ∷ ts) = IsCreatedInPart low index ns s t × AreCreatedInPart buckets lows ns ss ts
 
 -- the cells of each rule may have changed, and nothing else
 abbrev pub KeepRollupSeries : List RollupState → List RollupState → Type 0

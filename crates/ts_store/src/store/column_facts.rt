@@ -19,7 +19,7 @@ use crate::read::Columns;
 use crate::rollup::{Rollup, new_rollups};
 use crate::write::columns::prepare_line;
 use crate::write::committing::commit_points;
-use crate::write::creating::create_cells;
+use crate::write::creating::{create_cells, list_buckets};
 use std::alloc::{AllocError, Allocator};
 use std::hash::RandomState;
 use std::marker::Model;
@@ -31,14 +31,15 @@ use ts_raw::{Blocks, Column as _, ColumnId, Index, Points, SERIES_LIMIT};
 /// of this line.
 pub(crate) type StoredColumn<A> = ts_raw::StoredColumn<A>;
 
-/// Index, one column per series and field, one rollup per rule, and a scratch list of the columns that the current line
-/// touches.
+/// Index, one column per series and field, one rollup per rule, and scratch lists of the current line: the columns that
+/// it touches, and the index of its bucket under each rule.
 #[derive(Drop)]
 pub(crate) struct ColumnFacts<A: Allocator> {
     pub(crate) index: Index<A>,
     pub(crate) columns: Vec<StoredColumn<A>, A>,
     pub(crate) rollups: Vec<Rollup<A>, A>,
     touched: Vec<ColumnId, A>,
+    buckets: Vec<i128, A>,
 }
 
 impl<A: Allocator> Model for ColumnFacts<A> {
@@ -68,6 +69,7 @@ impl<A: Allocator + Copy> ColumnFacts<A> {
             columns: Vec::new(alloc),
             rollups,
             touched: Vec::new(alloc),
+            buckets: Vec::new(alloc),
         })
     }
 
@@ -103,6 +105,7 @@ impl<A: Allocator + Copy> ColumnFacts<A> {
         };
         self.touched.clear();
         self.touched.reserve(line.fields().len())?;
+        list_buckets(&mut self.buckets, rules, line.time())?;
         prepare_line(
             &mut self.index,
             &mut self.columns,
@@ -113,15 +116,15 @@ impl<A: Allocator + Copy> ColumnFacts<A> {
             line,
         )?;
         create_cells(
-            rules,
+            self.buckets.as_slice(),
             lows,
             self.rollups.as_mut_slice(),
             self.touched.as_slice(),
-            line.time(),
         )?;
         commit_points(
             &mut self.columns,
             rules,
+            self.buckets.as_slice(),
             self.rollups.as_mut_slice(),
             self.touched.as_slice(),
             line.fields(),

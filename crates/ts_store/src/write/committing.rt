@@ -4,10 +4,12 @@ ghost use Rattle.std.specs.Bool.{OnFalse};
 ghost use Rattle.std.specs.List.{AllByRecursion};
 ghost use Rattle.ts_core.specs.facts.Facts.{Column, Fact};
 ghost use Rattle.ts_core.specs.lists.Members.{AllDistinct};
+ghost use Rattle.ts_core.specs.store.Marks.{index_of};
 ghost use Rattle.ts_core.specs.store.StoreData.{IsLive, AreLive};
 ghost use Rattle.ts_core.specs.moves.StoreMoves.{put_cell, put_cells, PutsFacts};
 ghost use Rattle.ts_core.specs.store.StoreStates.{ColumnPoints, facts_of};
 ghost use Rattle.ts_store.specs.store.ColumnStates.{no_column, with_points, point_maps, committed, all_committed, AreReady, AreStaged};
+ghost use Rattle.ts_store.specs.write.CellsCreated.{buckets_of};
 ghost use Rattle.ts_store.specs.write.LivePuts.{IsOver, IsLivePut, AreOfFields};
 ghost use Rattle.ts_store.specs.read.PointsRead.{number_of_points};
 ghost use Rattle.ts_store.specs.rollup.Rollups.{AreRollups, rollup_series_at, with_grid_cells, cells_of};
@@ -17,7 +19,7 @@ use crate::rollup::Rollup;
 use crate::rollup::live_parts::rollup_series_total;
 use crate::store::column_facts::StoredColumn;
 use std::alloc::Allocator;
-use ts_core::{Agg, Partial, Remainder, Rule, Time, index_of};
+use ts_core::{Agg, Partial, Remainder, Rule, Time};
 use ts_line::Field;
 use ts_raw::{Column as _, ColumnId};
 
@@ -32,10 +34,12 @@ fn is_rolled<A: Allocator + Copy>(rollups: &[Rollup<A>], column: usize) -> bool
     }
 }
 
-/// Adds a fact, which is in its column already, to the cell of its bucket. Does nothing if the rule doesn't roll the
-/// column up, or if the cell doesn't exist. `old` is the value that the fact replaced.
+/// Adds a fact, which is in its column already, to the cell of the bucket with this index, which must be its own. Does
+/// nothing if the rule doesn't roll the column up, or if the cell doesn't exist. `old` is the value that the fact
+/// replaced.
 fn update_cell<A: Allocator + Copy>(
     rule: &Rule<A>,
+    index: &i128,
     rollup: &mut Rollup<A>,
     columns: &[StoredColumn<A>],
     column: ColumnId,
@@ -44,6 +48,7 @@ fn update_cell<A: Allocator + Copy>(
     old: Option<i64>,
 )
     requires interval { pos 1 ≤ℤ rule.now.interval }
+    requires index { index.now ≡ index_of rule.now time }
     requires column { column < length columns.now }
     requires each { length rollup.old.series_of_column ≡ length columns.now }
     requires few { number_of_points columns.now ≤ 2 ^ 62 }
@@ -53,24 +58,24 @@ fn update_cell<A: Allocator + Copy>(
     let Some(series) = rollup.rollup_series_of(column.number()) else {
         return;
     };
-    let index = index_of(rule, i128::from(time.nanos()));
     let Some(old) = old else {
-        rollup.add(&index, series, Agg::single(time, value));
+        rollup.add(index, series, Agg::single(time, value));
         return;
     };
-    let Some(live) = rollup.live(&index, series) else {
+    let Some(live) = rollup.live(index, series) else {
         return;
     };
     let live = match live.without(Agg::single(time, old)) {
         Some(rest) => Agg::single(time, value).merge(rest),
-        None => rollup_series_total(rule, rollup, columns, series, &index),
+        None => rollup_series_total(rule, rollup, columns, series, index),
     };
-    rollup.correct(&index, series, live);
+    rollup.correct(index, series, live);
 }
 
 /// Does the same under each rule.
 fn update_cells<A: Allocator + Copy>(
     rules: &[Rule<A>],
+    buckets: &[i128],
     rollups: &mut [Rollup<A>],
     columns: &[StoredColumn<A>],
     column: ColumnId,
@@ -79,18 +84,24 @@ fn update_cells<A: Allocator + Copy>(
     old: Option<i64>,
 )
     requires intervals { AllByRecursion (λ r. pos 1 ≤ℤ r.interval) rules.now }
+    requires buckets { buckets.now ≡ buckets_of rules.now time }
     requires column { column < length columns.now }
     requires each { AllByRecursion (λ s. length s.series_of_column ≡ length columns.now) rollups.old }
     requires few { number_of_points columns.now ≤ 2 ^ 62 }
     ensures kept { rollups.new ≡ with_all_grid_cells (cells_of rollups.new) rollups.old }
     ensures cells { (cs : List Column) (before : List ColumnPoints) (f : Fact) → f.time ≡ time → f.value ≡ value → length columns.now ≡ length cs → AllDistinct cs → AreRollups rules.now cs rollups.old → IsLivePut cs columns.now before column f old → AreLive before rules.now (cells_of rollups.old) → cells_of rollups.new ≡ put_cells rules.now f (facts_of (with_points cs (point_maps columns.now))) (cells_of rollups.old) }
 {
-    if let Some((rule, rules)) = rules.split_first() {
-        if let Some((rollup, rollups)) = rollups.split_first_mut() {
-            update_cell(rule, rollup, columns, column, time, value, old);
-            update_cells(rules, rollups, columns, column, time, value, old);
-        }
-    }
+    let Some((rule, rules)) = rules.split_first() else {
+        return;
+    };
+    let Some((index, buckets)) = buckets.split_first() else {
+        return;
+    };
+    let Some((rollup, rollups)) = rollups.split_first_mut() else {
+        return;
+    };
+    update_cell(rule, index, rollup, columns, column, time, value, old);
+    update_cells(rules, buckets, rollups, columns, column, time, value, old);
 }
 
 /// Commits the staged point of a column, which has this time and value, and corrects the cells of the rules. Searches
@@ -98,12 +109,14 @@ fn update_cells<A: Allocator + Copy>(
 fn commit_point<A: Allocator + Copy>(
     columns: &mut Vec<StoredColumn<A>, A>,
     rules: &[Rule<A>],
+    buckets: &[i128],
     rollups: &mut [Rollup<A>],
     column: ColumnId,
     time: Time,
     value: i64,
 )
     requires intervals { AllByRecursion (λ r. pos 1 ≤ℤ r.interval) rules.now }
+    requires buckets { buckets.now ≡ buckets_of rules.now time }
     requires ready { AreReady columns.old.items (column ∷ []) }
     requires each { AllByRecursion (λ s. length s.series_of_column ≡ length columns.old.items) rollups.old }
     requires few { number_of_points columns.old.items + 1 ≤ 2 ^ 62 }
@@ -118,7 +131,7 @@ fn commit_point<A: Allocator + Copy>(
     }
     let old = columns[at].value_at(time);
     columns[at].commit();
-    update_cells(rules, rollups, columns.as_slice(), column, time, value, old);
+    update_cells(rules, buckets, rollups, columns.as_slice(), column, time, value, old);
 }
 
 /// Commits the staged points of the columns with these ids: points of this time with the values of fields. Does not
@@ -126,12 +139,14 @@ fn commit_point<A: Allocator + Copy>(
 pub(crate) fn commit_points<A: Allocator + Copy, L: Allocator>(
     columns: &mut Vec<StoredColumn<A>, A>,
     rules: &[Rule<A>],
+    buckets: &[i128],
     rollups: &mut [Rollup<A>],
     numbers: &[ColumnId],
     fields: &[Field<'_, L>],
     time: Time,
 )
     requires intervals { AllByRecursion (λ r. pos 1 ≤ℤ r.interval) rules.now }
+    requires buckets { buckets.now ≡ buckets_of rules.now time }
     requires ready { AreReady columns.old.items numbers.now }
     requires fields { length fields.now ≡ length numbers.now }
     requires each { AllByRecursion (λ s. length s.series_of_column ≡ length columns.old.items) rollups.old }
@@ -141,6 +156,6 @@ pub(crate) fn commit_points<A: Allocator + Copy, L: Allocator>(
     ensures cells { (cs : List Column) (fs : List Fact) → AreOfFields time fields.now fs → length columns.old.items ≡ length cs → AllDistinct cs → AreRollups rules.now cs rollups.old → AreStaged cs columns.old.items numbers.now fs → AreLive (with_points cs (point_maps columns.old.items)) rules.now (cells_of rollups.old) → PutsFacts rules.now (with_points cs (point_maps columns.old.items)) (cells_of rollups.old) (with_points cs (point_maps columns.new.items)) (cells_of rollups.new) fs }
 {
     for (number, field) in numbers.iter().zip(fields) {
-        commit_point(columns, rules, rollups, *number, time, field.value());
+        commit_point(columns, rules, buckets, rollups, *number, time, field.value());
     }
 }

@@ -22,7 +22,7 @@ use Rattle.ts_core.specs.store.StoreData.{CellMap, AreLive}
 use Rattle.ts_store.specs.rollup.Rollups.{RollupState, AreRollups, cells_of}
 use Rattle.ts_store.specs.write.LivePuts.{AreOfFields}
 use Rattle.ts_store.specs.retain.RollupSteps.{with_all_grid_cells}
-use Rattle.ts_store.specs.write.CellsCreated.{cells_created_under, AreCreatedInPart, KeepRollupSeries}
+use Rattle.ts_store.specs.write.CellsCreated.{buckets_of, cells_created_under, AreCreatedInPart, KeepRollupSeries}
 use Rattle.ts_store.specs.write.LinesPut.{OfEachRule, GainsCells}
 use Rattle.ts_store.proofs.write.CellsMade.{gain_nothing, line_cells}
 use Rattle.ts_store.proofs.read.ColumnsReads.{facts-length}
@@ -71,7 +71,10 @@ commit_points-requires-clause-ready g c =
     let ns : List ℕ = c.prepare_line.new.touched.items in
     let staged = c.in_ok-prepare_line.ensures.line.staged in
     let once : AllDistinct ns = numbers_distinct cs ss ns (line_facts p) staged (line_columns p p.fields (rw c.fields.ensures.value at c.fields.ensures.once)) in
-    rw c.as_slice-2.ensures.value (ready_of cs ss ns (line_facts p) c.prepare_line.ensures.line.held.each staged once)
+    rw c.as_slice-4.ensures.value (ready_of cs ss ns (line_facts p) c.prepare_line.ensures.line.held.each staged once)
+
+pub commit_points-requires-clause-buckets : goal.commit_points-requires-clause-buckets
+commit_points-requires-clause-buckets g c = c.as_slice-3.ensures.value ∙ c.in_ok-list_buckets.ensures ∙ ap (buckets_of c.args.rules.now) (c.time.ensures ∙ sym c.time-2.ensures)
 
 pub commit_points-requires-clause-fields : goal.commit_points-requires-clause-fields
 commit_points-requires-clause-fields g c =
@@ -79,7 +82,7 @@ commit_points-requires-clause-fields g c =
     let cs : List Column = c.prepare_line.new.index.columns in
     let ss : List ColumnState = c.prepare_line.new.columns.items in
     let ns : List ℕ = c.prepare_line.new.touched.items in
-    ap length c.fields-2.ensures.value ∙ sym (length-map p.fields (fact_of p)) ∙ sym (staged_length cs ss ns (line_facts p) c.in_ok-prepare_line.ensures.line.staged) ∙ sym (ap length c.as_slice-2.ensures.value)
+    ap length c.fields-2.ensures.value ∙ sym (length-map p.fields (fact_of p)) ∙ sym (staged_length cs ss ns (line_facts p) c.in_ok-prepare_line.ensures.line.staged) ∙ sym (ap length c.as_slice-4.ensures.value)
 
 pub commit_points-requires-clause-each : goal.commit_points-requires-clause-each
 commit_points-requires-clause-each g c =
@@ -107,14 +110,14 @@ commit_points-requires-clause-few g c =
     let count = facts-length cs ss c.prepare_line.ensures.line.held.each in
     let many = ap length same in
     let wide = staged_length cs ss ns (line_facts p) c.in_ok-prepare_line.ensures.line.staged in
-    let lent = ap length c.as_slice-2.ensures.value in
+    let lent = ap length c.as_slice-4.ensures.value in
     let fit = c.requires.fit in
     omega (arith, count, many, wide, lent, fit)
 
 pub invariant_of-self-2 : goal.invariant_of-self-2
 invariant_of-self-2 g c = record {
   sound = c.prepare_line.ensures.line.held.sound;
-  each = ap length c.commit_points.ensures.columns ∙ all_committed-length c.prepare_line.new.columns.items c.as_slice-2.result.now ∙ c.prepare_line.ensures.line.held.each;
+  each = ap length c.commit_points.ensures.columns ∙ all_committed-length c.prepare_line.new.columns.items c.as_slice-4.result.now ∙ c.prepare_line.ensures.line.held.each;
 }
 
 pub returns-clause-ok : goal.returns-clause-ok
@@ -137,25 +140,26 @@ returns-clause-ok g c =
     let yet : length ws ≡ c.self.inside.rollups.len = omega (arith, c.commit_points.auto.rollups, ap length lent', still) in
     let written : (with_items (with_items (with_items c.self.inside.rollups us) vs) ws).items ≡ ws = with_items_is (with_items (with_items c.self.inside.rollups us) vs) ws yet in
     let staged = c.in_ok-prepare_line.ensures.line.staged in
+    let listed : c.as_slice.result.now ≡ buckets_of rs c.time.result = c.as_slice.ensures.value ∙ c.in_ok-list_buckets.ensures in
     let before : columns_in c.register.new.self c.self.inside.columns.items ≡ old =
     ap (λ (xs : List Column). with_points xs (point_maps c.self.inside.columns.items)) c.register.ensures.columns ∙ ap (λ (h : StoreContent). h.columns) c.self.view_is in
     let made : with_points cs (point_maps ss) ≡ with_columns old (new_columns (map column_of old) (line_facts p)) =
     c.in_ok-prepare_line.ensures.line.all ∙ ap (λ (b : List ColumnPoints). with_columns b (new_columns (map column_of b) (line_facts p))) before in
     let has_cells : GainEmptyCells rs lows (line_facts p) (cells_of c.args.self.now.rollups) (cells_of vs) = line_rooms rs lows cs ss p c.time.result ns (cells_of c.args.self.now.rollups) us vs c.prepare_line.ensures.rollups staged c.time.ensures
     (c.prepare_line.ensures.cells ∙ ap cells_of (c.as_mut_slice.ensures.value ∙ ap (λ (h : StoreContent). h.rollups) c.self.view_is))
-    (c.in_ok-create_cells.ensures.ok ∙ (λ i. cells_created_under rs lows c.time.result (c.as_slice.ensures.value i) (lent i))) in
+    (c.in_ok-create_cells.ensures.ok ∙ (λ i. cells_created_under (listed i) lows (c.as_slice-2.ensures.value i) (lent i))) in
     let gains' : OfEachRule (GainsCells (line_facts p)) rs lows (cells_of c.args.self.now.rollups) (cells_of vs) = line_gains rs lows cs ss p c.time.result ns (cells_of c.args.self.now.rollups) us vs c.prepare_line.ensures.rollups staged c.time.ensures
     (c.prepare_line.ensures.cells ∙ ap cells_of (c.as_mut_slice.ensures.value ∙ ap (λ (h : StoreContent). h.rollups) c.self.view_is))
-    (all_gained rs lows c.time.result ns us vs (c.in_ok-create_cells.ensures.ok ∙ (λ i. cells_created_under rs lows c.time.result (c.as_slice.ensures.value i) (lent i)))) in
+    (all_gained rs lows c.time.result ns us vs (c.in_ok-create_cells.ensures.ok ∙ (λ i. cells_created_under (listed i) lows (c.as_slice-2.ensures.value i) (lent i)))) in
     let have : AreRollups rs cs vs = rollups_stay rs cs us vs c.prepare_line.ensures.rollups (subst (λ (xs : List RollupState). KeepRollupSeries xs vs) lent c.create_cells.ensures.kept) in
     let live : AreLive (with_points cs (point_maps ss)) rs (cells_of vs) =
     live_same old (with_points cs (point_maps ss)) (sym (ap facts_of made ∙ same_facts old (new_columns (map column_of old) (line_facts p)))) rs (cells_of vs) (c.requires.live (line_facts p) (cells_of vs) has_cells) in
     let fields : AreOfFields c.time-2.result c.fields-2.result.now (line_facts p) = subst (λ (xs : List (LinePart × ℤ)). AreOfFields c.time-2.result xs (line_facts p)) (sym c.fields-2.ensures.value) (of_fields p c.time-2.result (sym c.time-2.ensures) p.fields) in
     let puts : PutsFacts rs (with_points cs (point_maps ss)) (cells_of c.as_mut_slice-3.result.now) (with_points cs (point_maps c.commit_points.new.columns.items)) (cells_of ws) (line_facts p) =
     c.commit_points.ensures.cells cs (line_facts p) fields c.prepare_line.ensures.line.held.each c.prepare_line.ensures.line.held.sound.columns_once (subst (AreRollups rs cs) (sym lent') have)
-    (subst (λ (ms : List ℕ). AreStaged cs ss ms (line_facts p)) (sym c.as_slice-2.ensures.value) staged) (subst (λ (xs : List RollupState). AreLive (with_points cs (point_maps ss)) rs (cells_of xs)) (sym lent') live) in
+    (subst (λ (ms : List ℕ). AreStaged cs ss ms (line_facts p)) (sym c.as_slice-4.ensures.value) staged) (subst (λ (xs : List RollupState). AreLive (with_points cs (point_maps ss)) rs (cells_of xs)) (sym lent') live) in
     let kept : ws ≡ with_all_grid_cells (cells_of ws) vs = c.commit_points.ensures.kept ∙ ap (with_all_grid_cells (cells_of ws)) lent' in
-    let each : length c.commit_points.new.columns.items ≡ length cs = ap length c.commit_points.ensures.columns ∙ all_committed-length ss c.as_slice-2.result.now ∙ c.prepare_line.ensures.line.held.each in
+    let each : length c.commit_points.new.columns.items ≡ length cs = ap length c.commit_points.ensures.columns ∙ all_committed-length ss c.as_slice-4.result.now ∙ c.prepare_line.ensures.line.held.each in
     let facts : PutsFacts rs (with_columns old (new_columns (map column_of old) (line_facts p))) (cells_of vs) (with_points cs (point_maps c.commit_points.new.columns.items)) (cells_of (with_items (with_items (with_items c.self.inside.rollups us) vs) ws).items) (line_facts p) =
     subst (λ (xs : List RollupState). PutsFacts rs (with_columns old (new_columns (map column_of old) (line_facts p))) (cells_of vs) (with_points cs (point_maps c.commit_points.new.columns.items)) (cells_of xs) (line_facts p)) (sym written)
     (subst (λ (b : List ColumnPoints). PutsFacts rs b (cells_of vs) (with_points cs (point_maps c.commit_points.new.columns.items)) (cells_of ws) (line_facts p)) made
@@ -174,8 +178,8 @@ returns-clause-ok g c =
           _ gains' has_cells facts;
     }
 
-pub create_cells-requires-clause-inside : goal.create_cells-requires-clause-inside
-create_cells-requires-clause-inside g c =
+pub create_cells-requires : goal.create_cells-requires
+create_cells-requires g c =
     let cs : List Column = c.prepare_line.new.index.columns in
     let ns : List ℕ = c.prepare_line.new.touched.items in
     let long : length c.prepare_line.new.rollups ≡ c.self.inside.rollups.len = omega (arith, c.prepare_line.auto.rollups, ap length c.as_mut_slice.ensures.value, c.self.inside.rollups.ok.0) in
@@ -183,8 +187,8 @@ create_cells-requires-clause-inside g c =
     let lent : c.as_mut_slice-2.result.now ≡ c.prepare_line.new.rollups = c.as_mut_slice-2.ensures.value ∙ written in
     let inside = numbers_inside c.args.rules.now cs c.prepare_line.new.rollups ns c.prepare_line.ensures.rollups
     (staged_inside cs c.prepare_line.new.columns.items ns (line_facts c.args.line.now) c.in_ok-prepare_line.ensures.line.staged) in
-    subst (λ (us : List RollupState). AllByRecursion (λ (s : RollupState). AllByRecursion (λ n. n < length s.series_of_column) c.as_slice.result.now) us) (sym lent)
-    (subst (λ (ks : List ℕ). AllByRecursion (λ (s : RollupState). AllByRecursion (λ n. n < length s.series_of_column) ks) c.prepare_line.new.rollups) (sym c.as_slice.ensures.value) inside)
+    subst (λ (us : List RollupState). AllByRecursion (λ (s : RollupState). AllByRecursion (λ n. n < length s.series_of_column) c.as_slice-2.result.now) us) (sym lent)
+    (subst (λ (ks : List ℕ). AllByRecursion (λ (s : RollupState). AllByRecursion (λ n. n < length s.series_of_column) ks) c.prepare_line.new.rollups) (sym c.as_slice-2.ensures.value) inside)
 
 pub prepare_line-requires-clause-rollups : goal.prepare_line-requires-clause-rollups
 prepare_line-requires-clause-rollups g c =
@@ -217,6 +221,18 @@ returns-in_err-reserve-clause-err g c =
     (still_rollups c.args.rules.now c.args.self.now before after states us c.self.view_is c.register.ensures.columns c.self.invariant c.requires.rollups) (rooms_same c.args.rules.now c.args.lows.now (cells_of us))
     (gain_nothing (line_facts c.args.line.now) c.args.rules.now c.args.lows.now (cells_of us)) (inl refl))
 
+pub returns-in_err-list_buckets-clause-err : goal.returns-in_err-list_buckets-clause-err
+returns-in_err-list_buckets-clause-err g c =
+    let before : Indexed = c.self.inside.index in
+    let after : Indexed = c.register.new.self in
+    let states : List ColumnState = c.self.inside.columns.items in
+    let us : List RollupState = c.self.inside.rollups.items in
+    on_any_err c.from_residual-in_err-list_buckets.result
+    (grown c.args.rules.now c.args.lows.now c.args.line.now c.args.key.now c.args.self.now before after after states states us us us c.requires.key c.self.view_is (inr c.in-Ok.ensures.registered.gains) c.register.ensures.columns refl
+    (none_made (columns_in after states) (line_facts c.args.line.now)) (series_held before after states c.register.ensures.sound c.register.ensures.columns c.self.invariant) refl
+    (still_rollups c.args.rules.now c.args.self.now before after states us c.self.view_is c.register.ensures.columns c.self.invariant c.requires.rollups) (rooms_same c.args.rules.now c.args.lows.now (cells_of us))
+    (gain_nothing (line_facts c.args.line.now) c.args.rules.now c.args.lows.now (cells_of us)) (inl refl))
+
 pub returns-in_err-prepare_line-clause-err : goal.returns-in_err-prepare_line-clause-err
 returns-in_err-prepare_line-clause-err g c =
     let us : List RollupState = c.prepare_line.new.rollups in
@@ -236,9 +252,10 @@ returns-in_err-create_cells-clause-err g c =
     let lent : c.as_mut_slice-2.result.now ≡ c.prepare_line.new.rollups = c.as_mut_slice-2.ensures.value ∙ with_items_is c.self.inside.rollups c.prepare_line.new.rollups long in
     let still : length us ≡ c.self.inside.rollups.len = omega (arith, c.create_cells.auto.rollups, ap length lent, long) in
     let ns : List ℕ = c.prepare_line.new.touched.items in
-    let part : AreCreatedInPart c.args.rules.now c.args.lows.now c.time.result ns c.prepare_line.new.rollups us =
-    subst (λ (vs : List RollupState). AreCreatedInPart c.args.rules.now c.args.lows.now c.time.result ns vs us) lent
-    (subst (λ (ks : List ℕ). AreCreatedInPart c.args.rules.now c.args.lows.now c.time.result ks c.as_mut_slice-2.result.now us) c.as_slice.ensures.value c.in_err-create_cells.ensures.err) in
+    let part : AreCreatedInPart (buckets_of c.args.rules.now c.time.result) c.args.lows.now ns c.prepare_line.new.rollups us =
+    subst (λ (vs : List RollupState). AreCreatedInPart (buckets_of c.args.rules.now c.time.result) c.args.lows.now ns vs us) lent
+    (subst (λ (ks : List ℕ). AreCreatedInPart (buckets_of c.args.rules.now c.time.result) c.args.lows.now ks c.as_mut_slice-2.result.now us) c.as_slice-2.ensures.value
+    (subst (λ (is : List ℤ). AreCreatedInPart is c.args.lows.now c.as_slice-2.result.now c.as_mut_slice-2.result.now us) (c.as_slice.ensures.value ∙ c.in_ok-list_buckets.ensures) c.in_err-create_cells.ensures.err)) in
     let before : cells_of c.prepare_line.new.rollups ≡ cells_of c.self.inside.rollups.items = c.prepare_line.ensures.cells ∙ ap cells_of c.as_mut_slice.ensures.value in
     on_any_err c.from_residual-in_err-create_cells.result
     (grown c.args.rules.now c.args.lows.now c.args.line.now c.args.key.now c.args.self.now c.self.inside.index c.register.new.self c.prepare_line.new.index c.self.inside.columns.items c.prepare_line.new.columns.items c.self.inside.rollups.items us
@@ -260,6 +277,9 @@ invariant_of-self g c = series_held c.self.inside.index c.register.new.self c.se
 
 pub invariant_of-self-in_err-reserve : goal.invariant_of-self-in_err-reserve
 invariant_of-self-in_err-reserve g c = series_held c.self.inside.index c.register.new.self c.self.inside.columns.items c.register.ensures.sound c.register.ensures.columns c.self.invariant
+
+pub invariant_of-self-in_err-list_buckets : goal.invariant_of-self-in_err-list_buckets
+invariant_of-self-in_err-list_buckets g c = series_held c.self.inside.index c.register.new.self c.self.inside.columns.items c.register.ensures.sound c.register.ensures.columns c.self.invariant
 
 pub invariant_of-self-in_err-prepare_line : goal.invariant_of-self-in_err-prepare_line
 invariant_of-self-in_err-prepare_line g c = c.prepare_line.ensures.line.held
