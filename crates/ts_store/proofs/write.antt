@@ -13,6 +13,7 @@ pub mod RollupsPut
 pub mod CellsCreatedLemmas
 pub mod CellsMade
 -- LivePuts, LiveCells: the effect of a fact on cells
+pub mod LiveOver
 pub mod PointsPut
 pub mod CellsPut
 -- LineTexts: the outcome of a line's text

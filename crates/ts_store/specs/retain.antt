@@ -3,4 +3,5 @@
 pub mod WholeRuns
 -- used only by models and proofs of the code
 pub mod RollupSteps
+pub mod PointMoves
 pub mod OpenRuns

@@ -9,3 +9,4 @@ pub mod LineTexts
 pub mod LinesInColumns
 pub mod CellsCreated
 pub mod LivePuts
+pub mod PointPuts

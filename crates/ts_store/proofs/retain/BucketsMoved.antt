@@ -28,6 +28,7 @@ use Rattle.ts_store.specs.store.CellCounts.{frozen_count}
 use Rattle.ts_store.specs.store.ColumnStates.{no_column, with_points, point_maps}
 use Rattle.ts_store.specs.rollup.Rollups.{RollupState, IsRollupSeriesOf, rollup_series_at, rollup_series_under, with_grid_cells}
 use Rattle.ts_store.specs.write.LivePuts.{IsOver}
+use Rattle.ts_store.specs.retain.PointMoves.{MovesBucket}
 use Rattle.ts_store.specs.retain.RollupSteps.{points_in_cell, FreezesFit, bucket_moved, HasLive, facts_left}
 use Rattle.ts_store.proofs.write.CellsCreatedLemmas.{rollup_series_known}
 use Rattle.ts_store.proofs.retain.PointsFrozen.{changed-twice, frozen_most, first_in}
@@ -277,12 +278,16 @@ module _ (r : Rule) (mark : ℤ) (cs : List Column) (c : Column) (ss : List Colu
   its_rolled = its_series.2
 
   -- the cells after a bucket is moved, by what the call says
-  pub bucket_cells : (t u : RollupState) (i : ℤ) (part : Aggregate) → t ≡ with_grid_cells t.grid.cells s
-      → ((l : ℕ) → rollup_series_at t n ≡ Some l → IsOver r cs ss t → u.grid.cells ≡ bucket_moved r (cell_at i (rollup_series_under r c)) part (facts_left mark c cs ss) t.grid.cells)
+  pub bucket_cells : (t u : RollupState) (i : ℤ) (part : Aggregate) → t ≡ with_grid_cells t.grid.cells s → HasLive r (cell_at i (rollup_series_under r c)) raw_facts t.grid.cells
+      → part ≡ total_of r (cell_at i (rollup_series_under r c)) (facts_at c its_points) → MovesBucket r ss n mark i part t u
       → u.grid.cells ≡ bucket_moved r (cell_at i (rollup_series_under r c)) part (facts_left mark c cs ss) t.grid.cells
-  bucket_cells t u i part kept moved =
-      moved its_series.0 (ap (λ (x : RollupState). rollup_series_at x n) kept ∙ its_series.1)
-      (subst (λ (x : RollupState). IsOver r cs ss x) (sym kept) (record { each = over.each; once = over.once; series = over.series }))
+  bucket_cells t u i part kept live total moved = moved cs c (record {
+    rolled = (its_series.0, ap (λ (x : RollupState). rollup_series_at x n) kept ∙ its_series.1);
+    over = subst (λ (x : RollupState). IsOver r cs ss x) (sym kept) (record { each = over.each; once = over.once; series = over.series });
+    at = at;
+    live = live;
+    total = total;
+  })
 
   -- all points are moved
   pub all_points_moved : (u : RollupState) → u ≡ with_grid_cells u.grid.cells s → u.grid.cells ≡ points_moved r c (facts_left mark c cs ss) its_points s.grid.cells → u ≡ with_grid_cells (moved_cells r c its_points (facts_left mark c cs ss) s.grid.cells) s

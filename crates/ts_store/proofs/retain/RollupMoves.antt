@@ -1,5 +1,5 @@
 -- The effect of moving a column: on rollups, and on columns with their points.
-use Rattle.std.proofs.Common.{◌≡◌, ℕ, zero, suc, ℤ, ◌<◌, ◌≤◌, true, false, cond, List, [], ◌∷◌, length, filter, map, set, get_or, refl, sym, ◌∙◌, ap, ap₂, subst, inl, inr, arith, Some, None, is_some, true≢false, int_le, Equal}
+use Rattle.std.proofs.Common.{◌≡◌, ℕ, zero, suc, ℤ, ◌<◌, ◌≤◌, true, false, cond, List, [], ◌∷◌, ◌++◌, length, filter, map, set, get_or, refl, sym, ◌∙◌, ap, ap₂, subst, inl, inr, arith, Some, None, is_some, true≢false, int_le, Equal}
 use Rattle.std.specs.Ordering.{int_cmp}
 use Rattle.std.specs.List.{slice_get, AllByRecursion}
 use Rattle.std.specs.Cmp.{int_cmp_total}
@@ -14,7 +14,7 @@ use Rattle.ts_core.specs.facts.Facts.{Column, Fact}
 use Rattle.ts_core.specs.settings.Settings.{Rule}
 use Rattle.ts_core.specs.store.RawFacts.{same_column}
 use Rattle.ts_core.specs.store.StoreStates.{ColumnPoints, column_of}
-use Rattle.ts_core.specs.store.StoreData.{CellMap, IsLive, AreLive}
+use Rattle.ts_core.specs.store.StoreData.{CellMap, AreLive}
 use Rattle.ts_core.specs.moves.StoreMoves.{frozen_points, refolded_points, moved_cells, all_moved, points_below, kept_points}
 use Rattle.ts_core.proofs.store.StateLemmas.{same_column-refl, same_column-eq}
 use Rattle.ts_raw.specs.Columns.{PointMap, ColumnState, points_from}
@@ -23,12 +23,13 @@ use Rattle.ts_core.proofs.lists.NumberedLemmas.{at_among}
 use Rattle.ts_store.specs.store.ColumnStates.{point_maps, with_points, columns_in, no_column, content_of, IsSoundContent}
 use Rattle.ts_store.specs.read.PointsRead.{number_of_points}
 use Rattle.ts_store.specs.rollup.Rollups.{RollupState, IsRollupSeriesOf, AreRollups, rollup_series_at, with_grid_cells, cells_of}
-use Rattle.ts_store.specs.retain.RollupSteps.{with_all_grid_cells, FreezesFit, FreezeFit, facts_left, content_moved}
-use Rattle.ts_store.specs.write.LivePuts.{IsOver}
+use Rattle.ts_store.specs.retain.RollupSteps.{with_all_grid_cells, FreezeFit, facts_left, content_moved}
+use Rattle.ts_store.specs.retain.PointMoves.{column_below, MayMove, MovesPoints}
 use Rattle.ts_store.proofs.store.ColumnsLemmas.{names_held}
 use Rattle.ts_store.proofs.write.StagedColumns.{points_at}
 use Rattle.ts_store.proofs.rollup.RollupsGrow.{rollup_series-length}
 use Rattle.ts_store.proofs.retain.RollupExpiry.{grids_kept}
+use Rattle.ts_store.proofs.write.LiveOver.{first_over, others_over}
 
 -- ---- other cells under the same rollup series
 
@@ -109,17 +110,14 @@ all_moved-none [] cs ss c ps facts e a = grids_kept ss
 all_moved-none (r ∷ rs) cs ss c ps facts e a = absurd (let n : ⊥ = omega arith in n)
 
 -- the first rule, and the others
-pub all_moved-more : (r : Rule) (rs rs' : List Rule) (cs : List Column) (states : List ColumnState) (n : ℕ) (c : Column) (ps : List (ℤ × ℤ)) (facts : List Fact) (s t : RollupState) (ss ts ss' : List RollupState) → rs' ≡ r ∷ rs → ss' ≡ s ∷ ss
-    → length states ≡ length cs → AllDistinct cs → AreRollups rs' cs ss' → AreLive (with_points cs (point_maps states)) rs' (cells_of ss') → FreezeFit rs' c ps (cells_of ss')
-    → (IsOver r cs states s → IsLive (with_points cs (point_maps states)) r s.grid.cells → FreezesFit r c ps s.grid.cells → t ≡ with_grid_cells (moved_cells r c ps facts s.grid.cells) s)
-    → (AreRollups rs cs ss → AreLive (with_points cs (point_maps states)) rs (cells_of ss) → FreezeFit rs c ps (cells_of ss) → ts ≡ with_all_grid_cells (all_moved rs c ps facts (cells_of ss)) ss)
-    → t ∷ ts ≡ with_all_grid_cells (all_moved rs' c ps facts (cells_of ss')) ss'
-all_moved-more r rs rs' cs states n c ps facts s t ss ts ss' d e each once a live fit one others =
-    let a' : AreRollups (r ∷ rs) cs (s ∷ ss) = subst (λ (us : List RollupState). AreRollups (r ∷ rs) cs us) e (subst (λ (qs : List Rule). AreRollups qs cs ss') d a) in
-    let live' : AreLive (with_points cs (point_maps states)) (r ∷ rs) (cells_of (s ∷ ss)) = subst (λ (us : List RollupState). AreLive (with_points cs (point_maps states)) (r ∷ rs) (cells_of us)) e (subst (λ (qs : List Rule). AreLive (with_points cs (point_maps states)) qs (cells_of ss')) d live) in
-    let fit' : FreezeFit (r ∷ rs) c ps (cells_of (s ∷ ss)) = subst (λ (us : List RollupState). FreezeFit (r ∷ rs) c ps (cells_of us)) e (subst (λ (qs : List Rule). FreezeFit qs c ps (cells_of ss')) d fit) in
-    ap₂ (λ u us. u ∷ us) (one (record { each = each; once = once; series = a'.0 }) live'.0 fit'.0) (others a'.1 live'.1 fit'.1)
-    ∙ sym (ap₂ (λ (qs : List Rule) (us : List RollupState). with_all_grid_cells (all_moved qs c ps facts (cells_of us)) us) d e)
+pub all_moved-more : (r : Rule) (rs rs' : List Rule) (states : List ColumnState) (n : ℕ) (mark : ℤ) (s t : RollupState) (ss ts ss' : List RollupState) → rs' ≡ r ∷ rs → ss' ≡ s ∷ ss
+    → MovesPoints (r ∷ []) states n mark (s ∷ []) (t ∷ []) → MovesPoints rs states n mark ss ts → MovesPoints rs' states n mark ss' (t ∷ ts)
+all_moved-more r rs rs' states n mark s t ss ts ss' d e one others = λ cs c may.
+    let all : MayMove (r ∷ rs) cs states n mark (s ∷ ss) c = subst (λ (us : List RollupState). MayMove (r ∷ rs) cs states n mark us c) e (subst (λ (qs : List Rule). MayMove qs cs states n mark ss' c) d may) in
+    let before : List ColumnPoints = with_points cs (point_maps states) in
+    ap₂ (λ (us vs : List RollupState). us ++ vs) (one cs c (record { over = first_over r rs cs states before s ss all.over; at = all.at; fit = (all.fit.0, tt) }))
+    (others cs c (record { over = others_over r rs cs states before s ss all.over; at = all.at; fit = all.fit.1 }))
+    ∙ sym (ap₂ (λ (qs : List Rule) (us : List RollupState). with_all_grid_cells (all_moved qs c (column_below mark n states) (facts_left mark c cs states) (cells_of us)) us) d e)
 
 -- ---- a column of the content
 
@@ -137,8 +135,7 @@ with_points-at (c ∷ cs) (m ∷ ms) (suc n) s e = with_points-at cs ms n s e
 
 pub held_moves : (index : Indexed) (ss : List ColumnState) (us vs : List RollupState) (rs : List Rule) (mark : ℤ) (n : ℕ) (x y : ColumnState) → IsSoundContent index ss → n < length ss → x ≡ get_or ss n x → y.points ≡ points_from x.points mark
     → AreRollups rs (map column_of (columns_in index ss)) us → AreLive (columns_in index ss) rs (cells_of us)
-    → ((cs : List Column) (c : Column) → length ss ≡ length cs → AllDistinct cs → AreRollups rs cs us → slice_get cs n ≡ Some c → AreLive (with_points cs (point_maps ss)) rs (cells_of us) → FreezeFit rs c (points_below mark (entries (get_or ss n no_column).points)) (cells_of us)
-    → vs ≡ with_all_grid_cells (all_moved rs c (points_below mark (entries (get_or ss n no_column).points)) (facts_left mark c cs ss) (cells_of us)) us)
+    → MovesPoints rs ss n mark us vs
     → (s : ColumnPoints) → slice_get (columns_in index ss) n ≡ Some s → FreezeFit rs s.column (points_below mark s.points) (cells_of us) → content_of index (set ss n y) vs ≡ content_moved rs s mark (content_of index ss us)
 held_moves index ss us vs rs mark n x y held within is left a live moved s at fit =
     let cs : List Column = index.columns in
@@ -153,6 +150,10 @@ held_moves index ss us vs rs mark n x y held within is left a live moved s at fi
     let columns : columns_in index (set ss n y) ≡ map (kept_points s.column mark) (columns_in index ss) = ap (with_points cs) rest ∙ columns_left s.column mark cs ms n held.sound.columns_once each index_is.0 in
     let have : AreRollups rs cs us = subst (λ (names : List Column). AreRollups rs names us) (names_held index ss held.each) a in
     let rollups : vs ≡ with_all_grid_cells (all_moved rs s.column (points_below mark s.points) (facts_left mark s.column cs ss) (cells_of us)) us =
-    moved cs s.column held.each held.sound.columns_once have index_is.0 live (subst (λ (ps : List (ℤ × ℤ)). FreezeFit rs s.column (points_below mark ps) (cells_of us)) points fit)
+    moved cs s.column (record {
+      over = record { each = held.each; once = held.sound.columns_once; rollups = have; live = live };
+      at = index_is.0;
+      fit = subst (λ (ps : List (ℤ × ℤ)). FreezeFit rs s.column (points_below mark ps) (cells_of us)) points fit;
+    })
     ∙ ap (λ (ps : List (ℤ × ℤ)). with_all_grid_cells (all_moved rs s.column (points_below mark ps) (facts_left mark s.column cs ss) (cells_of us)) us) (sym points) in
     λ i. record { series = index.series; columns = columns i; rollups = rollups i }

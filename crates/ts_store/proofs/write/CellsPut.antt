@@ -1,5 +1,5 @@
 -- A fact inserted into its column, and then into its cell: it is added, or the live part is corrected.
-use Rattle.std.proofs.Common.{◌≡◌, ℕ, ℤ, false, cond, List, length, filter, Option, Some, None, option_map, refl, sym, ◌∙◌, ap, subst, arith}
+use Rattle.std.proofs.Common.{◌≡◌, ℕ, ℤ, false, cond, List, [], ◌∷◌, length, filter, Option, Some, None, option_map, refl, sym, ◌∙◌, ap, subst, arith}
 use Rattle.std.specs.FinMap as finmap
 use Rattle.std.proofs.lemmas.Option.{get_or_from_slice_get, none-some, same_Some}
 use Rattle.ts_core.specs.lists.Members.{AllDistinct}
@@ -13,7 +13,6 @@ use Rattle.ts_core.specs.store.Cells.{cell_of, is_rolled, is_in_cell, total_of}
 use Rattle.ts_core.specs.lists.Changes.{changed, with_change}
 use Rattle.ts_core.specs.store.TwoParts.{in_live, with_live}
 use Rattle.ts_core.specs.store.StoreStates.{ColumnPoints, facts_of}
-use Rattle.ts_core.specs.store.StoreData.{IsLive}
 use Rattle.ts_core.specs.moves.StoreMoves.{refolded, put_cell}
 use Rattle.ts_core.proofs.store.Cuts.{one_fact}
 use Rattle.ts_core.proofs.aggregates.Folds.{fold-count}
@@ -23,19 +22,20 @@ use Rattle.ts_cells.specs.Grids.{no_rollup_series, cell_at, cell_in}
 use Rattle.ts_raw.specs.Columns.{ColumnState}
 use Rattle.ts_store.specs.store.ColumnStates.{with_points, point_maps}
 use Rattle.ts_store.specs.rollup.LivePoints.{rollup_series_total}
-use Rattle.ts_store.specs.write.LivePuts.{IsOver, WasThere, IsLivePut}
+use Rattle.ts_store.specs.write.LivePuts.{WasThere, IsLivePut}
+use Rattle.ts_store.specs.write.PointPuts.{AreLiveOver}
 use Rattle.ts_store.specs.rollup.Rollups.{RollupState, IsRollupSeriesOf, rollup_series_under, rollup_series_at, added_in, corrected_in, live_part}
 use Rattle.ts_store.proofs.rollup.LiveParts.{cell_total}
 use Rattle.ts_store.proofs.write.CellsCreatedLemmas.{rollup_series_known}
 
 -- ---- the cell of a fact under a rule
 
-module _ (r : Rule) (cs : List Column) (states : List ColumnState) (before : List ColumnPoints) (s : RollupState) (column : ℕ) (f : Fact) (old : Option ℤ) (over : IsOver r cs states s) (put : IsLivePut cs states before column f old) (live : IsLive before r s.grid.cells) where
+module _ (r : Rule) (cs : List Column) (states : List ColumnState) (before : List ColumnPoints) (s : RollupState) (column : ℕ) (f : Fact) (old : Option ℤ) (over : AreLiveOver (r ∷ []) cs states before (s ∷ [])) (put : IsLivePut cs states before column f old) where
   abbrev after : List ColumnPoints
   after = with_points cs (point_maps states)
 
   rollup_series_is : IsRollupSeriesOf r f.column s.grid.rollup_series (rollup_series_at s column)
-  rollup_series_is = rollup_series_known r s.grid.rollup_series cs s.series_of_column column f.column over.series put.at
+  rollup_series_is = rollup_series_known r s.grid.rollup_series cs s.series_of_column column f.column over.rollups.0 put.at
 
   -- a rule that doesn't roll it up
   pub put_passed : rollup_series_at s column ≡ None → s.grid.cells ≡ put_cell r f (facts_of after) s.grid.cells
@@ -58,10 +58,10 @@ module _ (r : Rule) (cs : List Column) (states : List ColumnState) (before : Lis
     put_added part none one =
         ap (λ k. changed s.grid.cells k (in_live (merged_within part))) key
         ∙ ap (λ a. changed s.grid.cells (cell_of r f) (in_live (merged_within a))) one
-        ∙ add_puts before after f put.distinct put.put r s.grid.cells live is.0 (subst (WasThere before f) none put.was)
+        ∙ add_puts before after f put.distinct put.put r s.grid.cells over.live.0 is.0 (subst (WasThere before f) none put.was)
         (λ p e.
         let inside : List Fact = filter (is_in_cell r (cell_of r f)) (facts_of before) in
-        let count : p.live.count ≡ length inside = ap (λ (a : Aggregate). a.count) (live (cell_of r f) p e) ∙ fold-count aggregate_laws one_fact (λ g. refl) inside in
+        let count : p.live.count ≡ length inside = ap (λ (a : Aggregate). a.count) (over.live.0 (cell_of r f) p e) ∙ fold-count aggregate_laws one_fact (λ g. refl) inside in
         let fewer = length-filter (is_in_cell r (cell_of r f)) (facts_of before) in
         let few = put.few in
         omega (arith, count, fewer, few))
@@ -83,17 +83,17 @@ module _ (r : Rule) (cs : List Column) (states : List ColumnState) (before : Lis
         let whole : a ≡ total_of r (cell_of r f) (facts_of before) =
         elim (finmap.get s.grid.cells (cell_of r f)) as (λ o. finmap.get s.grid.cells (cell_of r f) ≡ o → option_map live_part o ≡ Some a → a ≡ total_of r (cell_of r f) (facts_of before)) [
           | None ↦ λ g e. absurd (none-some a e)
-          | Some p ↦ λ g e. sym (same_Some p.live a e) ∙ live (cell_of r f) p g
+          | Some p ↦ λ g e. sym (same_Some p.live a e) ∙ over.live.0 (cell_of r f) p g
         ] refl there' in
         ap (λ k. changed s.grid.cells k (with_live new)) key
         ∙ ap (λ x. changed s.grid.cells (cell_of r f) (with_live x)) made
-        ∙ correct_puts before after f put.distinct put.put r s.grid.cells live is.0 (record { column = f.column; time = f.time; value = v }) (subst (WasThere before f) was put.was) rest
+        ∙ correct_puts before after f put.distinct put.put r s.grid.cells over.live.0 is.0 (record { column = f.column; time = f.time; value = v }) (subst (WasThere before f) was put.was) rest
         (subst (λ x. IsOnlyRest IsSound merged x (aggregate_of_one f.time v) rest) whole determined)
 
     -- and where it isn't, folded anew
     pub put_folded : (new : Aggregate) → AllDistinct s.grid.rollup_series → new ≡ rollup_series_total r s states l index → corrected_in s l index new ≡ put_cell r f (facts_of after) s.grid.cells
     put_folded new once made =
-        let total : new ≡ total_of r (cell_of r f) (facts_of after) = made ∙ ap (rollup_series_total r s states l) at_index ∙ cell_total r s (cell_of r f) l cs states once is.1 over.each over.series in
+        let total : new ≡ total_of r (cell_of r f) (facts_of after) = made ∙ ap (rollup_series_total r s states l) at_index ∙ cell_total r s (cell_of r f) l cs states once is.1 over.each over.rollups.0 in
         ap (λ k. changed s.grid.cells k (with_live new)) key
         ∙ ap (λ x. changed s.grid.cells (cell_of r f) (with_live x)) total
         ∙ sym put_is

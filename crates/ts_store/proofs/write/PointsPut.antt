@@ -1,5 +1,5 @@
 -- A staged point that is committed to its column: the value that it replaces, and the resulting cells of all rules.
-use Rattle.std.proofs.Common.{◌≡◌, ℕ, zero, suc, ℤ, ◌+◌, ◌<◌, ◌≤◌, ◌^◌, Bool, true, false, true≢false, cond, List, [], ◌∷◌, length, map, set, get_or, Option, Some, None, refl, sym, ◌∙◌, ap, ap₂, subst, ◌⊎◌, inl, inr, ⊎_elim, arith, slice_get, IsSome, IfSome, drop}
+use Rattle.std.proofs.Common.{◌≡◌, ℕ, zero, suc, ℤ, ◌+◌, ◌<◌, ◌≤◌, ◌^◌, Bool, true, false, true≢false, cond, List, [], ◌∷◌, ◌++◌, length, map, set, get_or, Option, Some, None, refl, sym, ◌∙◌, ap, ap₂, subst, ◌⊎◌, inl, inr, ⊎_elim, arith, slice_get, IsSome, IfSome, drop}
 use Rattle.std.specs.List.{AllByRecursion}
 use Rattle.std.specs.Bool.{OnFalse}
 use Rattle.std.specs.Option.{is_some}
@@ -27,6 +27,7 @@ use Rattle.ts_raw.specs.Columns.{PointMap, ColumnState}
 use Rattle.ts_store.specs.store.ColumnStates.{facts_in, facts_of_columns, with_points, point_maps, no_column, with_staged, committed, all_committed, AreReady, AreStaged}
 use Rattle.ts_store.specs.write.CellsCreated.{buckets_of}
 use Rattle.ts_store.specs.write.LivePuts.{IsOver, WasThere, IsLivePut, AreOfFields}
+use Rattle.ts_store.specs.write.PointPuts.{AreLiveOver, PutsPoint, CommitsPoint, ArePointsStaged}
 use Rattle.ts_store.specs.read.PointsRead.{number_of_points}
 use Rattle.ts_store.specs.rollup.Rollups.{RollupState, IsRollupSeriesOf, AreRollups, rollup_series_at, with_grid_cells, cells_of}
 use Rattle.ts_store.specs.retain.RollupSteps.{with_all_grid_cells}
@@ -36,6 +37,7 @@ use Rattle.ts_store.proofs.read.ColumnsReads.{facts-length}
 use Rattle.ts_store.proofs.retain.RollupMoves.{rollups_with}
 use Rattle.ts_store.proofs.rollup.RollupsGrow.{rollup_series-length}
 use Rattle.ts_store.proofs.write.CellsCreatedLemmas.{rollup_series_known}
+use Rattle.ts_store.proofs.write.LiveOver.{first_over, others_over}
 
 -- ---- what was there
 
@@ -186,16 +188,12 @@ unrolled_put (r ∷ rs) cs (s ∷ ss) n f facts a at none =
     ap₂ (λ (m : CellMap) (ms : List CellMap). m ∷ ms) (sym (ap (λ b. cond b (refolded r (cell_of r f) facts s.grid.cells) s.grid.cells) passed)) (unrolled_put rs cs ss n f facts a.1 at none.1)
 
 -- the first rule, and the others
-pub all_put-more : (r : Rule) (rs rs' : List Rule) (cs : List Column) (states : List ColumnState) (before : List ColumnPoints) (f : Fact) (facts : List Fact) (s t : RollupState) (ss ts ss' : List RollupState) → rs' ≡ r ∷ rs → ss' ≡ s ∷ ss
-    → AreRollups rs' cs ss' → AreLive before rs' (cells_of ss') → length states ≡ length cs → AllDistinct cs
-    → (IsOver r cs states s → AreLive before (r ∷ []) (s.grid.cells ∷ []) → t.grid.cells ≡ put_cell r f facts s.grid.cells)
-    → (AreRollups rs cs ss → AreLive before rs (cells_of ss) → cells_of ts ≡ put_cells rs f facts (cells_of ss))
-    → cells_of (t ∷ ts) ≡ put_cells rs' f facts (cells_of ss')
-all_put-more r rs rs' cs states before f facts s t ss ts ss' d e a live each once one others =
-    let a' : AreRollups (r ∷ rs) cs (s ∷ ss) = subst (λ (us : List RollupState). AreRollups (r ∷ rs) cs us) e (subst (λ (qs : List Rule). AreRollups qs cs ss') d a) in
-    let live' : AreLive before (r ∷ rs) (cells_of (s ∷ ss)) = subst (λ (us : List RollupState). AreLive before (r ∷ rs) (cells_of us)) e (subst (λ (qs : List Rule). AreLive before qs (cells_of ss')) d live) in
-    ap₂ (λ (m : CellMap) (ms : List CellMap). m ∷ ms) (one (record { each = each; once = once; series = a'.0 }) (live'.0, tt)) (others a'.1 live'.1)
-    ∙ sym (ap₂ (λ (qs : List Rule) (us : List RollupState). put_cells qs f facts (cells_of us)) d e)
+pub all_put-more : (r : Rule) (rs rs' : List Rule) (states : List ColumnState) (column : ℕ) (time value : ℤ) (old : Option ℤ) (s t : RollupState) (ss ts ss' : List RollupState) → rs' ≡ r ∷ rs → ss' ≡ s ∷ ss
+    → PutsPoint (r ∷ []) states column time value old (s ∷ []) (t ∷ []) → PutsPoint rs states column time value old ss ts → PutsPoint rs' states column time value old ss' (t ∷ ts)
+all_put-more r rs rs' states column time value old s t ss ts ss' d e one others = λ cs before f over put.
+    let all : AreLiveOver (r ∷ rs) cs states before (s ∷ ss) = subst (AreLiveOver (r ∷ rs) cs states before) e (subst (λ (qs : List Rule). AreLiveOver qs cs states before ss') d over) in
+    ap₂ (λ (ms ns : List CellMap). ms ++ ns) (one cs before f (first_over r rs cs states before s ss all) put) (others cs before f (others_over r rs cs states before s ss all) put)
+    ∙ sym (ap₂ (λ (qs : List Rule) (us : List RollupState). put_cells qs f (facts_of (with_points cs (point_maps states))) (cells_of us)) d e)
 
 pub grids_kept_more : (s t : RollupState) (ss ts ss' : List RollupState) → ss' ≡ s ∷ ss → t ≡ with_grid_cells t.grid.cells s → ts ≡ with_all_grid_cells (cells_of ts) ss → t ∷ ts ≡ with_all_grid_cells (cells_of (t ∷ ts)) ss'
 grids_kept_more s t ss ts ss' e one others = ap₂ (λ (u : RollupState) (us : List RollupState). u ∷ us) one others ∙ sym (ap (with_all_grid_cells (cells_of (t ∷ ts))) e)
@@ -247,26 +245,24 @@ next_ready ss ss' n ns ns' e is ready few =
       r.2,
     )
 
+-- the facts of columns and fields, which are staged, bring columns and cells to an end
+abbrev pub PutsRest : List Rule → List ℕ → ℤ → List (LinePart × ℤ) → List Column → List ColumnState → List RollupState → List ColumnPoints → List CellMap → Type 0
+PutsRest rs ns time xs cs ss us after ends = (gs : List Fact) → AreLiveOver rs cs ss (with_points cs (point_maps ss)) us → ArePointsStaged cs ss ns time xs gs → PutsFacts rs (with_points cs (point_maps ss)) (cells_of us) after ends gs
+
 line_puts : (rs : List Rule) (cs : List Column) (ss ss' : List ColumnState) (n : ℕ) (ns ns' : List ℕ) (x : LinePart × ℤ) (xs xs' : List (LinePart × ℤ)) (time value : ℤ) (after : List ColumnPoints) (us us' : List RollupState) (ends : List CellMap) (fs : List Fact)
     → ns' ≡ n ∷ ns → xs' ≡ x ∷ xs → value ≡ x.1 → ss' ≡ set ss n (committed (get_or ss n no_column)) → us' ≡ with_all_grid_cells (cells_of us') us → (Among n ns → ⊥)
-    → AreOfFields time xs' fs → length ss ≡ length cs → AllDistinct cs → AreRollups rs cs us → AreStaged cs ss ns' fs → AreLive (with_points cs (point_maps ss)) rs (cells_of us)
-    → ((f : Fact) → f.time ≡ time → f.value ≡ value → AreStaged cs ss (n ∷ []) (f ∷ []) → cells_of us' ≡ put_cells rs f (facts_of (with_points cs (point_maps ss'))) (cells_of us))
-    → ((gs : List Fact) → AreOfFields time xs gs → length ss' ≡ length cs → AreRollups rs cs us' → AreStaged cs ss' ns gs → AreLive (with_points cs (point_maps ss')) rs (cells_of us') → PutsFacts rs (with_points cs (point_maps ss')) (cells_of us') after ends gs)
+    → CommitsPoint rs n time value ss us ss' us' → PutsRest rs ns time xs cs ss' us' after ends → AreLiveOver rs cs ss (with_points cs (point_maps ss)) us → ArePointsStaged cs ss ns' time xs' fs
     → PutsFacts rs (with_points cs (point_maps ss)) (cells_of us) after ends fs
-line_puts rs cs ss ss' n ns ns' x xs xs' time value after us us' ends [] e d v is kept away fields each once have staged live one others = absurd (subst (λ (ys : List (LinePart × ℤ)). AreOfFields time ys []) d fields)
-line_puts rs cs ss ss' n ns ns' x xs xs' time value after us us' ends (f ∷ fs) e d v is kept away fields each once have staged live one others =
+line_puts rs cs ss ss' n ns ns' x xs xs' time value after us us' ends [] e d v is kept away one others over put = absurd (subst (λ (ys : List (LinePart × ℤ)). AreOfFields time ys []) d put.values)
+line_puts rs cs ss ss' n ns ns' x xs xs' time value after us us' ends (f ∷ fs) e d v is kept away one others over put =
     let s : ColumnState = committed (get_or ss n no_column) in
-    let of : AreOfFields time (x ∷ xs) (f ∷ fs) = subst (λ (ys : List (LinePart × ℤ)). AreOfFields time ys (f ∷ fs)) d fields in
-    let put : AreStaged cs ss (n ∷ ns) (f ∷ fs) = subst (λ (ms : List ℕ). AreStaged cs ss ms (f ∷ fs)) e staged in
-    let first : AreStaged cs ss (n ∷ []) (f ∷ []) = (put.0, put.1, tt) in
-    puts_more rs cs ss ss' n f fs after (cells_of us) (cells_of us') ends once each first is (one f of.0.0 (of.0.1 ∙ sym v) first) live
-    (λ lives. others fs of.1 (ap length is ∙ length-set ss n s ∙ each) (subst (AreRollups rs cs) (sym kept) (rollups_with rs cs (cells_of us') us have))
-    (subst (λ (ys : List ColumnState). AreStaged cs ys ns fs) (sym is) (staged_others cs ss ns fs n s away put.2)) lives)
-
--- the facts of columns and fields, which are staged, bring columns and cells to an end
-abbrev pub PutsRest : List Rule → ℤ → List ℕ → List (LinePart × ℤ) → List Column → List ColumnState → List RollupState → List ColumnPoints → List CellMap → Type 0
-PutsRest rs time ns xs cs ss us after ends = (gs : List Fact) → AreOfFields time xs gs → length ss ≡ length cs → AreRollups rs cs us → AreStaged cs ss ns gs → AreLive (with_points cs (point_maps ss)) rs (cells_of us)
-    → PutsFacts rs (with_points cs (point_maps ss)) (cells_of us) after ends gs
+    let of : AreOfFields time (x ∷ xs) (f ∷ fs) = subst (λ (ys : List (LinePart × ℤ)). AreOfFields time ys (f ∷ fs)) d put.values in
+    let all : AreStaged cs ss (n ∷ ns) (f ∷ fs) = subst (λ (ms : List ℕ). AreStaged cs ss ms (f ∷ fs)) e put.staged in
+    let first : AreStaged cs ss (n ∷ []) (f ∷ []) = (all.0, all.1, tt) in
+    puts_more rs cs ss ss' n f fs after (cells_of us) (cells_of us') ends over.once over.each first is (one cs f over (record { same_time = of.0.0; same_value = of.0.1 ∙ sym v; staged = first })) over.live
+    (λ lives. others fs
+    (record { each = ap length is ∙ length-set ss n s ∙ over.each; once = over.once; rollups = subst (AreRollups rs cs) (sym kept) (rollups_with rs cs (cells_of us') us over.rollups); live = lives })
+    (record { values = of.1; staged = subst (λ (ys : List ColumnState). AreStaged cs ys ns fs) (sym is) (staged_others cs ss ns fs n s away all.2) }))
 
 -- nothing is staged
 none_puts : (rs : List Rule) (cs : List Column) (ss : List ColumnState) (ns : List ℕ) (columns : List ColumnPoints) (ms : List CellMap) (fs : List Fact) → length ns ≡ 0 → AreStaged cs ss ns fs → PutsFacts rs columns ms columns ms fs
@@ -276,19 +272,17 @@ none_puts rs cs ss (n ∷ ns) columns ms fs e a = absurd (let z : ⊥ = omega ar
 
 -- the next of them is put, and then the others
 pub rest_put : (rs : List Rule) (time : ℤ) (cs : List Column) (ss ss' : List ColumnState) (us us' : List RollupState) (n : ℕ) (ns ns' : List ℕ) (x : LinePart × ℤ) (xs xs' : List (LinePart × ℤ)) (value : ℤ) (after : List ColumnPoints) (ends : List CellMap)
-    → ns' ≡ n ∷ ns → xs' ≡ x ∷ xs → value ≡ x.1 → ss' ≡ set ss n (committed (get_or ss n no_column)) → us' ≡ with_all_grid_cells (cells_of us') us → (Among n ns → ⊥) → AllDistinct cs
-    → ((f : Fact) → f.time ≡ time → f.value ≡ value → length ss ≡ length cs → AreRollups rs cs us → AreStaged cs ss (n ∷ []) (f ∷ []) → AreLive (with_points cs (point_maps ss)) rs (cells_of us) → cells_of us' ≡ put_cells rs f (facts_of (with_points cs (point_maps ss'))) (cells_of us))
-    → PutsRest rs time ns xs cs ss' us' after ends → PutsRest rs time ns' xs' cs ss us after ends
-rest_put rs time cs ss ss' us us' n ns ns' x xs xs' value after ends e d v is kept away once one others = λ gs fields each have staged live.
-    line_puts rs cs ss ss' n ns ns' x xs xs' time value after us us' ends gs e d v is kept away fields each once have staged live (λ f at of first. one f at of each have first live) others
+    → ns' ≡ n ∷ ns → xs' ≡ x ∷ xs → value ≡ x.1 → ss' ≡ set ss n (committed (get_or ss n no_column)) → us' ≡ with_all_grid_cells (cells_of us') us → (Among n ns → ⊥)
+    → CommitsPoint rs n time value ss us ss' us' → PutsRest rs ns time xs cs ss' us' after ends → PutsRest rs ns' time xs' cs ss us after ends
+rest_put rs time cs ss ss' us us' n ns ns' x xs xs' value after ends e d v is kept away one others = λ gs over put. line_puts rs cs ss ss' n ns ns' x xs xs' time value after us us' ends gs e d v is kept away one others over put
 
 -- none are left
 pub none_left : {X Y : Type 0} (xs : List X) (ys : List Y) → length ys ≡ length xs → (xs ≡ []) ⊎ (ys ≡ []) → length xs ≡ 0
 none_left xs ys same (inl e) = ap length e
 none_left xs ys same (inr e) = sym same ∙ ap length e
 
-pub rest_done : (rs : List Rule) (time : ℤ) (ns : List ℕ) (xs : List (LinePart × ℤ)) (cs : List Column) (ss : List ColumnState) (us : List RollupState) → length ns ≡ 0 → PutsRest rs time ns xs cs ss us (with_points cs (point_maps ss)) (cells_of us)
-rest_done rs time ns xs cs ss us e = λ gs fields each have staged live. none_puts rs cs ss ns (with_points cs (point_maps ss)) (cells_of us) gs e staged
+pub rest_done : (rs : List Rule) (time : ℤ) (ns : List ℕ) (xs : List (LinePart × ℤ)) (cs : List Column) (ss : List ColumnState) (us : List RollupState) → length ns ≡ 0 → PutsRest rs ns time xs cs ss us (with_points cs (point_maps ss)) (cells_of us)
+rest_done rs time ns xs cs ss us e = λ gs over put. none_puts rs cs ss ns (with_points cs (point_maps ss)) (cells_of us) gs e put.staged
 
 pub none_committed : (ss : List ColumnState) (ns : List ℕ) → length ns ≡ 0 → ss ≡ all_committed ss ns
 none_committed ss [] e = refl

@@ -1,20 +1,9 @@
 //! Moves a column's points below a mark from the live to the frozen parts of cells.
-ghost use Rattle.std.specs.Prelude.{◌≡◌, ◌<◌, ◌≤◌, ◌^◌, pos, ◌≤ℤ◌, ℕ, List, Some, length, get_or};
-ghost use Rattle.std.specs.FinMap as finmap;
+ghost use Rattle.std.specs.Prelude.{◌≡◌, ◌<◌, ◌≤◌, ◌^◌, pos, ◌≤ℤ◌, [], ◌∷◌, length};
 ghost use Rattle.std.specs.List.{AllByRecursion};
-ghost use Rattle.ts_core.specs.facts.Facts.{Column};
-ghost use Rattle.ts_core.specs.lists.Members.{AllDistinct};
-ghost use Rattle.ts_core.specs.lists.Numbered.{IsAt};
-ghost use Rattle.ts_core.specs.moves.StoreMoves.{moved_cells, all_moved, points_below};
-ghost use Rattle.ts_core.specs.store.Cells.{total_of};
-ghost use Rattle.ts_core.specs.store.StoreData.{IsLive, AreLive};
-ghost use Rattle.ts_core.specs.store.StoreStates.{facts_at, facts_of};
-ghost use Rattle.ts_cells.specs.Grids.{cell_at};
 ghost use Rattle.ts_store.specs.read.PointsRead.{number_of_points};
-ghost use Rattle.ts_store.specs.retain.RollupSteps.{FreezesFit, FreezeFit, HasLive, bucket_moved, facts_left, with_all_grid_cells};
-ghost use Rattle.ts_store.specs.rollup.Rollups.{AreRollups, rollup_series_at, rollup_series_under, with_grid_cells, cells_of};
-ghost use Rattle.ts_store.specs.store.ColumnStates.{no_column, with_points, point_maps};
-ghost use Rattle.ts_store.specs.write.LivePuts.{IsOver};
+ghost use Rattle.ts_store.specs.retain.PointMoves.{MovesBucket, MovesPoints};
+ghost use Rattle.ts_store.specs.rollup.Rollups.{with_grid_cells};
 
 use crate::retain::points_below::PointsBelow;
 use crate::rollup::Rollup;
@@ -39,7 +28,7 @@ fn move_bucket<A: Allocator + Copy>(
     requires each { length rollup.old.series_of_column ≡ length columns.now }
     requires few { number_of_points columns.now ≤ 2 ^ 62 }
     ensures kept { rollup.new ≡ with_grid_cells rollup.new.grid.cells rollup.old }
-    ensures cells { (cs : List Column) (c : Column) (l : ℕ) → rollup_series_at rollup.old column ≡ Some l → IsOver rule.now cs columns.now rollup.old → IsAt cs column c → HasLive rule.now (cell_at index.now (rollup_series_under rule.now c)) (facts_of (with_points cs (point_maps columns.now))) rollup.old.grid.cells → part ≡ total_of rule.now (cell_at index.now (rollup_series_under rule.now c)) (facts_at c (points_below mark (finmap.entries (get_or columns.now column no_column).points))) → rollup.new.grid.cells ≡ bucket_moved rule.now (cell_at index.now (rollup_series_under rule.now c)) part (facts_left mark c cs columns.now) rollup.old.grid.cells }
+    ensures cells { MovesBucket rule.now columns.now column mark index.now part rollup.old rollup.new }
 {
     let Some(series) = rollup.rollup_series_of(column) else {
         return;
@@ -68,7 +57,7 @@ fn move_points<A: Allocator + Copy>(
     requires column { column < length columns.now }
     requires each { length rollup.old.series_of_column ≡ length columns.now }
     requires few { number_of_points columns.now ≤ 2 ^ 62 }
-    ensures { (cs : List Column) (c : Column) → IsOver rule.now cs columns.now rollup.old → IsAt cs column c → IsLive (with_points cs (point_maps columns.now)) rule.now rollup.old.grid.cells → FreezesFit rule.now c (points_below mark (finmap.entries (get_or columns.now column no_column).points)) rollup.old.grid.cells → rollup.new ≡ with_grid_cells (moved_cells rule.now c (points_below mark (finmap.entries (get_or columns.now column no_column).points)) (facts_left mark c cs columns.now) rollup.old.grid.cells) rollup.old }
+    ensures { MovesPoints (rule.now ∷ []) columns.now column mark (rollup.old ∷ []) (rollup.new ∷ []) }
 {
     if !rollup.rolls(column) {
         return;
@@ -105,7 +94,7 @@ pub(crate) fn move_all<A: Allocator + Copy>(
     requires column { column < length columns.now }
     requires each { AllByRecursion (λ s. length s.series_of_column ≡ length columns.now) rollups.old }
     requires few { number_of_points columns.now ≤ 2 ^ 62 }
-    ensures { (cs : List Column) (c : Column) → length columns.now ≡ length cs → AllDistinct cs → AreRollups rules.now cs rollups.old → IsAt cs column c → AreLive (with_points cs (point_maps columns.now)) rules.now (cells_of rollups.old) → FreezeFit rules.now c (points_below mark (finmap.entries (get_or columns.now column no_column).points)) (cells_of rollups.old) → rollups.new ≡ with_all_grid_cells (all_moved rules.now c (points_below mark (finmap.entries (get_or columns.now column no_column).points)) (facts_left mark c cs columns.now) (cells_of rollups.old)) rollups.old }
+    ensures { MovesPoints rules.now columns.now column mark rollups.old rollups.new }
 {
     if let Some((rule, rules)) = rules.split_first() {
         if let Some((rollup, rollups)) = rollups.split_first_mut() {

@@ -1,18 +1,13 @@
 //! Commits the staged points of a line to their columns, and adds them to the cells of rules.
-ghost use Rattle.std.specs.Prelude.{◌≡◌, ◌+◌, ◌<◌, ◌≤◌, ◌^◌, pos, ◌≤ℤ◌, List, [], ◌∷◌, length, get_or, set};
+ghost use Rattle.std.specs.Prelude.{◌≡◌, ◌+◌, ◌<◌, ◌≤◌, ◌^◌, pos, ◌≤ℤ◌, [], ◌∷◌, length, get_or, set};
 ghost use Rattle.std.specs.Bool.{OnFalse};
 ghost use Rattle.std.specs.List.{AllByRecursion};
-ghost use Rattle.ts_core.specs.facts.Facts.{Column, Fact};
-ghost use Rattle.ts_core.specs.lists.Members.{AllDistinct};
 ghost use Rattle.ts_core.specs.store.Marks.{index_of};
-ghost use Rattle.ts_core.specs.store.StoreData.{IsLive, AreLive};
-ghost use Rattle.ts_core.specs.moves.StoreMoves.{put_cell, put_cells, PutsFacts};
-ghost use Rattle.ts_core.specs.store.StoreStates.{ColumnPoints, facts_of};
-ghost use Rattle.ts_store.specs.store.ColumnStates.{no_column, with_points, point_maps, committed, all_committed, AreReady, AreStaged};
+ghost use Rattle.ts_store.specs.store.ColumnStates.{no_column, committed, all_committed, AreReady};
 ghost use Rattle.ts_store.specs.write.CellsCreated.{buckets_of};
-ghost use Rattle.ts_store.specs.write.LivePuts.{IsOver, IsLivePut, AreOfFields};
+ghost use Rattle.ts_store.specs.write.PointPuts.{PutsPoint, CommitsPoint, CommitsPoints};
 ghost use Rattle.ts_store.specs.read.PointsRead.{number_of_points};
-ghost use Rattle.ts_store.specs.rollup.Rollups.{AreRollups, rollup_series_at, with_grid_cells, cells_of};
+ghost use Rattle.ts_store.specs.rollup.Rollups.{rollup_series_at, with_grid_cells, cells_of};
 ghost use Rattle.ts_store.specs.retain.RollupSteps.{with_all_grid_cells};
 
 use crate::rollup::Rollup;
@@ -53,7 +48,7 @@ fn update_cell<A: Allocator + Copy>(
     requires each { length rollup.old.series_of_column ≡ length columns.now }
     requires few { number_of_points columns.now ≤ 2 ^ 62 }
     ensures kept { rollup.new ≡ with_grid_cells rollup.new.grid.cells rollup.old }
-    ensures cells { (cs : List Column) (before : List ColumnPoints) (f : Fact) → f.time ≡ time → f.value ≡ value → IsOver rule.now cs columns.now rollup.old → IsLivePut cs columns.now before column f old → IsLive before rule.now rollup.old.grid.cells → rollup.new.grid.cells ≡ put_cell rule.now f (facts_of (with_points cs (point_maps columns.now))) rollup.old.grid.cells }
+    ensures cells { PutsPoint (rule.now ∷ []) columns.now column time value old (rollup.old ∷ []) (rollup.new ∷ []) }
 {
     let Some(series) = rollup.rollup_series_of(column.number()) else {
         return;
@@ -89,7 +84,7 @@ fn update_cells<A: Allocator + Copy>(
     requires each { AllByRecursion (λ s. length s.series_of_column ≡ length columns.now) rollups.old }
     requires few { number_of_points columns.now ≤ 2 ^ 62 }
     ensures kept { rollups.new ≡ with_all_grid_cells (cells_of rollups.new) rollups.old }
-    ensures cells { (cs : List Column) (before : List ColumnPoints) (f : Fact) → f.time ≡ time → f.value ≡ value → length columns.now ≡ length cs → AllDistinct cs → AreRollups rules.now cs rollups.old → IsLivePut cs columns.now before column f old → AreLive before rules.now (cells_of rollups.old) → cells_of rollups.new ≡ put_cells rules.now f (facts_of (with_points cs (point_maps columns.now))) (cells_of rollups.old) }
+    ensures cells { PutsPoint rules.now columns.now column time value old rollups.old rollups.new }
 {
     let Some((rule, rules)) = rules.split_first() else {
         return;
@@ -122,7 +117,7 @@ fn commit_point<A: Allocator + Copy>(
     requires few { number_of_points columns.old.items + 1 ≤ 2 ^ 62 }
     ensures columns { columns.new.items ≡ set columns.old.items column (committed (get_or columns.old.items column no_column)) }
     ensures kept { rollups.new ≡ with_all_grid_cells (cells_of rollups.new) rollups.old }
-    ensures cells { (cs : List Column) (f : Fact) → f.time ≡ time → f.value ≡ value → length columns.old.items ≡ length cs → AllDistinct cs → AreRollups rules.now cs rollups.old → AreStaged cs columns.old.items (column ∷ []) (f ∷ []) → AreLive (with_points cs (point_maps columns.old.items)) rules.now (cells_of rollups.old) → cells_of rollups.new ≡ put_cells rules.now f (facts_of (with_points cs (point_maps columns.new.items))) (cells_of rollups.old) }
+    ensures cells { CommitsPoint rules.now column time value columns.old.items rollups.old columns.new.items rollups.new }
 {
     let at = column.number();
     if !is_rolled(rollups, at) {
@@ -153,7 +148,7 @@ pub(crate) fn commit_points<A: Allocator + Copy, L: Allocator>(
     requires few { number_of_points columns.old.items + length numbers.now ≤ 2 ^ 62 }
     ensures columns { columns.new.items ≡ all_committed columns.old.items numbers.now }
     ensures kept { rollups.new ≡ with_all_grid_cells (cells_of rollups.new) rollups.old }
-    ensures cells { (cs : List Column) (fs : List Fact) → AreOfFields time fields.now fs → length columns.old.items ≡ length cs → AllDistinct cs → AreRollups rules.now cs rollups.old → AreStaged cs columns.old.items numbers.now fs → AreLive (with_points cs (point_maps columns.old.items)) rules.now (cells_of rollups.old) → PutsFacts rules.now (with_points cs (point_maps columns.old.items)) (cells_of rollups.old) (with_points cs (point_maps columns.new.items)) (cells_of rollups.new) fs }
+    ensures cells { CommitsPoints rules.now numbers.now time fields.now columns.old.items rollups.old columns.new.items rollups.new }
 {
     for (number, field) in numbers.iter().zip(fields) {
         commit_point(columns, rules, buckets, rollups, *number, time, field.value());

@@ -1,4 +1,4 @@
-use Rattle.std.proofs.Common.{rules, ◌≡◌, ◌∙◌, None, List, length, get_or, set, ap, sym, subst, arith, SFits, w64, to_z, of_z, to_z-of_z}
+use Rattle.std.proofs.Common.{rules, ◌≡◌, ◌∙◌, None, List, length, get_or, set, ap, sym, subst, arith, SFits, w64, to_z-of_z}
 use Rattle.std.specs.List.{AllByRecursion}
 use Rattle.std.proofs.lemmas.List.{length-set}
 use Rattle.ts_core.specs.store.StoreStates.{facts_of}
@@ -30,8 +30,8 @@ pub returns-then-not-is_rolled-clause-kept : goal.returns-then-not-is_rolled-cla
 returns-then-not-is_rolled-clause-kept g c = grids_kept c.args.rollups.now
 
 pub returns-then-not-is_rolled-clause-cells : goal.returns-then-not-is_rolled-clause-cells
-returns-then-not-is_rolled-clause-cells g c = λ cs f time value each once a staged live.
-    unrolled_put c.args.rules.now cs c.args.rollups.now c.args.column f (facts_of (with_points cs (point_maps (set c.args.columns.now.items c.number-at.result c.commit.new.self)))) a staged.0
+returns-then-not-is_rolled-clause-cells g c = λ cs f over put.
+    unrolled_put c.args.rules.now cs c.args.rollups.now c.args.column f (facts_of (with_points cs (point_maps (set c.args.columns.now.items c.number-at.result c.commit.new.self)))) over.rollups put.staged.0
     (subst (λ k. AllByRecursion (λ (s : RollupState). rollup_series_at s k ≡ None) c.args.rollups.now) c.number-at.ensures c.if-not-is_rolled.ensures)
 
 -- ---- a rule does
@@ -62,14 +62,14 @@ returns-clause-columns g c =
     now_committed c.args.columns.now.items c.args.column c.number-at.result c.index_mut-2.result.now c.requires.ready c.number-at.ensures c.index_mut-2.ensures.value c.commit-2.new.self c.commit-2.ensures.put c.commit-2.ensures.none_staged
 
 pub returns-clause-cells : goal.returns-clause-cells
-returns-clause-cells g c = λ cs f time value each once a staged live.
+returns-clause-cells g c = λ cs f over put.
     let ss : List ColumnState = c.args.columns.now.items in
     let is = now g (goal.at.returns-clause-cells g c).After-as_slice in
-    let long : length c.as_slice.result.now ≡ length cs = ap length c.as_slice.ensures.value ∙ length-set ss c.number-at.result c.commit-2.new.self ∙ each in
+    let long : length c.as_slice.result.now ≡ length cs = ap length c.as_slice.ensures.value ∙ length-set ss c.number-at.result c.commit-2.new.self ∙ over.each in
     let fits : SFits w64 c.args.value = search rules in
-    let value' : f.value ≡ to_z w64 (of_z w64 c.args.value) = value ∙ sym (to_z-of_z fits) in
-    let was = point_found ss c.args.column c.number-at.result c.index.result.now c.requires.ready c.number-at.ensures c.index.ensures c.value_at-old.result c.args.time f.time (sym time) c.value_at-old.ensures in
-    let put : IsLivePut cs c.as_slice.result.now (with_points cs (point_maps ss)) c.args.column f c.value_at-old.result =
-    subst (λ (xs : List ColumnState). IsLivePut cs xs (with_points cs (point_maps ss)) c.args.column f c.value_at-old.result) (sym is) (is_put cs ss c.args.column f once each staged c.value_at-old.result c.requires.few was) in
-    c.update_cells.ensures.cells cs (with_points cs (point_maps ss)) f time value' long once a put live
+    let was = point_found ss c.args.column c.number-at.result c.index.result.now c.requires.ready c.number-at.ensures c.index.ensures c.value_at-old.result c.args.time f.time (sym put.same_time) c.value_at-old.ensures in
+    let inserted : IsLivePut cs c.as_slice.result.now (with_points cs (point_maps ss)) c.args.column f c.value_at-old.result =
+    subst (λ (xs : List ColumnState). IsLivePut cs xs (with_points cs (point_maps ss)) c.args.column f c.value_at-old.result) (sym is) (is_put cs ss c.args.column f over.once over.each put.staged c.value_at-old.result c.requires.few was) in
+    c.update_cells.ensures.cells cs (with_points cs (point_maps ss)) f (record { each = long; once = over.once; rollups = over.rollups; live = over.live })
+    (record { same_time = put.same_time; same_value = put.same_value ∙ sym (to_z-of_z fits); put = inserted })
     ∙ ap (λ (xs : List ColumnState). put_cells c.args.rules.now f (facts_of (with_points cs (point_maps xs))) (cells_of c.args.rollups.now)) c.as_slice.ensures.value

@@ -24,9 +24,9 @@ loop-number-init g c =
       long = refl;
       columns = ap (all_committed ss) ids;
       kept = grids_kept us;
-      cells = λ cs after ends once rest.
-          subst (λ (ms : List ℕ). PutsRest c.args.rules.now c.args.time ms c.args.fields.now cs ss us after ends) ids
-          (subst (λ (xs : List (LinePart × ℤ)). PutsRest c.args.rules.now c.args.time ns xs cs ss us after ends) values rest);
+      cells = λ cs after ends rest.
+          subst (λ (ms : List ℕ). PutsRest c.args.rules.now ms c.args.time c.args.fields.now cs ss us after ends) ids
+          (subst (λ (xs : List (LinePart × ℤ)). PutsRest c.args.rules.now ns c.args.time xs cs ss us after ends) values rest);
     }
 
 pub commit_point-requires-clause-ready : goal.commit_point-requires-clause-ready
@@ -71,9 +71,9 @@ loop-number-preserved g c =
       long = next.1 ∙ c.loop-number.invariant.long;
       columns = ap (λ (zs : List ColumnState). all_committed zs ns) c.commit_point.ensures.columns ∙ sym (ap (all_committed ss) ids) ∙ c.loop-number.invariant.columns;
       kept = grids_kept_then c.args.rollups.now us us' c.loop-number.invariant.kept c.commit_point.ensures.kept;
-      cells = λ cs after ends once others. c.loop-number.invariant.cells cs after ends once
-          (rest_put c.args.rules.now c.args.time cs ss ss' us us' n ns ns' x xs xs' (to_z w64 (of_z w64 c.value.result)) after ends ids values value c.commit_point.ensures.columns c.commit_point.ensures.kept next.3 once
-          (λ f at of each have first live. c.commit_point.ensures.cells cs f at of each once have first live) others);
+      cells = λ cs after ends others. c.loop-number.invariant.cells cs after ends
+          (rest_put c.args.rules.now c.args.time cs ss ss' us us' n ns ns' x xs xs' (to_z w64 (of_z w64 c.value.result)) after ends ids values value c.commit_point.ensures.columns c.commit_point.ensures.kept next.3
+          c.commit_point.ensures.cells others);
     }
 
 pub returns-clause-columns : goal.returns-clause-columns
@@ -84,10 +84,10 @@ returns-clause-columns g c =
     none_committed c.loop-number.columns.items ns none ∙ c.loop-number.invariant.columns
 
 pub returns-clause-cells : goal.returns-clause-cells
-returns-clause-cells g c = λ cs fs fields each once have staged live.
+returns-clause-cells g c = λ cs fs over put.
     let ss : List ColumnState = c.loop-number.columns.items in
     let us : List RollupState = c.loop-number.rollups in
     let ns : List ℕ = c.loop-number.number-iterator.a.rest.now in
     let xs : List (LinePart × ℤ) = c.loop-number.number-iterator.b.rest.now in
     let none : length ns ≡ 0 = none_left ns xs c.loop-number.invariant.same (either_empty_from_Zip c.loop-number.number-iterator c.next.new.self c.next.result c.in-None.is c.next.ensures.steps) in
-    c.loop-number.invariant.cells cs (with_points cs (point_maps ss)) (cells_of us) once (rest_done c.args.rules.now c.args.time ns xs cs ss us none) fs fields each have staged live
+    c.loop-number.invariant.cells cs (with_points cs (point_maps ss)) (cells_of us) (rest_done c.args.rules.now c.args.time ns xs cs ss us none) fs over put

@@ -1,6 +1,5 @@
 use Rattle.std.proofs.Common.{◌≡◌, ◌+◌, ◌≤◌, ◌^◌, List, length}
 use Rattle.ts_core.specs.facts.Facts.{Column}
-use Rattle.ts_core.specs.lists.Members.{AllDistinct}
 use Rattle.ts_core.specs.store.StoreStates.{ColumnPoints}
 use Rattle.ts_core.specs.store.StoreData.{CellMap}
 use Rattle.ts_store.specs.store.ColumnStates.{all_committed, AreReady}
@@ -18,7 +17,7 @@ invariant-loop-number g l = record {
   long : length l.columns.items ≡ length l.initial.columns.items;
   columns : all_committed l.columns.items l.number-iterator.a.rest.now ≡ all_committed l.initial.columns.items l.numbers;
   kept : l.rollups ≡ with_all_grid_cells (cells_of l.rollups) l.initial.rollups;
-  cells : (cs : List Column) (after : List ColumnPoints) (ends : List CellMap) → AllDistinct cs
-      → PutsRest l.rules l.time l.number-iterator.a.rest.now l.number-iterator.b.rest.now cs l.columns.items l.rollups after ends
-      → PutsRest l.rules l.time l.numbers l.fields cs l.initial.columns.items l.initial.rollups after ends;
+  cells : (cs : List Column) (after : List ColumnPoints) (ends : List CellMap)
+      → PutsRest l.rules l.number-iterator.a.rest.now l.time l.number-iterator.b.rest.now cs l.columns.items l.rollups after ends
+      → PutsRest l.rules l.numbers l.time l.fields cs l.initial.columns.items l.initial.rollups after ends;
 }

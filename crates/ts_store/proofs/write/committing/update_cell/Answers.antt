@@ -1,59 +1,60 @@
-use Rattle.std.proofs.Common.{rules, ◌≡◌, ◌∙◌, Some, None, ap, ap₂, sym, subst, to_z, of_z, w64, SFits, to_z-of_z}
+use Rattle.std.proofs.Common.{rules, ◌≡◌, ◌∙◌, [], ◌∷◌, Some, None, ap, ap₂, sym, subst, to_z, of_z, w64, SFits, to_z-of_z}
 use Rattle.ts_core.specs.settings.Settings.{Rule}
 use Rattle.ts_core.specs.store.Marks.{index_of}
 use Rattle.ts_core.specs.aggregates.Aggregates.{Aggregate, aggregate_of_one, merged, IsSound}
 use Rattle.ts_core.specs.aggregates.Remainders.{IsOnlyRest}
+use Rattle.ts_core.specs.store.StoreData.{CellMap}
 use Rattle.ts_store.specs.rollup.Rollups.{RollupState, rollup_series_at}
 use Rattle.ts_store.proofs.write.CellsPut.{put_passed, put_added, put_missing, put_corrected, put_folded}
 use Rattle.ts_store.proofs.write.committing.update_cell.Goals.{in-Some-without, in-None}
 use Rattle.ts_store.proofs.write.committing.update_cell.Goals as goal
 
 pub returns-in_default-clause-cells : goal.returns-in_default-clause-cells
-returns-in_default-clause-cells g c = λ cs before f time value over put live.
+returns-in_default-clause-cells g c = λ cs before f over put.
     let none : rollup_series_at c.args.rollup.now c.args.column ≡ None = search rules in
-    put_passed c.args.rule.now cs c.args.columns.now before c.args.rollup.now c.args.column f c.args.old over put live none
+    ap (λ (m : CellMap). m ∷ []) (put_passed c.args.rule.now cs c.args.columns.now before c.args.rollup.now c.args.column f c.args.old over put.put none)
 
 pub returns-in_default-old-clause-cells : goal.returns-in_default-old-clause-cells
-returns-in_default-old-clause-cells g c = λ cs before f time value over put live.
+returns-in_default-old-clause-cells g c = λ cs before f over put.
     let s : RollupState = c.args.rollup.now in
     let at : rollup_series_at s c.args.column ≡ Some c.in-Some.series = search rules in
-    let index : c.args.index.now ≡ index_of c.args.rule.now f.time = c.requires.index ∙ ap (index_of c.args.rule.now) (sym time) in
+    let index : c.args.index.now ≡ index_of c.args.rule.now f.time = c.requires.index ∙ ap (index_of c.args.rule.now) (sym put.same_time) in
     let none : c.args.old ≡ None = search rules in
     let in_64 : SFits w64 c.args.value = search rules in
     let single : c.single.result ≡ aggregate_of_one c.args.time c.args.value = c.single.ensures ∙ ap (aggregate_of_one c.args.time) (to_z-of_z in_64) in
-    let part : c.single.result ≡ aggregate_of_one f.time f.value = single ∙ ap₂ aggregate_of_one (sym time) (sym value) in
-    ap (λ (t : RollupState). t.grid.cells) c.add.ensures
-    ∙ put_added c.args.rule.now cs c.args.columns.now before s c.args.column f c.args.old over put live c.in-Some.series at c.args.index.now index c.single.result none part
+    let part : c.single.result ≡ aggregate_of_one f.time f.value = single ∙ ap₂ aggregate_of_one (sym put.same_time) (sym put.same_value) in
+    ap (λ (m : CellMap). m ∷ []) (ap (λ (t : RollupState). t.grid.cells) c.add.ensures
+    ∙ put_added c.args.rule.now cs c.args.columns.now before s c.args.column f c.args.old over put.put c.in-Some.series at c.args.index.now index c.single.result none part)
 
 pub returns-in_default-live-clause-cells : goal.returns-in_default-live-clause-cells
-returns-in_default-live-clause-cells g c = λ cs before f time value over put live.
+returns-in_default-live-clause-cells g c = λ cs before f over put.
     let s : RollupState = c.args.rollup.now in
     let at : rollup_series_at s c.args.column ≡ Some c.in-Some.series = search rules in
-    let index : c.args.index.now ≡ index_of c.args.rule.now f.time = c.requires.index ∙ ap (index_of c.args.rule.now) (sym time) in
+    let index : c.args.index.now ≡ index_of c.args.rule.now f.time = c.requires.index ∙ ap (index_of c.args.rule.now) (sym put.same_time) in
     let none : c.live.result ≡ None = search rules in
-    put_missing c.args.rule.now cs c.args.columns.now before s c.args.column f c.args.old over put live c.in-Some.series at c.args.index.now index (sym c.live.ensures ∙ none)
+    ap (λ (m : CellMap). m ∷ []) (put_missing c.args.rule.now cs c.args.columns.now before s c.args.column f c.args.old over put.put c.in-Some.series at c.args.index.now index (sym c.live.ensures ∙ none))
 
 pub returns-clause-cells : goal.returns-clause-cells
-returns-clause-cells g c = λ cs before f time value over put live.
+returns-clause-cells g c = λ cs before f over put.
     let r : Rule = c.args.rule.now in
     let s : RollupState = c.args.rollup.now in
     let at : rollup_series_at s c.args.column ≡ Some c.in-Some.series = search rules in
-    let index : c.args.index.now ≡ index_of c.args.rule.now f.time = c.requires.index ∙ ap (index_of c.args.rule.now) (sym time) in
+    let index : c.args.index.now ≡ index_of c.args.rule.now f.time = c.requires.index ∙ ap (index_of c.args.rule.now) (sym put.same_time) in
     let some : c.live.result ≡ Some c.in-Some-live.live = search rules in
     let was : c.args.old ≡ Some c.in-Some-old.old = search rules in
-    ap (λ (t : RollupState). t.grid.cells) c.correct.ensures
+    ap (λ (m : CellMap). m ∷ []) (ap (λ (t : RollupState). t.grid.cells) c.correct.ensures
     ∙ elim c.match-without.branch [
       | in-Some-without w ↦
           let in_64 : SFits w64 c.args.value = search rules in
           let single : w.single-in-Some-without.result ≡ aggregate_of_one c.args.time c.args.value = w.single-in-Some-without.ensures ∙ ap (aggregate_of_one c.args.time) (to_z-of_z in_64) in
-          let one : w.single-in-Some-without.result ≡ aggregate_of_one f.time f.value = single ∙ ap₂ aggregate_of_one (sym time) (sym value) in
+          let one : w.single-in-Some-without.result ≡ aggregate_of_one f.time f.value = single ∙ ap₂ aggregate_of_one (sym put.same_time) (sym put.same_value) in
           let old_in_64 : SFits w64 c.in-Some-old.old = search rules in
           let old : c.single-2.result ≡ aggregate_of_one c.args.time c.in-Some-old.old = c.single-2.ensures ∙ ap (aggregate_of_one c.args.time) (to_z-of_z old_in_64) in
           let rest : IsOnlyRest IsSound merged c.in-Some-live.live c.single-2.result w.in-Some-without.rest = search rules in
           let rest' : IsOnlyRest IsSound merged c.in-Some-live.live (aggregate_of_one f.time c.in-Some-old.old) w.in-Some-without.rest =
-          subst (λ (p : Aggregate). IsOnlyRest IsSound merged c.in-Some-live.live p w.in-Some-without.rest) (old ∙ ap (λ t. aggregate_of_one t c.in-Some-old.old) (sym time)) rest in
-          put_corrected r cs c.args.columns.now before s c.args.column f c.args.old over put live c.in-Some.series at c.args.index.now index c.in-Some-old.old c.in-Some-live.live w.in-Some-without.rest c.match-without.live was
+          subst (λ (p : Aggregate). IsOnlyRest IsSound merged c.in-Some-live.live p w.in-Some-without.rest) (old ∙ ap (λ t. aggregate_of_one t c.in-Some-old.old) (sym put.same_time)) rest in
+          put_corrected r cs c.args.columns.now before s c.args.column f c.args.old over put.put c.in-Some.series at c.args.index.now index c.in-Some-old.old c.in-Some-live.live w.in-Some-without.rest c.match-without.live was
           (sym c.live.ensures ∙ some) rest' (w.live-is ∙ w.merge-live.ensures ∙ ap (λ a. merged a w.in-Some-without.rest) one)
       | in-None w ↦
-          put_folded r cs c.args.columns.now before s c.args.column f c.args.old over put live c.in-Some.series at c.args.index.now index c.match-without.live w.rollup_series_total-live.ensures.once (w.live-is ∙ w.rollup_series_total-live.ensures.total)
-    ]
+          put_folded r cs c.args.columns.now before s c.args.column f c.args.old over put.put c.in-Some.series at c.args.index.now index c.match-without.live w.rollup_series_total-live.ensures.once (w.live-is ∙ w.rollup_series_total-live.ensures.total)
+    ])

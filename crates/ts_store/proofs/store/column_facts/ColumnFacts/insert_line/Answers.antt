@@ -156,8 +156,9 @@ returns-clause-ok g c =
     live_same old (with_points cs (point_maps ss)) (sym (ap facts_of made ∙ same_facts old (new_columns (map column_of old) (line_facts p)))) rs (cells_of vs) (c.requires.live (line_facts p) (cells_of vs) has_cells) in
     let fields : AreOfFields c.time-2.result c.fields-2.result.now (line_facts p) = subst (λ (xs : List (LinePart × ℤ)). AreOfFields c.time-2.result xs (line_facts p)) (sym c.fields-2.ensures.value) (of_fields p c.time-2.result (sym c.time-2.ensures) p.fields) in
     let puts : PutsFacts rs (with_points cs (point_maps ss)) (cells_of c.as_mut_slice-3.result.now) (with_points cs (point_maps c.commit_points.new.columns.items)) (cells_of ws) (line_facts p) =
-    c.commit_points.ensures.cells cs (line_facts p) fields c.prepare_line.ensures.line.held.each c.prepare_line.ensures.line.held.sound.columns_once (subst (AreRollups rs cs) (sym lent') have)
-    (subst (λ (ms : List ℕ). AreStaged cs ss ms (line_facts p)) (sym c.as_slice-4.ensures.value) staged) (subst (λ (xs : List RollupState). AreLive (with_points cs (point_maps ss)) rs (cells_of xs)) (sym lent') live) in
+    c.commit_points.ensures.cells cs (line_facts p)
+    (record { each = c.prepare_line.ensures.line.held.each; once = c.prepare_line.ensures.line.held.sound.columns_once; rollups = subst (AreRollups rs cs) (sym lent') have; live = subst (λ (xs : List RollupState). AreLive (with_points cs (point_maps ss)) rs (cells_of xs)) (sym lent') live })
+    (record { values = fields; staged = subst (λ (ms : List ℕ). AreStaged cs ss ms (line_facts p)) (sym c.as_slice-4.ensures.value) staged }) in
     let kept : ws ≡ with_all_grid_cells (cells_of ws) vs = c.commit_points.ensures.kept ∙ ap (with_all_grid_cells (cells_of ws)) lent' in
     let each : length c.commit_points.new.columns.items ≡ length cs = ap length c.commit_points.ensures.columns ∙ all_committed-length ss c.as_slice-4.result.now ∙ c.prepare_line.ensures.line.held.each in
     let facts : PutsFacts rs (with_columns old (new_columns (map column_of old) (line_facts p))) (cells_of vs) (with_points cs (point_maps c.commit_points.new.columns.items)) (cells_of (with_items (with_items (with_items c.self.inside.rollups us) vs) ws).items) (line_facts p) =

@@ -1,19 +1,18 @@
-use Rattle.std.proofs.Common.{◌≡◌, ◌∙◌, List, length, map, get_or, set, ap, sym, subst, arith}
-use Rattle.std.specs.FinMap as finmap
+use Rattle.std.proofs.Common.{◌≡◌, ◌∙◌, List, length, map, set, ap, sym, subst, arith}
 use Rattle.std.specs.List.{AllByRecursion}
 use Rattle.std.specs.Vec.{with_items}
 use Rattle.std.proofs.lemmas.List.{length-map, with_items_is}
-use Rattle.ts_core.specs.lists.Members.{AllDistinct}
 use Rattle.ts_core.specs.facts.Facts.{Column}
 use Rattle.ts_core.specs.store.StoreData.{AreLive}
 use Rattle.ts_core.specs.store.StoreStates.{column_of, facts_of}
-use Rattle.ts_core.specs.moves.StoreMoves.{all_moved, points_below}
+use Rattle.ts_core.specs.moves.StoreMoves.{points_below}
 use Rattle.ts_raw.specs.Columns.{ColumnState}
 use Rattle.ts_core.specs.lists.Numbered.{IsAt}
-use Rattle.ts_store.specs.store.ColumnStates.{StoreContent, with_points, point_maps, content_of, no_column}
+use Rattle.ts_store.specs.store.ColumnStates.{StoreContent, point_maps, content_of}
 use Rattle.ts_store.specs.read.PointsRead.{number_of_points}
 use Rattle.ts_store.specs.rollup.Rollups.{RollupState, AreRollups, cells_of}
-use Rattle.ts_store.specs.retain.RollupSteps.{FreezeFit, facts_left, content_moved, with_all_grid_cells}
+use Rattle.ts_store.specs.retain.RollupSteps.{FreezeFit, content_moved}
+use Rattle.ts_store.specs.retain.PointMoves.{MovesPoints}
 use Rattle.ts_store.proofs.store.ColumnsLemmas.{names_held}
 use Rattle.ts_store.proofs.read.ColumnsReads.{facts-length, with_points-length}
 use Rattle.ts_store.proofs.write.PointsPut.{wide_of}
@@ -69,14 +68,9 @@ returns g c =
     let counted = c.self.inside.rollups.ok.0 in
     let long : length vs ≡ c.self.inside.rollups.len = cc (c.move_all.auto.rollups, c.as_mut_slice.ensures.value, counted) in
     let written : (with_items c.self.inside.rollups vs).items ≡ vs = with_items_is c.self.inside.rollups vs long in
-    let moved : (cs : List Column) (d : Column) → length ss ≡ length cs → AllDistinct cs → AreRollups rs cs us → IsAt cs n d → AreLive (with_points cs (point_maps ss)) rs (cells_of us) → FreezeFit rs d (points_below mark (finmap.entries (get_or ss n no_column).points)) (cells_of us)
-    → vs ≡ with_all_grid_cells (all_moved rs d (points_below mark (finmap.entries (get_or ss n no_column).points)) (facts_left mark d cs ss) (cells_of us)) us =
-    subst (λ (xs : List ColumnState). (cs : List Column) (d : Column) → length xs ≡ length cs → AllDistinct cs → AreRollups rs cs us → IsAt cs n d → AreLive (with_points cs (point_maps xs)) rs (cells_of us) → FreezeFit rs d (points_below mark (finmap.entries (get_or xs n no_column).points)) (cells_of us)
-    → vs ≡ with_all_grid_cells (all_moved rs d (points_below mark (finmap.entries (get_or xs n no_column).points)) (facts_left mark d cs xs) (cells_of us)) us) c.as_slice-columns.ensures.value
-    (subst (λ (ws : List RollupState). (cs : List Column) (d : Column) → length c.as_slice-columns.result.now ≡ length cs → AllDistinct cs → AreRollups rs cs ws → IsAt cs n d → AreLive (with_points cs (point_maps c.as_slice-columns.result.now)) rs (cells_of ws)
-    → FreezeFit rs d (points_below mark (finmap.entries (get_or c.as_slice-columns.result.now n no_column).points)) (cells_of ws)
-    → vs ≡ with_all_grid_cells (all_moved rs d (points_below mark (finmap.entries (get_or c.as_slice-columns.result.now n no_column).points)) (facts_left mark d cs c.as_slice-columns.result.now) (cells_of ws)) ws)
-    c.as_mut_slice.ensures.value c.move_all.ensures) in
+    let moved : MovesPoints rs ss n mark us vs =
+    subst (λ (xs : List ColumnState). MovesPoints rs xs n mark us vs) c.as_slice-columns.ensures.value
+    (subst (λ (ws : List RollupState). MovesPoints rs c.as_slice-columns.result.now n mark ws vs) c.as_mut_slice.ensures.value c.move_all.ensures) in
     λ s at fit.
     ap (λ (ws : List RollupState). content_of c.self.inside.index (set ss n c.drop_below.new.self) ws) written
     ∙ subst (λ (h : StoreContent). IsAt h.columns n s → FreezeFit rs s.column (points_below mark s.points) (cells_of h.rollups) → content_of c.self.inside.index (set ss n c.drop_below.new.self) vs ≡ content_moved rs s mark h) c.self.view_is
