@@ -126,7 +126,16 @@ fn commit_point<A: Allocator + Copy>(
     }
     let old = columns[at].value_at(time);
     columns[at].commit();
-    update_cells(rules, buckets, rollups, columns.as_slice(), column, time, value, old);
+    update_cells(
+        rules,
+        buckets,
+        rollups,
+        columns.as_slice(),
+        column,
+        time,
+        value,
+        old,
+    );
 }
 
 /// Commits the staged points of the columns with these ids: points of this time with the values of fields. Does not
@@ -151,6 +160,14 @@ pub(crate) fn commit_points<A: Allocator + Copy, L: Allocator>(
     ensures cells { CommitsPoints rules.now numbers.now time fields.now columns.old.items rollups.old columns.new.items rollups.new }
 {
     for (number, field) in numbers.iter().zip(fields) {
-        commit_point(columns, rules, buckets, rollups, *number, time, field.value());
+        commit_point(
+            columns,
+            rules,
+            buckets,
+            rollups,
+            *number,
+            time,
+            field.value(),
+        );
     }
 }
