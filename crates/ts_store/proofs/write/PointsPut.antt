@@ -164,19 +164,10 @@ pub inside_each : (n m k : ℕ) (ss : List RollupState) → k ≡ n → n < m �
 inside_each n m k [] e l all = tt
 inside_each n m k (s ∷ ss) e l all = (let h = all.0 in omega (arith, e, l, h), inside_each n m k ss e l all.1)
 
--- where the first rule doesn't roll the column up, the others tell
-pub none_rolls : (n : ℕ) (ss : List RollupState) → length ss ≡ 0 → AllByRecursion (λ (s : RollupState). rollup_series_at s n ≡ None) ss
-none_rolls n [] e = tt
-none_rolls n (s ∷ ss) e = absurd (omega arith)
-
-without_rollup_series : (o : Option ℕ) → is_some o ≡ false → o ≡ None
+-- a column without a rollup series
+pub without_rollup_series : (o : Option ℕ) → is_some o ≡ false → o ≡ None
 without_rollup_series None e = refl
 without_rollup_series (Some l) e = absurd (true≢false e)
-
-pub rolls_more : (n : ℕ) (s : RollupState) (ss ss' : List RollupState) (first others : Bool) → ss' ≡ s ∷ ss → first ≡ is_some (rollup_series_at s n) → first ≡ false
-    → OnFalse others (AllByRecursion (λ (t : RollupState). rollup_series_at t n ≡ None) ss) → OnFalse others (AllByRecursion (λ (t : RollupState). rollup_series_at t n ≡ None) ss')
-rolls_more n s ss ss' first true e is passed h = tt
-rolls_more n s ss ss' first false e is passed h = subst (AllByRecursion (λ (t : RollupState). rollup_series_at t n ≡ None)) (sym e) (without_rollup_series (rollup_series_at s n) (sym is ∙ passed), h)
 
 -- where no rule rolls the column up
 pub unrolled_put : (rs : List Rule) (cs : List Column) (ss : List RollupState) (n : ℕ) (f : Fact) (facts : List Fact) → AreRollups rs cs ss → slice_get cs n ≡ Some f.column → AllByRecursion (λ (s : RollupState). rollup_series_at s n ≡ None) ss

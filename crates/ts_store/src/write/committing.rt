@@ -23,10 +23,12 @@ fn is_rolled<A: Allocator + Copy>(rollups: &[Rollup<A>], column: usize) -> bool
     requires { AllByRecursion (λ s. column < length s.series_of_column) rollups.now }
     ensures { OnFalse result (AllByRecursion (λ s. rollup_series_at s column ≡ None) rollups.now) }
 {
-    match rollups.split_first() {
-        Some((rollup, rollups)) => rollup.rolls(column) || is_rolled(rollups, column),
-        None => false,
+    for rollup in rollups {
+        if rollup.rolls(column) {
+            return true;
+        }
     }
+    false
 }
 
 /// Adds a fact, which is in its column already, to the cell of the bucket with this index, which must be its own. Does
