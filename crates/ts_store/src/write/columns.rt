@@ -45,9 +45,8 @@ fn commit_rollups<A: Allocator + Copy>(rollups: &mut [Rollup<A>], column: Column
     requires { AllByRecursion (λ s. IsSome s.next × (column ≡ length s.series_of_column)) rollups.old }
     ensures { rollups.new ≡ map with_next rollups.old }
 {
-    if let Some((rollup, rollups)) = rollups.split_first_mut() {
+    for rollup in rollups.iter_mut() {
         rollup.commit(column);
-        commit_rollups(rollups, column);
     }
 }
 
