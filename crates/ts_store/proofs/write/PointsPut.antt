@@ -1,7 +1,6 @@
 -- A staged point that is committed to its column: the value that it replaces, and the resulting cells of all rules.
-use Rattle.std.proofs.Common.{◌≡◌, ℕ, zero, suc, ℤ, ◌+◌, ◌<◌, ◌≤◌, ◌^◌, Bool, true, false, true≢false, cond, List, [], ◌∷◌, ◌++◌, length, map, set, get_or, Option, Some, None, refl, sym, ◌∙◌, ap, ap₂, subst, ◌⊎◌, inl, inr, ⊎_elim, arith, slice_get, IsSome, IfSome, drop}
+use Rattle.std.proofs.Common.{◌≡◌, ℕ, zero, suc, ℤ, ◌+◌, ◌<◌, ◌≤◌, ◌^◌, true, false, true≢false, cond, List, [], ◌∷◌, ◌++◌, length, map, set, get_or, Option, Some, None, refl, sym, ◌∙◌, ap, ap₂, subst, ◌⊎◌, inl, inr, ⊎_elim, arith, slice_get, IsSome, IfSome, drop}
 use Rattle.std.specs.List.{AllByRecursion}
-use Rattle.std.specs.Bool.{OnFalse}
 use Rattle.std.specs.Option.{is_some}
 use Rattle.std.specs.FinMap as finmap
 use Rattle.std.specs.FinMap.{entries, entries_sorted, get-entries, len-insert, int_cmp-IsAntisymmetric}
@@ -14,7 +13,7 @@ use Rattle.ts_core.specs.facts.Facts.{Column, Fact, Id, id_of, same_id}
 use Rattle.ts_core.specs.settings.Settings.{Rule}
 use Rattle.ts_core.specs.store.StoreStates.{ColumnPoints, facts_of}
 use Rattle.ts_core.specs.store.StoreData.{CellMap, AreLive}
-use Rattle.ts_core.specs.moves.StoreMoves.{PutsFact, refolded, put_cell, put_cells, PutsFacts}
+use Rattle.ts_core.specs.moves.StoreMoves.{PutsFact, refolded, put_cells, PutsFacts}
 use Rattle.ts_core.proofs.facts.Ids.{same_id-eq}
 use Rattle.ts_core.proofs.moves.LivesKept.{lives_line}
 use Rattle.ts_core.proofs.lists.MembersLemmas.{Among-append, Among-left, Among-right}
@@ -26,7 +25,7 @@ use Rattle.ts_line.specs.Parts.{LinePart, Parts, fact_of}
 use Rattle.ts_raw.specs.Columns.{PointMap, ColumnState}
 use Rattle.ts_store.specs.store.ColumnStates.{facts_in, facts_of_columns, with_points, point_maps, no_column, with_staged, committed, all_committed, AreReady, AreStaged}
 use Rattle.ts_store.specs.write.CellsCreated.{buckets_of}
-use Rattle.ts_store.specs.write.LivePuts.{IsOver, WasThere, IsLivePut, AreOfFields}
+use Rattle.ts_store.specs.write.LivePuts.{WasThere, IsLivePut, AreOfFields}
 use Rattle.ts_store.specs.write.PointPuts.{AreLiveOver, PutsPoint, CommitsPoint, ArePointsStaged}
 use Rattle.ts_store.specs.read.PointsRead.{number_of_points}
 use Rattle.ts_store.specs.rollup.Rollups.{RollupState, IsRollupSeriesOf, AreRollups, rollup_series_at, with_grid_cells, cells_of}

@@ -1,18 +1,35 @@
-use Rattle.std.proofs.Common.{rules, ◌≡◌, ◌∙◌, [], ◌∷◌, Some, None, ap, ap₂, sym, subst, to_z, of_z, w64, SFits, to_z-of_z}
+use Rattle.std.proofs.Common.{rules, ◌≡◌, ◌∙◌, [], ◌∷◌, Some, None, refl, arith, ap, ap₂, sym, subst, w64, SFits, to_z-of_z}
 use Rattle.ts_core.specs.settings.Settings.{Rule}
 use Rattle.ts_core.specs.store.Marks.{index_of}
 use Rattle.ts_core.specs.aggregates.Aggregates.{Aggregate, aggregate_of_one, merged, IsSound}
 use Rattle.ts_core.specs.aggregates.Remainders.{IsOnlyRest}
 use Rattle.ts_core.specs.store.StoreData.{CellMap}
-use Rattle.ts_store.specs.rollup.Rollups.{RollupState, rollup_series_at}
+use Rattle.ts_store.specs.rollup.Rollups.{RollupState, rollup_series_at, added_in, corrected_in}
+use Rattle.ts_store.proofs.retain.PointsFrozen.{grid_kept_then}
 use Rattle.ts_store.proofs.write.CellsPut.{put_passed, put_added, put_missing, put_corrected, put_folded}
 use Rattle.ts_store.proofs.write.committing.update_cell.Goals.{in-Some-without, in-None}
 use Rattle.ts_store.proofs.write.committing.update_cell.Goals as goal
+
+pub rollup_series_of-requires : goal.rollup_series_of-requires
+rollup_series_of-requires g c = let at = c.number.ensures in omega (arith, at, c.requires.column, c.requires.each)
+
+pub returns-in_default-clause-kept : goal.returns-in_default-clause-kept
+returns-in_default-clause-kept g c = refl
 
 pub returns-in_default-clause-cells : goal.returns-in_default-clause-cells
 returns-in_default-clause-cells g c = λ cs before f over put.
     let none : rollup_series_at c.args.rollup.now c.args.column ≡ None = search rules in
     ap (λ (m : CellMap). m ∷ []) (put_passed c.args.rule.now cs c.args.columns.now before c.args.rollup.now c.args.column f c.args.old over put.put none)
+
+-- ---- a new fact
+
+pub add-requires : goal.add-requires
+add-requires g c = c.in-Some.ensures.inside
+
+pub returns-in_default-old-clause-kept : goal.returns-in_default-old-clause-kept
+returns-in_default-old-clause-kept g c =
+    let s : RollupState = c.args.rollup.now in
+    grid_kept_then s s c.add.new.self (added_in s c.in-Some.series c.args.index.now c.single.result) refl c.add.ensures
 
 pub returns-in_default-old-clause-cells : goal.returns-in_default-old-clause-cells
 returns-in_default-old-clause-cells g c = λ cs before f over put.
@@ -26,6 +43,14 @@ returns-in_default-old-clause-cells g c = λ cs before f over put.
     ap (λ (m : CellMap). m ∷ []) (ap (λ (t : RollupState). t.grid.cells) c.add.ensures
     ∙ put_added c.args.rule.now cs c.args.columns.now before s c.args.column f c.args.old over put.put c.in-Some.series at c.args.index.now index c.single.result none part)
 
+-- ---- a fact in the place of another
+
+pub live-requires : goal.live-requires
+live-requires g c = c.in-Some.ensures.inside
+
+pub returns-in_default-live-clause-kept : goal.returns-in_default-live-clause-kept
+returns-in_default-live-clause-kept g c = refl
+
 pub returns-in_default-live-clause-cells : goal.returns-in_default-live-clause-cells
 returns-in_default-live-clause-cells g c = λ cs before f over put.
     let s : RollupState = c.args.rollup.now in
@@ -33,6 +58,17 @@ returns-in_default-live-clause-cells g c = λ cs before f over put.
     let index : c.args.index.now ≡ index_of c.args.rule.now f.time = c.requires.index ∙ ap (index_of c.args.rule.now) (sym put.same_time) in
     let none : c.live.result ≡ None = search rules in
     ap (λ (m : CellMap). m ∷ []) (put_missing c.args.rule.now cs c.args.columns.now before s c.args.column f c.args.old over put.put c.in-Some.series at c.args.index.now index (sym c.live.ensures ∙ none))
+
+pub rollup_series_total-live-requires : goal.rollup_series_total-live-requires
+rollup_series_total-live-requires g c = record { interval = c.requires.interval; series = c.in-Some.ensures.inside; each = c.requires.each; few = c.requires.few }
+
+pub correct-requires : goal.correct-requires
+correct-requires g c = c.in-Some.ensures.inside
+
+pub returns-clause-kept : goal.returns-clause-kept
+returns-clause-kept g c =
+    let s : RollupState = c.args.rollup.now in
+    grid_kept_then s s c.correct.new.self (corrected_in s c.in-Some.series c.args.index.now c.match-without.live) refl c.correct.ensures
 
 pub returns-clause-cells : goal.returns-clause-cells
 returns-clause-cells g c = λ cs before f over put.

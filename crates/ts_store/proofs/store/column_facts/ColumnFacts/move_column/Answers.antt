@@ -2,7 +2,6 @@ use Rattle.std.proofs.Common.{◌≡◌, ◌∙◌, List, length, map, set, ap, 
 use Rattle.std.specs.List.{AllByRecursion}
 use Rattle.std.specs.Vec.{with_items}
 use Rattle.std.proofs.lemmas.List.{length-map, with_items_is}
-use Rattle.ts_core.specs.facts.Facts.{Column}
 use Rattle.ts_core.specs.store.StoreData.{AreLive}
 use Rattle.ts_core.specs.store.StoreStates.{column_of, facts_of}
 use Rattle.ts_core.specs.moves.StoreMoves.{points_below}
