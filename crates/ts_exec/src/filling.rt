@@ -1,5 +1,5 @@
 //! `fill`: applies the fill option to the rows of an answer.
-ghost use Rattle.std.specs.Prelude.{◌≡◌, ◌≤ℤ◌, pos};
+ghost use Rattle.std.specs.Prelude.{◌≡◌, ◌≤ℤ◌, pos, length};
 ghost use Rattle.std.specs.Iterator.{YieldsFirst, item_count};
 ghost use Rattle.ts_core.specs.aggregates.Buckets.{bucket_of, bucket_start};
 ghost use Rattle.ts_exec.specs.Fillings.{AreNear, filled_answer};
@@ -107,6 +107,15 @@ impl<'r, 'a, A: Allocator> Model for FilledGroups<'r, 'a, A> {
     ghost view = { λ g. map (group_at g.fill (functions_of g.columns.now) g.interval g.start) (drop g.given g.groups.now) };
 
     ghost invariant = { λ g. AreNear g.start g.interval };
+}
+
+impl<'r, 'a, A: Allocator> FilledGroups<'r, 'a, A> {
+    /// Returns the number of groups left, in constant time.
+    pub fn len(&self) -> usize
+        ensures { result ≡ length self.now }
+    {
+        self.groups.len().saturating_sub(self.given)
+    }
 }
 
 impl<'r, 'a, A: Allocator> Iterator for FilledGroups<'r, 'a, A> {

@@ -60,6 +60,8 @@ fn push_series<A: Allocator>(
 {
     let head = series_head(alloc, query)?;
     let mut times = Times::new(alloc, epoch);
+    // Each series begins with the head.
+    text.reserve(head.len().saturating_mul(others.len()))?;
     text.push_str("[")?;
     push_group(alloc, text, &mut times, query, head.as_str(), first)?;
     push_more_groups(alloc, text, &mut times, query, head.as_str(), others)
