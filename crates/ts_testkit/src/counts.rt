@@ -16,10 +16,12 @@ pub fn merged(a: Agg, b: Agg) -> Option<Agg>
 }
 
 /// Returns the aggregate of 2^62 - 1 points of value 1 at this time.
-pub fn all_but_one(time: Time) -> Option<Agg> {
+pub fn all_but_one(time: Time) -> Option<Agg>
+    ensures { IfSome result (λ a. a.count + 1 ≡ 2 ^ 62) }
+{
     let one = Agg::single(time, 1);
     let mut total = Agg::empty();
-    for _ in 0..62 {
+    for _ in 0..62usize {
         total = merged(merged(total, total)?, one)?;
     }
     Some(total)
