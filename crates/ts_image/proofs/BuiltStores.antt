@@ -69,17 +69,16 @@ pictured mark r low cs m are same =
 
 all_pictured : (v : Version) (mark : ℤ) (facts : List Fact) (rs : List ImageRule) (lows : List ℤ) (cs : List (List ImageCell)) (ns : List CellMap) → AreLows v mark rs lows → length cs ≡ length rs → CellsAre mark rs lows cs
     → OfEachRule (PutsCells facts) (map rule_in rs) lows (map cells_in cs) ns → PictureCells lows ns cs
-all_pictured v mark facts [] [] [] [] low even are of = tt
+all_pictured v mark facts [] [] [] [] low even are of = (refl, tt)
 all_pictured v mark facts [] [] [] (n ∷ ns) low even are of = absurd (omega (arith, of.0))
 all_pictured v mark facts [] [] (c ∷ cs) ns low even are of = absurd (omega (arith, even))
 all_pictured v mark facts [] (l ∷ lows) cs ns low even are of = absurd low
 all_pictured v mark facts (r ∷ rs) [] cs ns low even are of = absurd low
 all_pictured v mark facts (r ∷ rs) (l ∷ lows) [] ns low even are of = absurd (omega (arith, even))
 all_pictured v mark facts (r ∷ rs) (l ∷ lows) (c ∷ cs) [] low even are of = absurd (omega (arith, of.0))
-all_pictured v mark facts (r ∷ rs) (l ∷ lows) (c ∷ cs) (n ∷ ns) low even are of = (
-  pictured mark r l c n are.0 (λ k. (of.1 0 (rule_in r) l (cells_in c) n refl refl refl refl).frozen k),
-  all_pictured v mark facts rs lows cs ns low.1 (omega (arith, even)) are.1 (omega (arith, of.0), λ i q w m o a b e f. of.1 (suc i) q w m o a b e f),
-)
+all_pictured v mark facts (r ∷ rs) (l ∷ lows) (c ∷ cs) (n ∷ ns) low even are of =
+    let rest = all_pictured v mark facts rs lows cs ns low.1 (omega (arith, even)) are.1 (omega (arith, of.0), λ i q w m o a b e f. of.1 (suc i) q w m o a b e f) in
+    (omega (arith, rest.0), (pictured mark r l c n are.0 (λ k. (of.1 0 (rule_in r) l (cells_in c) n refl refl refl refl).frozen k), rest.1))
 
 -- ---- the store
 

@@ -1,5 +1,5 @@
 -- A store under construction, cell by cell.
-use Rattle.std.proofs.Common.{◌≡◌, ◌<◌, ◌≤◌, ◌+◌, ℕ, zero, suc, add-one, List, [], ◌∷◌, ◌++◌, length, map, take, get_or, set, refl, sym, ap, subst, ◌∙◌, arith}
+use Rattle.std.proofs.Common.{◌≡◌, ◌<◌, ◌+◌, ℕ, zero, suc, add-one, List, [], ◌∷◌, ◌++◌, length, map, take, get_or, set, refl, sym, ap, subst, ◌∙◌, arith}
 use Rattle.std.proofs.lemmas.List.{set-get_or, get_or-set_same}
 use Rattle.std.specs.Prelude.{None}
 use Rattle.std.specs.FinMap as finmap
@@ -124,8 +124,3 @@ empties (r ∷ rs) (suc i) = empties rs i
 -- no cell of the next rule is there yet
 pub none_yet : {P : Type 0} (v : P → List ImageCell) (ps : List P) (i : ℕ) (b c : Built) (rs : List Rule) → b.cells ≡ map (λ (r : Rule). finmap.empty) rs → c ≡ with_all_cells (map v (take i ps)) b → cell_map_at c.cells i ≡ finmap.empty
 none_yet v ps i b c rs none so_far = ap (λ (z : Built). cell_map_at z.cells i) so_far ∙ each_at v ps i b.cells ∙ ap (λ (ms : List CellMap). get_or ms i finmap.empty) none ∙ empties rs i
-
-pub each_length : (cs : List (List ImageCell)) (ms : List CellMap) → length cs ≤ length ms → length (with_each cs ms) ≡ length ms
-each_length [] ms le = refl
-each_length (c ∷ cs) [] le = absurd (omega arith)
-each_length (c ∷ cs) (m ∷ ms) le = ap suc (each_length cs ms (omega arith))

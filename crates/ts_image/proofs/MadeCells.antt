@@ -96,7 +96,7 @@ pub all_held : (v : Version) (d : ImageData) (mark : ℤ) (rs : List ImageRule) 
 all_held v d mark [] lows cs low are few = tt
 all_held v d mark (r ∷ rs) [] cs low are few = absurd low
 all_held v d mark (r ∷ rs) (l ∷ lows) [] low are few = tt
-all_held v d mark (r ∷ rs) (l ∷ lows) (c ∷ cs) low are few = (few_held d.accepted d.series r c (cells_once mark r l c are.0) few.0, all_held v d mark rs lows cs low.1 are.1 few.1)
+all_held v d mark (r ∷ rs) (l ∷ lows) (c ∷ cs) low are few = (few_held d.accepted d.series r c (cells_once mark r l c are.0) few.0.enough, all_held v d mark rs lows cs low.1 are.1 few.1)
 
 pub all_possible : (v : Version) (mark : ℤ) (rs : List ImageRule) (lows : List ℤ) (cs : List (List ImageCell)) → AreLows v mark rs lows → CellsAre mark rs lows cs → HavePossibleCells (map rule_in rs) (map cells_in cs)
 all_possible v mark [] lows cs low are = tt

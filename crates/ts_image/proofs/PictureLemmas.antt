@@ -32,17 +32,16 @@ same_part low m n cells p q k l =
     (none_or_some (part_at m k).count)
 
 same_parts : (rs : List Rule) (lows : List ℤ) (facts facts' : List Fact) (ms ns : List CellMap) (cs : List (List ImageCell)) → ((f : Fact) → Among f facts → Among f facts') → PictureCells lows ms cs → PictureCells lows ns cs → HaveCells rs lows facts' ns → HaveSameParts rs lows facts ms ns
-same_parts rs [] facts facts' [] [] [] into p q h = tt
-same_parts rs [] facts facts' [] [] (c ∷ cs) into p q h = absurd p
-same_parts rs [] facts facts' (m ∷ ms) ns cs into p q h = absurd p
-same_parts rs [] facts facts' [] (n ∷ ns) cs into p q h = absurd q
-same_parts rs (low ∷ lows) facts facts' [] ns cs into p q h = absurd p
-same_parts rs (low ∷ lows) facts facts' (m ∷ ms) [] cs into p q h = absurd q
-same_parts rs (low ∷ lows) facts facts' (m ∷ ms) (n ∷ ns) [] into p q h = absurd p
-same_parts [] (low ∷ lows) facts facts' (m ∷ ms) (n ∷ ns) (c ∷ cs) into p q h = tt
+same_parts rs lows facts facts' [] [] [] into p q h = tt
+same_parts rs lows facts facts' [] (n ∷ ns) [] into p q h = absurd q.1
+same_parts rs lows facts facts' [] ns (c ∷ cs) into p q h = absurd p.1
+same_parts rs lows facts facts' (m ∷ ms) ns [] into p q h = absurd p.1
+same_parts rs lows facts facts' (m ∷ ms) [] (c ∷ cs) into p q h = absurd q.1
+same_parts [] lows facts facts' (m ∷ ms) (n ∷ ns) (c ∷ cs) into p q h = tt
+same_parts (r ∷ rs) [] facts facts' (m ∷ ms) (n ∷ ns) (c ∷ cs) into p q h = tt
 same_parts (r ∷ rs) (low ∷ lows) facts facts' (m ∷ ms) (n ∷ ns) (c ∷ cs) into p q h = (
-  record { parts = same_part low m n c p.0 q.0; there = λ f a. h.0 f (into f a) },
-  same_parts rs lows facts facts' ms ns cs into p.1 q.1 h.1,
+  record { parts = same_part low m n c p.1.0 q.1.0; there = λ f a. h.0 f (into f a) },
+  same_parts rs lows facts facts' ms ns cs into (omega (arith, p.0), p.1.1) (omega (arith, q.0), q.1.1) h.1,
 )
 
 same_bit : (a b : Bool) → bit a ≡ bit b → a ≡ b

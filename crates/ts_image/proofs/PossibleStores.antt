@@ -89,7 +89,7 @@ added_cells v d mark [] lows (c ∷ cs) low even are counted few = absurd (omega
 added_cells v d mark (r ∷ rs) [] cs low even are counted few = absurd low
 added_cells v d mark (r ∷ rs) (l ∷ lows) [] low even are counted few = absurd (omega (arith, even))
 added_cells v d mark (r ∷ rs) (l ∷ lows) (c ∷ cs) low even are counted few =
-    let most = counted.0 in (
+    let most = counted.0.enough in (
       record { each = among_all HasPart c (has_part d.accepted mark r l c are.0.each (omega (arith, most)) few); rising = are.0.rising },
       added_cells v d mark rs lows cs low.1 (omega (arith, even)) are.1 counted.1 few,
     )

@@ -13,8 +13,8 @@ use Rattle.ts_core.specs.aggregates.MergeLaws.{aggregate_laws}
 use Rattle.ts_core.specs.store.RawFacts.{is_waiting, earlier_mark, kept_from, is_kept}
 use Rattle.ts_core.specs.store.Cells.{Cell, cell_of, is_rolled, is_in_cell, same_cell, total_of, frozen_of, live_of}
 use Rattle.ts_core.specs.lists.Changes.{or_else}
-use Rattle.ts_core.specs.store.StoreStates.{ColumnPoints, CellParts, StandsFor, HasCells, column_of, rule_of, lowest_of, facts_at, facts_of}
-use Rattle.ts_core.specs.store.StoreData.{CellMap, StoreData, no_parts, rules_of, state_of, IsLive, AreLive}
+use Rattle.ts_core.specs.store.StoreStates.{ColumnPoints, CellParts, StandsFor, HasCells, column_of, rule_of, lowest_of, facts_at, facts_of, RuleCells}
+use Rattle.ts_core.specs.store.StoreData.{CellMap, StoreData, no_parts, rules_of, state_of, IsLive, AreLive, rule_cells}
 use Rattle.ts_core.proofs.aggregates.Folds.{fold-same}
 use Rattle.ts_core.proofs.facts.Latests.{latest-distinct}
 use Rattle.ts_core.proofs.plans.PieceCells.{same_cell-eq, same_cell-refl}
@@ -22,7 +22,7 @@ use Rattle.std.proofs.lemmas.Bool.{and_parts}
 use Rattle.ts_core.proofs.lists.MembersLemmas.{no_members, Among-append, AllDistinct-append, AllDistinct-filter, Among-filter_was, Among-filter_passes, Among-filter_stays, map_back}
 use Rattle.ts_core.proofs.store.Cuts.{one_fact, aggregate_where, Holds, CutsAgree, Holds-agree, frozen_of-agree, live_of-held}
 use Rattle.ts_core.proofs.store.StateLemmas.{is_waiting-there, is_waiting-not, Holds-raw_of, StandsFor-Holds}
-use Rattle.ts_core.proofs.moves.MovesStand.{keys_once, key_there}
+use Rattle.ts_core.proofs.moves.MovesStand.{keys_once, key_there, rules_same}
 use Rattle.ts_core.proofs.store.ColumnFacts.{facts_of-there, column_there, facts_at-column, facts_at-distinct}
 use Rattle.ts_store.proofs.store.Stands.{waiting_among}
 use Rattle.ts_image.specs.Reloading.{HasSameParts, HaveSameParts, IsReloaded, Reloads}
@@ -129,21 +129,9 @@ cells_stay cut next fs before after agree held next_held same d (r ∷ rs) (low 
   cells_stay cut next fs before after agree held next_held same d rs lows ms ns e.1 live.1 a.1,
 )
 
-rules_stay : (rs : List Rule) (lows : List ℤ) (facts : List Fact) (ms ns : List CellMap) → HaveSameParts rs lows facts ms ns → map rule_of (rules_of rs lows ns) ≡ map rule_of (rules_of rs lows ms)
-rules_stay [] lows facts ms ns e = refl
-rules_stay (r ∷ rs) [] facts ms ns e = refl
-rules_stay (r ∷ rs) (low ∷ lows) facts [] [] e = refl
-rules_stay (r ∷ rs) (low ∷ lows) facts [] (n ∷ ns) e = absurd e
-rules_stay (r ∷ rs) (low ∷ lows) facts (m ∷ ms) [] e = absurd e
-rules_stay (r ∷ rs) (low ∷ lows) facts (m ∷ ms) (n ∷ ns) e = ap (λ xs. r ∷ xs) (rules_stay rs lows facts ms ns e.1)
-
-lows_stay : (rs : List Rule) (lows : List ℤ) (facts : List Fact) (ms ns : List CellMap) → HaveSameParts rs lows facts ms ns → map lowest_of (rules_of rs lows ns) ≡ map lowest_of (rules_of rs lows ms)
-lows_stay [] lows facts ms ns e = refl
-lows_stay (r ∷ rs) [] facts ms ns e = refl
-lows_stay (r ∷ rs) (low ∷ lows) facts [] [] e = refl
-lows_stay (r ∷ rs) (low ∷ lows) facts [] (n ∷ ns) e = absurd e
-lows_stay (r ∷ rs) (low ∷ lows) facts (m ∷ ms) [] e = absurd e
-lows_stay (r ∷ rs) (low ∷ lows) facts (m ∷ ms) (n ∷ ns) e = ap (λ xs. low ∷ xs) (lows_stay rs lows facts ms ns e.1)
+rules_stay : {X : Type 0} (f : RuleCells → X) → ((r : Rule) (low : ℤ) (m n : CellMap) → f (rule_cells r low m) ≡ f (rule_cells r low n)) → (rs : List Rule) (lows : List ℤ) (facts : List Fact) (ms ns : List CellMap)
+    → HaveSameParts rs lows facts ms ns → map f (rules_of rs lows ns) ≡ map f (rules_of rs lows ms)
+rules_stay f same rs lows facts ms ns e = rules_same (λ (x : Rule × ℤ). HasSameParts x.0 x.1 facts) f same rs lows ms ns e
 
 -- ---- what was read back
 
@@ -189,8 +177,8 @@ parts_stand opening h old new t st =
       registered = λ c a. t.series c.series (st.registered c (columns_same new.columns old.columns forth c a));
       once = moved.once;
       raw = λ f. Holds-raw_of opening h new.waiting (facts_of new.columns) moved f;
-      rules = rules_stay old.settings.rules old.marks.lows (facts_of old.columns) old.cells new.cells t.cells ∙ st.rules;
-      lows = lows_stay old.settings.rules old.marks.lows (facts_of old.columns) old.cells new.cells t.cells ∙ st.lows;
+      rules = rules_stay rule_of (λ r low m n. refl) old.settings.rules old.marks.lows (facts_of old.columns) old.cells new.cells t.cells ∙ st.rules;
+      lows = rules_stay lowest_of (λ r low m n. refl) old.settings.rules old.marks.lows (facts_of old.columns) old.cells new.cells t.cells ∙ st.lows;
       rolled = cells_stay cut next fs old.columns new.columns agree held moved (facts_same new.columns old.columns forth) (latest-distinct (accepted h)) old.settings.rules old.marks.lows old.cells new.cells t.cells t.live st.rolled;
     }
 

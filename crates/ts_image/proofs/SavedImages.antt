@@ -1,6 +1,7 @@
 -- The image of a store that represents a history: it passes each test for contradictions.
-use Rattle.std.proofs.Common.{◌≡◌, ◌⊎◌, ℕ, suc, ◌+◌, ◌≤◌, ◌^◌, ℤ, pos, ◌≤ℤ◌, int_le, ◌==◌, Bool, true, false, cond, List, [], ◌∷◌, length, map, filter, refl, sym, ◌∙◌, ap, subst, inl, inr, true≢false, arith, None}
-use Rattle.std.specs.List.{AllByRecursion, sum_by}
+use Rattle.std.proofs.Common.{◌≡◌, ◌⊎◌, ℕ, ◌+◌, ◌≤◌, ◌^◌, ℤ, pos, ◌≤ℤ◌, int_le, ◌==◌, Bool, true, false, cond, List, [], ◌∷◌, length, map, filter, refl, sym, ◌∙◌, ap, subst, inl, inr, true≢false, arith, None}
+use Rattle.std.specs.List.{AllByRecursion, sum_by, zip}
+use Rattle.std.proofs.lemmas.Slice.Zip.{AllZip-long}
 use Rattle.std.proofs.lemmas.List.{length-map}
 use Rattle.std.proofs.lemmas.List.Sums.{sum_by-cons}
 use Rattle.std.proofs.lemmas.Bool.Decides.{nat_tests}
@@ -33,12 +34,13 @@ use Rattle.ts_line.specs.Names.{IsKey}
 use Rattle.ts_image.specs.declared.version.Version.{Version}
 use Rattle.ts_image.specs.declared.version.Version.TheVariants.{V2}
 use Rattle.ts_image.specs.Images.{ImageRule, ImageColumn, ImageSeries, ImageCell, ImageData}
-use Rattle.ts_image.specs.ImageTests.{IsKeyName, rule_in, settings_of_image, IsImageRule, AreImageSettings, AreLows, IsImagePoint, IsImageColumn, IsImageSeries, IsImageCell, AreImageCells, points_in_all, points_of_measurement, count_frozen, AreCounted, CellsAre, IsPossible}
+use Rattle.ts_image.specs.ImageTests.{IsKeyName, rule_in, settings_of_image, IsImageRule, AreImageSettings, IsLow, AreLows, IsImagePoint, IsImageColumn, IsImageSeries, IsImageCell, AreImageCells, points_in_all, points_of_measurement, count_frozen, AreCounted, CellsAre, IsPossible}
 use Rattle.ts_store.specs.image.SavedContent.{AreRising}
 use Rattle.ts_store.proofs.store.CountsKept.{length-within}
 use Rattle.ts_store.proofs.store.Stands.{waiting_among}
 use Rattle.ts_image.specs.Pictures.{column_of_image, image_points_in, columns_of_image, cell_part_of, part_at, PicturesCells, PictureCells, IsPictureOf}
 use Rattle.ts_image.specs.SavedImages.{IsOrderlyColumn, IsOrderlySeries, AreOrderlyCells, IsOrderly, IsWellFormed, SavedImagesArePossible}
+use Rattle.ts_core.proofs.lists.BesideLemmas.{OfEach-none}
 use Rattle.ts_image.proofs.CellSums.{number_of, AreFrom, latest-few, rule_counted}
 use Rattle.ts_image.proofs.FrozenPictures.{latest_valid, frozen_some, frozen_cell}
 use Rattle.ts_image.proofs.NamedKeys.{name_of, key_of}
@@ -48,19 +50,8 @@ use Rattle.ts_image.proofs.ReloadLemmas.{SameMembers, facts_same, facts_once}
 
 -- ---- lists that go by the rules
 
-lists_pictured : (lows : List ℤ) (ms : List CellMap) (cs : List (List ImageCell)) → PictureCells lows ms cs → length cs ≡ length lows
-lists_pictured [] [] [] p = refl
-lists_pictured [] [] (c ∷ cs) p = absurd p
-lists_pictured [] (m ∷ ms) cs p = absurd p
-lists_pictured (low ∷ lows) [] cs p = absurd p
-lists_pictured (low ∷ lows) (m ∷ ms) [] p = absurd p
-lists_pictured (low ∷ lows) (m ∷ ms) (c ∷ cs) p = ap suc (lists_pictured lows ms cs p.1)
-
 lows_each : (v : Version) (mark : ℤ) (rs : List ImageRule) (lows : List ℤ) → AreLows v mark rs lows → length lows ≡ length rs
-lows_each v mark [] [] l = refl
-lows_each v mark [] (low ∷ lows) l = absurd l
-lows_each v mark (r ∷ rs) [] l = absurd l
-lows_each v mark (r ∷ rs) (low ∷ lows) l = ap suc (lows_each v mark rs lows l.1)
+lows_each v mark rs lows l = AllZip-long (IsLow v mark) rs lows l
 
 -- ---- settings and low indices
 
@@ -263,15 +254,13 @@ module _ (opening : Settings) (h : History) (k : StoreData) (d : ImageData) (st 
   all_cells : (rs : List ImageRule) (lows : List ℤ) (ms : List CellMap) (cs : List (List ImageCell)) → AllByRecursion (HasCells cut (latest_of h)) (rules_of (map rule_in rs) lows ms) → PictureCells lows ms cs → AreOrderlyCells lows cs
       → CellsAre (raw_mark opening h) rs lows cs × AreCounted d rs cs
   all_cells [] lows ms cs rolled pictures order = (tt, tt)
-  all_cells (r ∷ rs) [] [] [] rolled pictures order = (tt, tt)
-  all_cells (r ∷ rs) [] [] (c ∷ cs) rolled pictures order = absurd pictures
-  all_cells (r ∷ rs) [] (m ∷ ms) cs rolled pictures order = absurd pictures
-  all_cells (r ∷ rs) (low ∷ lows) [] cs rolled pictures order = absurd pictures
-  all_cells (r ∷ rs) (low ∷ lows) (m ∷ ms) [] rolled pictures order = absurd pictures
+  all_cells (r ∷ rs) lows ms [] rolled pictures order = (OfEach-none (λ (x : ImageRule × ℤ). AreImageCells (raw_mark opening h) x.0 x.1) (zip (r ∷ rs) lows), tt)
+  all_cells (r ∷ rs) lows [] (c ∷ cs) rolled pictures order = absurd pictures.1
+  all_cells (r ∷ rs) [] (m ∷ ms) (c ∷ cs) rolled pictures order = absurd (omega (arith, pictures.0))
   all_cells (r ∷ rs) (low ∷ lows) (m ∷ ms) (c ∷ cs) rolled pictures order =
-      let rest = all_cells rs lows ms cs rolled.1 pictures.1 order.2 in (
-        (rule_cells_possible r low m c (λ q l. rolled.0.frozen q l) pictures.0 order.0 order.1, rest.0),
-        (rule_few r low m c (λ q l. rolled.0.frozen q l) pictures.0 order.0 order.1, rest.1),
+      let rest = all_cells rs lows ms cs rolled.1 (omega (arith, pictures.0), pictures.1.1) order.1 in (
+        (rule_cells_possible r low m c (λ q l. rolled.0.frozen q l) pictures.1.0 order.0.kept order.0.rising, rest.0),
+        (record { enough = rule_few r low m c (λ q l. rolled.0.frozen q l) pictures.1.0 order.0.kept order.0.rising }, rest.1),
       )
 
   cells_possible : CellsAre (raw_mark opening h) d.settings.rules d.marks.lows d.cells × AreCounted d d.settings.rules d.cells
@@ -295,7 +284,7 @@ module _ (opening : Settings) (h : History) (k : StoreData) (d : ImageData) (st 
     few = few_series;
     series = subst (λ (m : ℤ). AllByRecursion (IsImageSeries m d.runs) d.series) (sym mark_is) (among_all (IsImageSeries (raw_mark opening h) d.runs) d.series series_possible);
     rising = o.rising;
-    each = lists_pictured d.marks.lows k.cells d.cells (subst (λ (m : Marks). PictureCells m.lows k.cells d.cells) (sym p.marks) p.cells) ∙ lows_each V2 d.marks.raw d.settings.rules d.marks.lows lows_possible;
+    each = (subst (λ (m : Marks). PictureCells m.lows k.cells d.cells) (sym p.marks) p.cells).0 ∙ lows_each V2 d.marks.raw d.settings.rules d.marks.lows lows_possible;
     cells = subst (λ (m : ℤ). CellsAre m d.settings.rules d.marks.lows d.cells) (sym mark_is) cells_possible.0;
     accepted = accepted_few;
     points = points_few;

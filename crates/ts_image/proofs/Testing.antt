@@ -11,9 +11,9 @@ use Rattle.std.proofs.lemmas.List.{take-map}
 use Rattle.std.proofs.lemmas.List.{take_all}
 use Rattle.ts_core.specs.facts.Facts.{Text, same_text}
 use Rattle.ts_raw.proofs.TagLemmas.{same_member}
-use Rattle.ts_image.specs.Images.{ImageRule, ImageSeries, ImageCell, ImageData}
-use Rattle.ts_image.specs.TestParts.{points_if, IsSubtracted, AreCountedAll}
-use Rattle.ts_image.specs.ImageTests.{AreCounted, points_of_series, points_of_measurement}
+use Rattle.ts_image.specs.Images.{ImageSeries}
+use Rattle.ts_image.specs.TestParts.{points_if, IsSubtracted}
+use Rattle.ts_image.specs.ImageTests.{points_of_series, points_of_measurement}
 use Rattle.ts_store.specs.image.SavedContent.{AreRising}
 
 pub there : {P : Type 0} (ps : List P) (i : ℕ) (d : P) → i < length ps → get_or ps i d ≡ get_or ps i (get_or ps i d)
@@ -123,16 +123,6 @@ of_measurement m (s ∷ ss) = if_of m s ss (same_text s.series.measurement m) re
 pub counted : (accepted left f t : ℕ) (r : Option ℕ) → left + f ≡ accepted → IsSubtracted left t r → (is_some r ≡ true → f + t ≤ accepted) × (f + t ≤ accepted → is_some r ≡ true)
 counted accepted left f t (Some x) e h = (λ z. omega (arith, e, h), λ z. refl)
 counted accepted left f t None e h = (λ z. absurd cc, λ le. absurd (omega (arith, e, h, le)))
-
-pub counted_from : (d : ImageData) (rs : List ImageRule) (cs : List (List ImageCell)) → AreCountedAll d.accepted d.series rs cs → AreCounted d rs cs
-counted_from d [] cs h = tt
-counted_from d (r ∷ rs) [] h = tt
-counted_from d (r ∷ rs) (c ∷ cs) h = (h.0.enough, counted_from d rs cs h.1)
-
-pub counted_all : (d : ImageData) (rs : List ImageRule) (cs : List (List ImageCell)) → AreCounted d rs cs → AreCountedAll d.accepted d.series rs cs
-counted_all d [] cs h = tt
-counted_all d (r ∷ rs) [] h = tt
-counted_all d (r ∷ rs) (c ∷ cs) h = (record { enough = h.0 }, counted_all d rs cs h.1)
 
 pub taken : (left t : ℕ) (r : Option ℕ) → IsSubtracted left t r → (is_some r ≡ true → t ≤ left) × (t ≤ left → is_some r ≡ true)
 taken left t (Some x) h = (λ z. omega (arith, h), λ z. refl)

@@ -39,7 +39,7 @@ use Rattle.ts_image.specs.Images.{ImageRule, ImageColumn, ImageSeries, ImageCell
 use Rattle.ts_image.specs.ImageTests.{rule_in, settings_of_image}
 use Rattle.ts_store.specs.image.SavedContent.{AreRising}
 use Rattle.ts_image.specs.Pictures.{column_of_image, image_points_in, columns_of_image, waiting_of_image, cell_part_of, part_at, PicturesCells, PictureCells, IsPictureOf}
-use Rattle.ts_image.specs.SavedImages.{IsOrderlyColumn, IsOrderlySeries, AreOrderlyCells, IsOrderly, IsWellFormed}
+use Rattle.ts_image.specs.SavedImages.{IsOrderlyColumn, IsOrderlySeries, IsOrderlyRule, AreOrderlyCells, IsOrderly, IsWellFormed}
 use Rattle.ts_store.specs.image.SavedContent.{SavedColumn, SavedSeries, saved_field, saved_key, SavesColumns, SavesSeries, FrozenCell, frozen_from}
 use Rattle.ts_store.specs.read.ViewResults.{no_points}
 use Rattle.ts_store.specs.store.SizedStores.{IsSized}
@@ -281,7 +281,7 @@ first_of {X} (x ∷ xs) (suc n) d y ys e =
 
 all_written : (k : StoreData) (cut : Column → ℤ) (fs : List Fact) (n : ℕ) (rs : List Rule) (lows : List ℤ) (ms : List CellMap) → drop n k.marks.lows ≡ lows → drop n k.cells ≡ ms → length lows ≡ length rs → length ms ≡ length rs
     → AllByRecursion (HasCells cut fs) (rules_of rs lows ms) → PictureCells lows ms (image_cells_from k n rs) × AreOrderlyCells lows (image_cells_from k n rs)
-all_written k cut fs n [] [] [] e f i j h = (tt, tt)
+all_written k cut fs n [] [] [] e f i j h = ((refl, tt), tt)
 all_written k cut fs n [] [] (m ∷ ms) e f i j h = absurd (omega (arith, j))
 all_written k cut fs n [] (l ∷ lows) ms e f i j h = absurd (omega (arith, i))
 all_written k cut fs n (r ∷ rs) [] ms e f i j h = absurd (omega (arith, i))
@@ -291,8 +291,8 @@ all_written k cut fs n (r ∷ rs) (l ∷ lows) (m ∷ ms) e f i j h =
     let map_ = first_of k.cells n finmap.empty m ms f in
     let rest = all_written k cut fs (n + 1) rs lows ms low.1 map_.1 (omega (arith, i)) (omega (arith, j)) h.1 in
     let here : written l m ≡ map image_cell_of (frozen_cells_at k n) = sym (λ x. written (low.0 x) (map_.0 x)) in (
-      (subst (PicturesCells l m) here (written_pictures cut fs r l m h.0), rest.0),
-      (subst (AllByRecursion (λ (c : ImageCell). l ≤ℤ c.cell.index)) here (written_kept l m), subst (λ (cs : List ImageCell). AreRising cell_cmp (map (λ (c : ImageCell). c.cell) cs)) here (written_rising l m), rest.1),
+      (omega (arith, rest.0.0), (subst (PicturesCells l m) here (written_pictures cut fs r l m h.0), rest.0.1)),
+      (subst (IsOrderlyRule l) here (record { kept = written_kept l m; rising = written_rising l m }), rest.1),
     )
 
 -- ---- the whole

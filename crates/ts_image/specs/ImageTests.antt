@@ -2,7 +2,8 @@
 -- (Own rules. InfluxData 1.8, line protocol: the parts of a point.)
 use Rattle.std.specs.Prelude.{◌≡◌, ◌≢◌, ◌⊎◌, ℕ, ℤ, pos, ◌+◌, ◌+ℤ◌, ◌≤◌, ◌^◌, ◌≤ℤ◌, ◌<ℤ◌, List, [], ◌∷◌, length, map, filter, None, unsigned_abs}
 use Rattle.std.specs.Ordering.{int_cmp}
-use Rattle.std.specs.List.{AllByRecursion, sum_by}
+use Rattle.std.specs.List.{AllByRecursion, sum_by, AllZip, zip}
+use Rattle.ts_core.specs.lists.Beside.{OfEach}
 use Rattle.ts_core.specs.facts.Facts.{Text, Series, same_text, text_cmp, series_cmp}
 use Rattle.ts_core.specs.facts.Times.{IsTime, least_time}
 use Rattle.ts_core.specs.settings.Settings.{Rule, Settings, IsRule}
@@ -49,11 +50,9 @@ pub record IsLow (v : Version) (mark : ℤ) (r : ImageRule) (low : ℤ) : Type 0
   pub least : index_of (rule_in r) least_time ≤ℤ low
   pub most : low ≤ℤ (index_of (rule_in r) mark +ℤ ahead_of_mark v)
 
+-- each rule has one
 abbrev pub AreLows : Version → ℤ → List ImageRule → List ℤ → Type 0
-AreLows v mark [] [] = Unit {0}
-AreLows v mark [] (low ∷ lows) = ⊥
-AreLows v mark (r ∷ rs) [] = ⊥
-AreLows v mark (r ∷ rs) (low ∷ lows) = IsLow v mark r low × AreLows v mark rs lows
+AreLows v mark = AllZip (IsLow v mark)
 
 -- ---- series, columns and points
 
@@ -121,17 +120,17 @@ points_of_measurement m ss = points_in_all (filter (λ (s : ImageSeries). same_t
 abbrev pub count_frozen : List ImageCell → ℕ
 count_frozen cs = sum_by (λ (c : ImageCell). c.count) cs
 
--- the counts of a rule's frozen parts and the raw points of its measurement are at most the accepted facts
-abbrev pub AreCounted : ImageData → List ImageRule → List (List ImageCell) → Type 0
-AreCounted d [] cs = Unit {0}
-AreCounted d (r ∷ rs) [] = Unit {0}
-AreCounted d (r ∷ rs) (c ∷ cs) = (count_frozen c + points_of_measurement r.measurement d.series ≤ d.accepted) × AreCounted d rs cs
+-- the counts of a rule's frozen parts and the raw points of its measurement are at most this number
+pub record HasCountedFacts (accepted : ℕ) (ss : List ImageSeries) (r : ImageRule) (cells : List ImageCell) : Type 0 where
+  pub enough : count_frozen cells + points_of_measurement r.measurement ss ≤ accepted
 
+-- the counts of each rule are at most the accepted facts
+abbrev pub AreCounted : ImageData → List ImageRule → List (List ImageCell) → Type 0
+AreCounted d = OfEach (HasCountedFacts d.accepted d.series)
+
+-- the cells of each rule
 abbrev pub CellsAre : ℤ → List ImageRule → List ℤ → List (List ImageCell) → Type 0
-CellsAre mark [] lows cs = Unit {0}
-CellsAre mark (r ∷ rs) [] cs = Unit {0}
-CellsAre mark (r ∷ rs) (low ∷ lows) [] = Unit {0}
-CellsAre mark (r ∷ rs) (low ∷ lows) (c ∷ cs) = AreImageCells mark r low c × CellsAre mark rs lows cs
+CellsAre mark rs lows = OfEach (λ (x : ImageRule × ℤ). AreImageCells mark x.0 x.1) (zip rs lows)
 
 -- ---- the whole
 

@@ -1,8 +1,9 @@
 -- The picture of a store in its image, in the image's order: all data except live parts, empty cells, and cells below a
 -- low index. (Own rules.)
-use Rattle.std.specs.Prelude.{◌≡◌, ◌↔◌, ℤ, ◌≤ℤ◌, ◌<◌, ◌==◌, List, [], ◌∷◌, ◌++◌, map, filter, Some}
+use Rattle.std.specs.Prelude.{◌≡◌, ◌↔◌, ℤ, ◌≤ℤ◌, ◌<◌, ◌==◌, List, [], ◌∷◌, ◌++◌, map, filter, Some, length}
 use Rattle.std.specs.FinMap as finmap
 use Rattle.ts_core.specs.lists.Members.{Among, AllDistinct}
+use Rattle.ts_core.specs.lists.Beside.{AllZipBeside}
 use Rattle.ts_core.specs.facts.Facts.{Series, Column}
 use Rattle.ts_core.specs.aggregates.Aggregates.{Aggregate, empty_aggregate}
 use Rattle.ts_core.specs.store.Cells.{Cell}
@@ -42,13 +43,9 @@ pub record PicturesCells (low : ℤ) (m : CellMap) (cells : List ImageCell) : Ty
   pub all : (k : Cell) → low ≤ℤ k.index → 0 < (part_at m k).count → (c : ImageCell) × Among c cells × (c.cell ≡ k)
   pub sound : (k : Cell) → low ≤ℤ k.index → (part_at m k).count ≡ 0 → part_at m k ≡ empty_aggregate
 
+-- the same for each rule
 abbrev pub PictureCells : List ℤ → List CellMap → List (List ImageCell) → Type 0
-PictureCells [] [] [] = Unit {0}
-PictureCells [] [] (c ∷ cs) = ⊥
-PictureCells [] (m ∷ ms) cs = ⊥
-PictureCells (low ∷ lows) [] cs = ⊥
-PictureCells (low ∷ lows) (m ∷ ms) [] = ⊥
-PictureCells (low ∷ lows) (m ∷ ms) (c ∷ cs) = PicturesCells low m c × PictureCells lows ms cs
+PictureCells lows ms cs = (length cs ≡ length lows) × AllZipBeside PicturesCells lows ms cs
 
 -- the data is the picture of a store
 pub record IsPictureOf (k : StoreData) (d : ImageData) : Type 0 where

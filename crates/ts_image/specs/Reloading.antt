@@ -1,7 +1,9 @@
 -- A store that was saved and loaded again: the parts that stay, and those that may differ. (Own rules.)
-use Rattle.std.specs.Prelude.{◌≡◌, ◌↔◌, ℤ, ◌≤ℤ◌, true, None, List, [], ◌∷◌, map}
+use Rattle.std.specs.Prelude.{◌≡◌, ◌↔◌, ℤ, ◌≤ℤ◌, true, None, List, map}
+use Rattle.std.specs.List.{zip}
 use Rattle.std.specs.FinMap as finmap
 use Rattle.ts_core.specs.lists.Members.{Among, AllDistinct}
+use Rattle.ts_core.specs.lists.Beside.{AllZipBeside}
 use Rattle.ts_core.specs.facts.Facts.{Series, Column, Fact}
 use Rattle.ts_core.specs.settings.Settings.{Rule}
 use Rattle.ts_core.specs.store.Cells.{Cell, cell_of, is_rolled}
@@ -17,12 +19,7 @@ pub record HasSameParts (r : Rule) (low : ℤ) (facts : List Fact) (m n : CellMa
 
 -- the same for each rule
 abbrev pub HaveSameParts : List Rule → List ℤ → List Fact → List CellMap → List CellMap → Type 0
-HaveSameParts rs lows facts [] [] = Unit {0}
-HaveSameParts rs lows facts [] (n ∷ ns) = ⊥
-HaveSameParts rs lows facts (m ∷ ms) [] = ⊥
-HaveSameParts [] lows facts (m ∷ ms) (n ∷ ns) = Unit {0}
-HaveSameParts (r ∷ rs) [] facts (m ∷ ms) (n ∷ ns) = Unit {0}
-HaveSameParts (r ∷ rs) (low ∷ lows) facts (m ∷ ms) (n ∷ ns) = HasSameParts r low facts m n × HaveSameParts rs lows facts ms ns
+HaveSameParts rs lows facts = AllZipBeside (λ (x : Rule × ℤ). HasSameParts x.0 x.1 facts) (zip rs lows)
 
 -- The settings, marks, count of accepted facts and open run are the same. The columns have the same points, in any
 -- order of columns, and the same of them wait. Each series is still registered, and live parts are those of the raw

@@ -1,7 +1,8 @@
 -- Properties of a written image beyond the picture of a store; such an image has no contradiction. (Own rules.)
-use Rattle.std.specs.Prelude.{ℤ, pos, ◌≤◌, ◌≤ℤ◌, List, [], ◌∷◌, map}
+use Rattle.std.specs.Prelude.{ℤ, pos, ◌≤◌, ◌≤ℤ◌, List, map}
 use Rattle.std.specs.Ordering.{int_cmp}
 use Rattle.std.specs.List.{AllByRecursion}
+use Rattle.ts_core.specs.lists.Beside.{OfEach}
 use Rattle.ts_core.specs.facts.Facts.{text_cmp, series_cmp}
 use Rattle.ts_core.specs.facts.Times.{IsTime}
 use Rattle.ts_core.specs.settings.Settings.{IsPossibleRule, Settings}
@@ -27,11 +28,13 @@ pub record IsOrderlySeries (s : ImageSeries) : Type 0 where
   pub columns : AllByRecursion IsOrderlyColumn s.columns
   pub rising : AreRising text_cmp (map (λ (c : ImageColumn). c.field) s.columns)
 
--- the cells of each rule are in order, and none is below its low index
+-- a rule's cells are in order, and none is below its low index
+pub record IsOrderlyRule (low : ℤ) (cs : List ImageCell) : Type 0 where
+  pub kept : AllByRecursion (λ (c : ImageCell). low ≤ℤ c.cell.index) cs
+  pub rising : AreRising cell_cmp (map (λ (c : ImageCell). c.cell) cs)
+
 abbrev pub AreOrderlyCells : List ℤ → List (List ImageCell) → Type 0
-AreOrderlyCells lows [] = Unit {0}
-AreOrderlyCells [] (c ∷ cs) = Unit {0}
-AreOrderlyCells (low ∷ lows) (c ∷ cs) = AllByRecursion (λ (k : ImageCell). low ≤ℤ k.cell.index) c × AreRising cell_cmp (map (λ (k : ImageCell). k.cell) c) × AreOrderlyCells lows cs
+AreOrderlyCells = OfEach IsOrderlyRule
 
 -- everything is in the image's order, flags are 0 or 1, and no duration is negative
 pub record IsOrderly (d : ImageData) : Type 0 where

@@ -3,6 +3,7 @@ use Rattle.std.specs.Prelude.{◌≡◌, ◌==◌, ℕ, ℤ, Bool, List, [], ◌
 use Rattle.std.specs.FinMap as finmap
 use Rattle.std.specs.Ordering.{int_cmp}
 use Rattle.std.specs.List.{AllByRecursion}
+use Rattle.ts_core.specs.lists.Beside.{changed_beside}
 use Rattle.ts_core.specs.facts.Facts.{Series, text_cmp}
 use Rattle.ts_core.specs.aggregates.Aggregates.{empty_aggregate}
 use Rattle.ts_core.specs.store.Cells.{Cell, cell_cmp}
@@ -79,9 +80,7 @@ with_cells_at rule cs b = record b { cells = set b.cells rule (with_image_cells 
 
 -- each map with the cells of an image
 abbrev pub with_each : List (List ImageCell) → List CellMap → List CellMap
-with_each [] ms = ms
-with_each (c ∷ cs) [] = []
-with_each (c ∷ cs) (m ∷ ms) = with_image_cells c m ∷ with_each cs ms
+with_each = changed_beside with_image_cells
 
 abbrev pub with_all_cells : List (List ImageCell) → Built → Built
 with_all_cells cs b = record b { cells = with_each cs b.cells }

@@ -1,5 +1,6 @@
 -- Keys of the parts of images, and tests of parts. (Own rules.)
-use Rattle.std.specs.Prelude.{◌≡◌, ◌≢◌, ◌+◌, ◌<◌, ◌≤◌, ◌≤ℤ◌, ◌^◌, pos, ℕ, List, ◌∷◌, map, length, Option, Some, None, if◌then◌else◌, [], string_bytes, String}
+use Rattle.std.specs.Prelude.{◌≡◌, ◌≢◌, ◌+◌, ◌<◌, ◌≤◌, ◌≤ℤ◌, ◌^◌, pos, ℕ, List, map, length, Option, Some, None, if◌then◌else◌, [], string_bytes, String}
+use Rattle.ts_core.specs.lists.Beside.{OfEach}
 use Rattle.ts_core.specs.facts.Facts.{Text, Series, same_text, series_cmp}
 use Rattle.ts_core.specs.store.Cells.{Cell}
 use Rattle.ts_core.specs.declared.aggregates.aggregate.Extremes.{Extremes}
@@ -8,7 +9,7 @@ use Rattle.ts_image.specs.declared.read.series.SeriesParts.{SeriesParts}
 use Rattle.ts_image.specs.declared.read.cells.CellParts.{CellParts}
 use Rattle.ts_image.specs.SeriesParts.{key_of}
 use Rattle.ts_image.specs.CellParts.{cell_key_of}
-use Rattle.ts_image.specs.ImageTests.{IsKeyName, IsBetween, points_of_series, points_in_all, IsImageSeries, AreLows, CellsAre, count_frozen, points_of_measurement}
+use Rattle.ts_image.specs.ImageTests.{IsKeyName, IsBetween, points_of_series, points_in_all, IsImageSeries, AreLows, CellsAre, HasCountedFacts}
 use Rattle.ts_store.specs.image.SavedContent.{AreRising}
 use Rattle.ts_image.specs.declared.read.rules.RuleParts.{RuleParts}
 use Rattle.ts_image.specs.Images.{ImageRule, ImageSeries, ImageCell, ImageData}
@@ -51,15 +52,9 @@ IsSubtracted left taken None = left < taken
 abbrev pub HasLongInterval : {A : Type 0} → RuleParts A → Type 0
 HasLongInterval r = pos 1 ≤ℤ r.interval
 
--- the counts of a rule's frozen parts and the raw points of its measurement are at most this number
-pub record HasCountedFacts (accepted : ℕ) (ss : List ImageSeries) (r : ImageRule) (cells : List ImageCell) : Type 0 where
-  pub enough : count_frozen cells + points_of_measurement r.measurement ss ≤ accepted
-
--- the same for each rule
+-- the counts of each rule are at most this number
 abbrev pub AreCountedAll : ℕ → List ImageSeries → List ImageRule → List (List ImageCell) → Type 0
-AreCountedAll accepted ss [] cs = Unit {0}
-AreCountedAll accepted ss (r ∷ rs) [] = Unit {0}
-AreCountedAll accepted ss (r ∷ rs) (c ∷ cs) = HasCountedFacts accepted ss r c × AreCountedAll accepted ss rs cs
+AreCountedAll accepted ss = OfEach (HasCountedFacts accepted ss)
 
 -- ---- the tests of a whole image, in three groups
 

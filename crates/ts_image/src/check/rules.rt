@@ -2,11 +2,11 @@
 ghost use Rattle.std.specs.Prelude.{◌≡◌, ◌+ℤ◌, ◌^◌, ◌≤◌, ◌↔◌, pos, ◌≤ℤ◌, map, IsTrue, unsigned_abs};
 ghost use Rattle.std.specs.List.{AllByRecursion};
 ghost use Rattle.ts_core.specs.store.Marks.{index_of};
-ghost use Rattle.ts_image.specs.ImageTests.{rule_in, ahead_of_mark, IsLow, AreLows, AreImageCells, CellsAre};
+ghost use Rattle.ts_image.specs.ImageTests.{rule_in, ahead_of_mark, IsLow, AreLows, AreImageCells, HasCountedFacts, CellsAre};
 ghost use Rattle.ts_image.specs.RuleParts.{rule_from_parts};
 ghost use Rattle.ts_image.specs.SeriesParts.{series_of_parts};
 ghost use Rattle.ts_image.specs.CellParts.{cells_of_parts};
-ghost use Rattle.ts_image.specs.TestParts.{HasCountedFacts, AreCountedAll, HasLongInterval};
+ghost use Rattle.ts_image.specs.TestParts.{AreCountedAll, HasLongInterval};
 
 use crate::check::cells::are_cells;
 use crate::check::counts::{subtract_cells, subtract_measurement};

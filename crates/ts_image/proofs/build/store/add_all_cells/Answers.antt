@@ -1,14 +1,14 @@
-use Rattle.std.proofs.Common.{◌<◌, ◌≤◌, List, length, map, take, sym, ap, subst, ◌∙◌, arith}
+use Rattle.std.proofs.Common.{◌<◌, List, length, map, take, sym, ap, subst, ◌∙◌, arith}
 use Rattle.std.proofs.lemmas.List.{length-map}
 use Rattle.std.specs.FinMap as finmap
 use Rattle.ts_core.specs.settings.Settings.{Rule}
 use Rattle.ts_core.specs.store.StoreData.{CellMap}
+use Rattle.ts_core.proofs.lists.BesideLemmas.{length-beside}
 use Rattle.ts_store.specs.image.Building.{Built}
 use Rattle.ts_image.specs.declared.read.cells.CellParts.{CellParts}
 use Rattle.ts_image.specs.CellParts.{cell_of_parts, cells_of_parts}
-use Rattle.ts_image.specs.StoresMade.{AreAddedCells, with_cells_at}
-use Rattle.ts_image.proofs.CellMaking.{each_length, none_yet, lists_more}
-use Rattle.ts_image.proofs.Lending.{map_length}
+use Rattle.ts_image.specs.StoresMade.{AreAddedCells, with_cells_at, with_image_cells}
+use Rattle.ts_image.proofs.CellMaking.{none_yet, lists_more}
 use Rattle.ts_image.proofs.Testing.{all_at}
 use Rattle.ts_image.proofs.build.store.add_all_cells.Goals as goal
 
@@ -18,12 +18,10 @@ add_cells-requires-clause-inside g c =
     let i = c.loop-rule.rule in
     let ps = c.args.cells.now in
     let lt : i < length ps = c.loop-rule-test.true in
-    let some = map_length cells_of_parts ps i (omega arith) in
     let none = ap length c.requires.none in
     let none_of : Rule → CellMap = λ (r : Rule). finmap.empty in
     let each = length-map b.settings.rules none_of in
-    let le : length (map cells_of_parts (take i ps)) ≤ length b.cells = omega (arith, lt, some, none, each, c.requires.each) in
-    let all = ap (λ (z : Built). length z.cells) c.loop-rule.invariant ∙ each_length (map cells_of_parts (take i ps)) b.cells le in
+    let all = ap (λ (z : Built). length z.cells) c.loop-rule.invariant ∙ length-beside with_image_cells (map cells_of_parts (take i ps)) b.cells in
     omega (arith, lt, all, none, each, c.requires.each)
 
 pub add_cells-requires-clause-none : goal.add_cells-requires-clause-none

@@ -1,6 +1,5 @@
 use Rattle.std.proofs.Common.{refl}
 use Rattle.ts_image.specs.ImageReading.{image_of}
-use Rattle.ts_image.proofs.Testing.{counted_from, counted_all}
 use Rattle.ts_image.proofs.check.image.is_rest_possible.Goals as goal
 
 pub returns-then-not-is_small : goal.returns-then-not-is_small
@@ -28,7 +27,7 @@ returns g c =
             cells = r.cells;
             accepted = s.accepted;
             points = t.points;
-            counted = counted_from d d.settings.rules d.cells r.counted;
+            counted = r.counted;
           },
-      λ k. c.are_rules_possible.ensures.1 (record { lows = k.lows; each = k.each; cells = k.cells; counted = counted_all d d.settings.rules d.cells k.counted }),
+      λ k. c.are_rules_possible.ensures.1 (record { lows = k.lows; each = k.each; cells = k.cells; counted = k.counted }),
     )
