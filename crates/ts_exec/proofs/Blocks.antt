@@ -1,7 +1,8 @@
 -- Blocks of points in one run: their aggregate merged at once is each point merged.
-use Rattle.std.proofs.Common.{◌≡◌, ℕ, suc, ◌+◌, ◌<◌, ◌≤◌, ◌^◌, ℤ, ◌≤ℤ◌, ◌<ℤ◌, true, List, [], ◌∷◌, ◌++◌, length, length-append, get_or, min, append_assoc, refl, sym, ◌∙◌, ap, subst, arith, Option, Some, None}
+use Rattle.std.proofs.Common.{◌≡◌, ℕ, suc, ◌+◌, ◌<◌, ◌≤◌, ◌^◌, ℤ, ◌≤ℤ◌, ◌<ℤ◌, true, List, [], ◌∷◌, ◌++◌, length, length-append, get_or, take, min, append_assoc, refl, sym, ◌∙◌, ap, subst, arith, Option, Some, None}
 use Rattle.std.specs.List.{AllByRecursion}
 use Rattle.std.proofs.lemmas.Int.{ints}
+use Rattle.std.proofs.lemmas.List.{take_more, length-take-le}
 use Rattle.std.proofs.lemmas.List.Sums.{fold-append}
 use Rattle.ts_core.specs.facts.Facts.{is_within}
 use Rattle.ts_core.specs.declared.aggregates.aggregate.Extremes.{Extremes}
@@ -9,7 +10,7 @@ use Rattle.ts_core.specs.aggregates.Aggregates.{Aggregate, empty_aggregate, aggr
 use Rattle.ts_core.specs.aggregates.MergeLaws.{aggregate_laws}
 use Rattle.ts_core.specs.aggregates.SoundLaws.{sound_laws}
 use Rattle.ts_core.proofs.aggregates.RemaindersLemmas.{fold-possible}
-use Rattle.ts_core.proofs.lists.ListSteps.{all_append}
+use Rattle.ts_core.proofs.lists.ListSteps.{all_append, all_push}
 use Rattle.ts_core.proofs.queries.Boundaries.{within_parts}
 use Rattle.ts_core.proofs.aggregates.AggregatesLemmas.{count_of_fold}
 use Rattle.ts_raw.specs.Summaries.{IsFront}
@@ -64,6 +65,52 @@ merged_count parts part (p ∷ ps) =
     let rest = merged_count parts (merged part (part_of_point parts p.0 p.1)) ps in
     omega arith
 
+-- ---- points one by one
+
+module _ (parts : AggregateParts) (part : Aggregate) (ps : List (ℤ × ℤ)) (i : ℕ) where
+  pub merged-room : i < length ps → part.count + length ps ≤ 2 ^ 62 → (part_with parts part (take i ps)).count < 2 ^ 62
+  merged-room within few =
+      let count = merged_count parts part (take i ps) in
+      let size : length (take i ps) ≡ i = length-take-le i ps (omega arith) in
+      omega arith
+
+  pub merged-more : (p : ℤ × ℤ) → i < length ps → p ≡ get_or ps i p → merged (part_with parts part (take i ps)) (part_of_point parts p.0 p.1) ≡ part_with parts part (take (i + 1) ps)
+  merged-more p within read =
+      let next : take (i + 1) ps ≡ take i ps ++ p ∷ [] = take_more ps i p within ∙ ap (λ (q : ℤ × ℤ). take i ps ++ q ∷ []) (sym read) in
+      sym (ap (part_with parts part) next ∙ fold-append (λ (b : Aggregate) (q : ℤ × ℤ). merged b (part_of_point parts q.0 q.1)) part (take i ps) (p ∷ []))
+
+pub within-more : (low high : ℤ) (ps : List (ℤ × ℤ)) (i : ℕ) (p : ℤ × ℤ) → AllByRecursion (λ (q : ℤ × ℤ). is_within low high q.0 ≡ true) (take i ps) → i < length ps → p ≡ get_or ps i p → is_within low high p.0 ≡ true
+    → AllByRecursion (λ (q : ℤ × ℤ). is_within low high q.0 ≡ true) (take (i + 1) ps)
+within-more low high ps i p inside within read here =
+    let next : take (i + 1) ps ≡ take i ps ++ p ∷ [] = take_more ps i p within ∙ ap (λ (q : ℤ × ℤ). take i ps ++ q ∷ []) (sym read) in
+    subst (λ (qs : List (ℤ × ℤ)). AllByRecursion (λ (q : ℤ × ℤ). is_within low high q.0 ≡ true) qs) (sym next) (all_push (λ (q : ℤ × ℤ). is_within low high q.0 ≡ true) (take i ps) p inside here)
+
+-- a range that some points lie in isn't empty
+range-some : (low high : ℤ) (ps : List (ℤ × ℤ)) → 0 < length ps → AllByRecursion (λ (p : ℤ × ℤ). is_within low high p.0 ≡ true) ps → low <ℤ high
+range-some low high [] some inside = absurd (omega arith)
+range-some low high (p ∷ ps) some inside = let here = within_parts low high p.0 inside.0 in let l = here.0 in let h = here.1 in omega (arith, ints)
+
+-- ---- more points
+
+module _ (low high : ℤ) (parts : AggregateParts) (part next : Aggregate) (all before front left : List (ℤ × ℤ)) (m : AreMerged parts low high part next all before) (split : before ≡ front ++ left)
+    (inside : AllByRecursion (λ (p : ℤ × ℤ). is_within low high p.0 ≡ true) front) where
+  pub points-few : 0 < length front → (low <ℤ high → part.count + length all ≤ 2 ^ 62) → next.count + length front ≤ 2 ^ 62
+  points-few some few =
+      let fits = few (range-some low high front some inside) in
+      let own : next.count ≡ part.count + length m.first = ap (λ (x : Aggregate). x.count) m.merged ∙ merged_count parts part m.first in
+      let long : length all ≡ length m.first + length before = ap (λ (ps : List (ℤ × ℤ)). length ps) m.points ∙ length-append m.first before in
+      let rest : length before ≡ length front + length left = ap (λ (ps : List (ℤ × ℤ)). length ps) split ∙ length-append front left in
+      omega arith
+
+  pub points-merged : AreMerged parts low high part (part_with parts next front) all left
+  points-merged = record {
+    first = m.first ++ front;
+    points = m.points ∙ ap (λ (ps : List (ℤ × ℤ)). m.first ++ ps) split ∙ sym (append_assoc m.first front left);
+    within = all_append (λ (p : ℤ × ℤ). is_within low high p.0 ≡ true) m.first front m.within inside;
+    merged = ap (λ (x : Aggregate). part_with parts x front) m.merged
+        ∙ sym (fold-append (λ (b : Aggregate) (p : ℤ × ℤ). merged b (part_of_point parts p.0 p.1)) part m.first front);
+  }
+
 -- ---- one more block
 
 module _ (low high : ℤ) (before left : List (ℤ × ℤ)) (a : Aggregate) (front : IsFront low high before left a) where
@@ -77,11 +124,7 @@ module _ (low high : ℤ) (before left : List (ℤ × ℤ)) (a : Aggregate) (fro
   front-sound = subst IsSound (sym front.summary) (sound-points front.block)
 
   front_range : low <ℤ high
-  front_range = range front.block front.some front.within
-    where
-      range : (ps : List (ℤ × ℤ)) → 0 < length ps → AllByRecursion (λ (p : ℤ × ℤ). is_within low high p.0 ≡ true) ps → low <ℤ high
-      range [] some inside = absurd (omega arith)
-      range (p ∷ ps) some inside = let here = within_parts low high p.0 inside.0 in let l = here.0 in let h = here.1 in omega (arith, ints)
+  front_range = range-some low high front.block front.some front.within
 
   module _ (parts : AggregateParts) (part next : Aggregate) (all : List (ℤ × ℤ)) (m : AreMerged parts low high part next all before) where
     pub front-few : (low <ℤ high → part.count + length all ≤ 2 ^ 62) → next.count + a.count ≤ 2 ^ 62

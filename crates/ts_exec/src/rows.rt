@@ -1,8 +1,9 @@
 //! Adds points and parts to the rows of a group.
-ghost use Rattle.std.specs.Prelude.{◌≡◌, ◌+◌, ◌^◌, ◌≤◌, ◌<◌, ◌<ℤ◌, true, [], length, IfSome, IfNone, get_or, min, if◌then◌else◌};
+ghost use Rattle.std.specs.Prelude.{◌≡◌, ◌+◌, ◌^◌, ◌≤◌, ◌<◌, ◌<ℤ◌, ℤ, true, [], length, IfSome, IfNone, get_or, min, if◌then◌else◌};
+ghost use Rattle.std.specs.List.{AllByRecursion};
 ghost use Rattle.ts_core.specs.aggregates.Aggregates.{empty_aggregate};
 ghost use Rattle.ts_core.specs.facts.Facts.{is_within};
-ghost use Rattle.ts_exec.specs.RowParts.{AreMerged, IsRun, part_of_point, row_index_at, with_part, with_point_parts};
+ghost use Rattle.ts_exec.specs.RowParts.{AreMerged, IsRun, part_of_point, part_with, row_index_at, with_part, with_point_parts};
 
 use crate::buckets::{BucketCursor, BucketSpan};
 use crate::fold::Fold;
@@ -144,13 +145,56 @@ fn is_within(time: Time, low: i64, high: i64) -> bool
     low <= time.nanos() && time.nanos() < high
 }
 
+/// Returns true if points all lie from `low`, inclusive, to `high`, exclusive. Compares their times without branches.
+#[inline]
+fn are_within(points: &[(Time, i64)], low: i64, high: i64) -> bool
+    ensures { result ≡ true → AllByRecursion (λ (p : ℤ × ℤ). is_within low high p.0 ≡ true) points.now }
+{
+    let mut all = true;
+    for point in points {
+        all &= is_within(point.0, low, high);
+    }
+    all
+}
+
+/// Adds points to a fold.
+#[inline]
+fn with_all<F: Fold>(fold: F, points: &[(Time, i64)]) -> F
+    requires { (F.folded fold).count + length points.now ≤ 2 ^ 62 }
+    ensures { F.folded result ≡ part_with F.parts (F.folded fold) points.now }
+{
+    let mut fold = fold;
+    for point in points {
+        fold = fold.with(point.0, point.1);
+    }
+    fold
+}
+
+/// Merges the next points into a fold, four at a time, while they lie from `low`, inclusive, to `high`, exclusive.
+#[inline]
+fn with_fours<F: Fold>(fold: F, low: i64, high: i64, points: &mut &[(Time, i64)]) -> F
+    requires { low <ℤ high → (F.folded fold).count + length points.old.now ≤ 2 ^ 62 }
+    ensures { AreMerged F.parts low high (F.folded fold) (F.folded result) points.old.now points.new.now }
+{
+    let mut fold = fold;
+    while points.len() >= 4 {
+        let (four, others) = points.split_at(4);
+        if !are_within(four, low, high) {
+            break;
+        }
+        fold = with_all(fold, four);
+        *points = others;
+    }
+    fold
+}
+
 /// Merges the next points into a fold, up to the first that isn't from `low`, inclusive, to `high`, exclusive.
 #[inline]
 fn with_points<F: Fold>(fold: F, low: i64, high: i64, points: &mut &[(Time, i64)]) -> F
     requires { low <ℤ high → (F.folded fold).count + length points.old.now ≤ 2 ^ 62 }
     ensures { AreMerged F.parts low high (F.folded fold) (F.folded result) points.old.now points.new.now }
 {
-    let mut fold = fold;
+    let mut fold = with_fours(fold, low, high, points);
     while let Some((point, others)) = points.split_first() {
         let (time, value) = *point;
         if !is_within(time, low, high) {

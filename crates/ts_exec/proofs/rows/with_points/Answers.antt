@@ -1,11 +1,11 @@
 use Rattle.std.proofs.Common.{rules, ◌≡◌, ℤ, SFits, to_z, of_z, to_z-of_z, w64, sym, subst}
 use Rattle.ts_core.specs.aggregates.Aggregates.{Aggregate, merged}
 use Rattle.ts_exec.specs.RowParts.{AreMerged, part_of_point}
-use Rattle.ts_exec.proofs.Blocks.{merged-none, point-few, point-merged}
+use Rattle.ts_exec.proofs.Blocks.{point-few, point-merged}
 use Rattle.ts_exec.proofs.rows.with_points.Goals as goal
 
 pub loop-point-init : goal.loop-point-init
-loop-point-init g c = merged-none _ _ _ _ _
+loop-point-init g c = c.with_fours-fold.ensures
 
 pub with-fold-requires : goal.with-fold-requires
 with-fold-requires g c =
