@@ -20,7 +20,7 @@ use Rattle.ts_cells.specs.CellChanges.{inserted_if_absent}
 use Rattle.ts_cells.specs.Grids.{RollupSeries, no_rollup_series, cell_at, cell_in}
 use Rattle.ts_cells.proofs.GridMoves.{get-inserted_if_absent}
 use Rattle.ts_store.specs.rollup.Rollups.{RollupState, cells_of, rollup_series_under, IsRollupSeriesOf, HaveRollupSeries, AreRollups, with_grid_cells, cell_created_in, rollup_series_at}
-use Rattle.ts_store.specs.write.CellsCreated.{buckets_of, cells_created_for, cells_created_from, cells_created_under, IsCreatedInPart, AreCreatedInPart, KeepRollupSeries}
+use Rattle.ts_store.specs.write.CellsCreated.{bucket_indices, cells_created_for, cells_created_from, cells_created_under, IsCreatedInPart, AreCreatedInPart, KeepRollupSeries}
 use Rattle.ts_store.proofs.rollup.RollupsGrow.{IsOfRule}
 
 -- the facts are of the columns of these numbers, and of one time
@@ -151,7 +151,7 @@ unruled lows fs [] = tt
 unruled lows fs (m ∷ ms) = tt
 
 pub rooms_made : (rs : List Rule) (lows : List ℤ) (cs : List Column) (time : ℤ) (ns : List ℕ) (fs : List Fact) (ss : List RollupState) → AreRollups rs cs ss → AreAt cs time ns fs
-    → GainEmptyCells rs lows fs (cells_of ss) (cells_of (cells_created_under (buckets_of rs time) lows ns ss))
+    → GainEmptyCells rs lows fs (cells_of ss) (cells_of (cells_created_under (bucket_indices rs time) lows ns ss))
 rooms_made [] lows cs time ns fs [] h a = tt
 rooms_made [] lows cs time ns fs (s ∷ ss) h a = absurd h
 rooms_made (r ∷ rs) lows cs time ns fs [] h a = absurd h
@@ -265,7 +265,7 @@ kept_from r low index ns s =
       | false ↦ λ e. kept_rooms r low index ns s (lt_not index low e)
     ] refl
 
-pub part_rooms : (rs : List Rule) (lows : List ℤ) (time : ℤ) (ns : List ℕ) (ss ts : List RollupState) → AreCreatedInPart (buckets_of rs time) lows ns ss ts → GainEmptyCells rs lows [] (cells_of ss) (cells_of ts)
+pub part_rooms : (rs : List Rule) (lows : List ℤ) (time : ℤ) (ns : List ℕ) (ss ts : List RollupState) → AreCreatedInPart (bucket_indices rs time) lows ns ss ts → GainEmptyCells rs lows [] (cells_of ss) (cells_of ts)
 part_rooms [] lows time ns ss ts a = subst (λ (us : List RollupState). GainEmptyCells [] lows [] (cells_of ss) (cells_of us)) (sym a) (rooms_same [] lows (cells_of ss))
 part_rooms (r ∷ rs) [] time ns ss ts a = subst (λ (us : List RollupState). GainEmptyCells (r ∷ rs) [] [] (cells_of ss) (cells_of us)) (sym a) (rooms_same (r ∷ rs) [] (cells_of ss))
 part_rooms (r ∷ rs) (low ∷ lows) time ns [] ts a = subst (λ (us : List RollupState). GainEmptyCells (r ∷ rs) (low ∷ lows) [] [] (cells_of us)) (sym a) tt

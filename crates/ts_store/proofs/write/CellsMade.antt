@@ -22,7 +22,7 @@ use Rattle.ts_cells.specs.Grids.{no_rollup_series, cell_at, cell_in}
 use Rattle.ts_cells.proofs.GridMoves.{get-inserted_if_absent}
 use Rattle.ts_store.specs.write.LinesPut.{OfEachRule, IsOfFacts, PutsCells, GainsCells}
 use Rattle.ts_store.specs.rollup.Rollups.{RollupState, cells_of, rollup_series_under, IsRollupSeriesOf, HaveRollupSeries, AreRollups, with_grid_cells, cell_created_in, rollup_series_at}
-use Rattle.ts_store.specs.write.CellsCreated.{buckets_of, cells_created_for, cells_created_from, AreCreatedInPart}
+use Rattle.ts_store.specs.write.CellsCreated.{bucket_indices, cells_created_for, cells_created_from, AreCreatedInPart}
 use Rattle.ts_store.proofs.write.CellsCreatedLemmas.{AreAt, rollup_series_known}
 
 -- ---- of each rule
@@ -125,7 +125,7 @@ part_gains r low cs time ns fs s i h a =
     ] refl
 
 -- room for some of a line's cells creates no others
-pub parts_gain : (rs : List Rule) (lows : List ℤ) (cs : List Column) (time : ℤ) (ns : List ℕ) (fs : List Fact) (ss ts : List RollupState) → AreRollups rs cs ss → AreAt cs time ns fs → AreCreatedInPart (buckets_of rs time) lows ns ss ts
+pub parts_gain : (rs : List Rule) (lows : List ℤ) (cs : List Column) (time : ℤ) (ns : List ℕ) (fs : List Fact) (ss ts : List RollupState) → AreRollups rs cs ss → AreAt cs time ns fs → AreCreatedInPart (bucket_indices rs time) lows ns ss ts
     → OfEachRule (GainsCells fs) rs lows (cells_of ss) (cells_of ts)
 parts_gain [] lows cs time ns fs ss ts h a part = subst (λ (us : List RollupState). OfEachRule (GainsCells fs) [] lows (cells_of ss) (cells_of us)) (sym part) (each_same (GainsCells fs) (gains_nothing fs) [] lows (cells_of ss))
 parts_gain (r ∷ rs) [] cs time ns fs ss ts h a part = subst (λ (us : List RollupState). OfEachRule (GainsCells fs) (r ∷ rs) [] (cells_of ss) (cells_of us)) (sym part) (each_same (GainsCells fs) (gains_nothing fs) (r ∷ rs) [] (cells_of ss))

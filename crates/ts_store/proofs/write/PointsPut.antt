@@ -24,7 +24,7 @@ use Rattle.ts_core.specs.store.Marks.{index_of}
 use Rattle.ts_line.specs.Parts.{LinePart, Parts, fact_of}
 use Rattle.ts_raw.specs.Columns.{PointMap, ColumnState}
 use Rattle.ts_store.specs.store.ColumnStates.{facts_in, facts_of_columns, with_points, point_maps, no_column, with_staged, committed, all_committed, AreReady, AreStaged}
-use Rattle.ts_store.specs.write.CellsCreated.{buckets_of}
+use Rattle.ts_store.specs.write.CellsCreated.{bucket_indices}
 use Rattle.ts_store.specs.write.LivePuts.{WasThere, IsLivePut, AreOfFields}
 use Rattle.ts_store.specs.write.PointPuts.{AreLiveOver, PutsPoint, CommitsPoint, ArePointsStaged}
 use Rattle.ts_store.specs.read.PointsRead.{number_of_points}
@@ -150,12 +150,12 @@ nowhere_put (r ∷ rs) f facts [] e = refl
 nowhere_put (r ∷ rs) f facts (s ∷ ss) e = absurd (omega arith)
 
 -- each rule has its bucket
-pub buckets-none : (rs : List Rule) (time : ℤ) (is : List ℤ) → is ≡ buckets_of rs time → length is ≡ 0 → length rs ≡ 0
+pub buckets-none : (rs : List Rule) (time : ℤ) (is : List ℤ) → is ≡ bucket_indices rs time → length is ≡ 0 → length rs ≡ 0
 buckets-none rs time is e none = sym (length-map rs (λ (r : Rule). index_of r time)) ∙ sym (ap length e) ∙ none
 
-pub buckets-more : (r : Rule) (rs rs' : List Rule) (time index : ℤ) (is is' : List ℤ) → rs' ≡ r ∷ rs → is' ≡ index ∷ is → is' ≡ buckets_of rs' time → (index ≡ index_of r time) × (is ≡ buckets_of rs time)
+pub buckets-more : (r : Rule) (rs rs' : List Rule) (time index : ℤ) (is is' : List ℤ) → rs' ≡ r ∷ rs → is' ≡ index ∷ is → is' ≡ bucket_indices rs' time → (index ≡ index_of r time) × (is ≡ bucket_indices rs time)
 buckets-more r rs rs' time index is is' d e h =
-    let both : index ∷ is ≡ buckets_of (r ∷ rs) time = sym e ∙ h ∙ ap (λ (qs : List Rule). buckets_of qs time) d in
+    let both : index ∷ is ≡ bucket_indices (r ∷ rs) time = sym e ∙ h ∙ ap (λ (qs : List Rule). bucket_indices qs time) d in
     (ap (λ (js : List ℤ). get_or js 0 index) both, ap (λ (js : List ℤ). drop 1 js) both)
 
 -- each has an entry for the column

@@ -13,7 +13,7 @@ use Rattle.ts_raw.specs.Columns.{ColumnState}
 use Rattle.ts_raw.specs.Indexed.{Indexed}
 use Rattle.ts_store.specs.store.ColumnStates.{columns_in, AreStaged}
 use Rattle.ts_store.specs.rollup.Rollups.{RollupState, AreRollups, cells_of}
-use Rattle.ts_store.specs.write.CellsCreated.{buckets_of, cells_created_under, AreCreatedInPart}
+use Rattle.ts_store.specs.write.CellsCreated.{bucket_indices, cells_created_under, AreCreatedInPart}
 use Rattle.ts_store.specs.write.LinesPut.{OfEachRule, GainsCells}
 use Rattle.ts_store.proofs.store.ColumnsLemmas.{names_held}
 use Rattle.ts_store.proofs.write.CellsCreatedLemmas.{AreAt, rooms_made, all_now}
@@ -43,21 +43,21 @@ staged_at cs ss time (n ∷ ns) (f ∷ fs) same a = (a.0, same f (inl refl), sta
 
 -- capacity is reserved for those that are staged
 pub line_rooms : (rs : List Rule) (lows : List ℤ) (cs : List Column) (ss : List ColumnState) (p : Parts) (time : ℤ) (ns : List ℕ) (old : List CellMap) (us ts : List RollupState) → AreRollups rs cs us → AreStaged cs ss ns (line_facts p) → time ≡ p.time
-    → cells_of us ≡ old → ts ≡ cells_created_under (buckets_of rs time) lows ns us → GainEmptyCells rs lows (line_facts p) old (cells_of ts)
+    → cells_of us ≡ old → ts ≡ cells_created_under (bucket_indices rs time) lows ns us → GainEmptyCells rs lows (line_facts p) old (cells_of ts)
 line_rooms rs lows cs ss p time ns old us ts h a at same made =
     let fs : List Fact = line_facts p in
-    let has_cells : GainEmptyCells rs lows fs (cells_of us) (cells_of (cells_created_under (buckets_of rs p.time) lows ns us)) = rooms_made rs lows cs p.time ns fs us h (staged_at cs ss p.time ns fs (line_time p p.fields) a) in
+    let has_cells : GainEmptyCells rs lows fs (cells_of us) (cells_of (cells_created_under (bucket_indices rs p.time) lows ns us)) = rooms_made rs lows cs p.time ns fs us h (staged_at cs ss p.time ns fs (line_time p p.fields) a) in
     subst (λ (ms : List CellMap). GainEmptyCells rs lows fs ms (cells_of ts)) same
-    (subst (λ (xs : List RollupState). GainEmptyCells rs lows fs (cells_of us) (cells_of xs)) (sym (made ∙ ap (λ (t : ℤ). cells_created_under (buckets_of rs t) lows ns us) at)) has_cells)
+    (subst (λ (xs : List RollupState). GainEmptyCells rs lows fs (cells_of us) (cells_of xs)) (sym (made ∙ ap (λ (t : ℤ). cells_created_under (bucket_indices rs t) lows ns us) at)) has_cells)
 
 -- and no other cell is created, even if capacity is reserved for some of them only
 pub line_gains : (rs : List Rule) (lows : List ℤ) (cs : List Column) (ss : List ColumnState) (p : Parts) (time : ℤ) (ns : List ℕ) (old : List CellMap) (us ts : List RollupState) → AreRollups rs cs us → AreStaged cs ss ns (line_facts p) → time ≡ p.time
-    → cells_of us ≡ old → AreCreatedInPart (buckets_of rs time) lows ns us ts → OfEachRule (GainsCells (line_facts p)) rs lows old (cells_of ts)
+    → cells_of us ≡ old → AreCreatedInPart (bucket_indices rs time) lows ns us ts → OfEachRule (GainsCells (line_facts p)) rs lows old (cells_of ts)
 line_gains rs lows cs ss p time ns old us ts h a at same part =
     let fs : List Fact = line_facts p in
     subst (λ (ms : List CellMap). OfEachRule (GainsCells fs) rs lows ms (cells_of ts)) same
-    (parts_gain rs lows cs p.time ns fs us ts h (staged_at cs ss p.time ns fs (line_time p p.fields) a) (subst (λ (t : ℤ). AreCreatedInPart (buckets_of rs t) lows ns us ts) at part))
+    (parts_gain rs lows cs p.time ns fs us ts h (staged_at cs ss p.time ns fs (line_time p p.fields) a) (subst (λ (t : ℤ). AreCreatedInPart (bucket_indices rs t) lows ns us ts) at part))
 
 -- for all of them
-pub all_gained : (rs : List Rule) (lows : List ℤ) (time : ℤ) (ns : List ℕ) (us ts : List RollupState) → ts ≡ cells_created_under (buckets_of rs time) lows ns us → AreCreatedInPart (buckets_of rs time) lows ns us ts
-all_gained rs lows time ns us ts made = subst (AreCreatedInPart (buckets_of rs time) lows ns us) (sym made) (all_now (buckets_of rs time) lows ns us)
+pub all_gained : (rs : List Rule) (lows : List ℤ) (time : ℤ) (ns : List ℕ) (us ts : List RollupState) → ts ≡ cells_created_under (bucket_indices rs time) lows ns us → AreCreatedInPart (bucket_indices rs time) lows ns us ts
+all_gained rs lows time ns us ts made = subst (AreCreatedInPart (bucket_indices rs time) lows ns us) (sym made) (all_now (bucket_indices rs time) lows ns us)

@@ -7,8 +7,8 @@ use Rattle.ts_core.specs.store.Marks.{index_of}
 use Rattle.ts_store.specs.rollup.Rollups.{RollupState, with_grid_cells, cell_created_in, rollup_series_at}
 
 -- the index of a time's bucket under each rule
-abbrev pub buckets_of : List Rule → ℤ → List ℤ
-buckets_of rules time = map (λ (r : Rule). index_of r time) rules
+abbrev pub bucket_indices : List Rule → ℤ → List ℤ
+bucket_indices rules time = map (λ (r : Rule). index_of r time) rules
 
 -- with the cells of a bucket, column after column
 abbrev pub cells_created_for : ℤ → List ℕ → RollupState → RollupState

@@ -4,7 +4,7 @@ ghost use Rattle.std.specs.Bool.{OnFalse};
 ghost use Rattle.std.specs.List.{AllByRecursion};
 ghost use Rattle.ts_core.specs.store.Marks.{index_of};
 ghost use Rattle.ts_store.specs.store.ColumnStates.{no_column, committed, all_committed, AreReady};
-ghost use Rattle.ts_store.specs.write.CellsCreated.{buckets_of};
+ghost use Rattle.ts_store.specs.write.CellsCreated.{bucket_indices};
 ghost use Rattle.ts_store.specs.write.PointPuts.{PutsPoint, CommitsPoint, CommitsPoints};
 ghost use Rattle.ts_store.specs.read.PointsRead.{number_of_points};
 ghost use Rattle.ts_store.specs.rollup.Rollups.{rollup_series_at, with_grid_cells, cells_of};
@@ -81,7 +81,7 @@ fn update_cells<A: Allocator + Copy>(
     old: Option<i64>,
 )
     requires intervals { AllByRecursion (λ r. pos 1 ≤ℤ r.interval) rules.now }
-    requires buckets { buckets.now ≡ buckets_of rules.now time }
+    requires buckets { buckets.now ≡ bucket_indices rules.now time }
     requires column { column < length columns.now }
     requires each { AllByRecursion (λ s. length s.series_of_column ≡ length columns.now) rollups.old }
     requires few { number_of_points columns.now ≤ 2 ^ 62 }
@@ -113,7 +113,7 @@ fn commit_point<A: Allocator + Copy>(
     value: i64,
 )
     requires intervals { AllByRecursion (λ r. pos 1 ≤ℤ r.interval) rules.now }
-    requires buckets { buckets.now ≡ buckets_of rules.now time }
+    requires buckets { buckets.now ≡ bucket_indices rules.now time }
     requires ready { AreReady columns.old.items (column ∷ []) }
     requires each { AllByRecursion (λ s. length s.series_of_column ≡ length columns.old.items) rollups.old }
     requires few { number_of_points columns.old.items + 1 ≤ 2 ^ 62 }
@@ -152,7 +152,7 @@ pub(crate) fn commit_points<A: Allocator + Copy, L: Allocator>(
     time: Time,
 )
     requires intervals { AllByRecursion (λ r. pos 1 ≤ℤ r.interval) rules.now }
-    requires buckets { buckets.now ≡ buckets_of rules.now time }
+    requires buckets { buckets.now ≡ bucket_indices rules.now time }
     requires ready { AreReady columns.old.items numbers.now }
     requires fields { length fields.now ≡ length numbers.now }
     requires each { AllByRecursion (λ s. length s.series_of_column ≡ length columns.old.items) rollups.old }

@@ -2,7 +2,7 @@
 ghost use Rattle.std.specs.Prelude.{◌≡◌, ◌<◌, ◌≤ℤ◌, pos, length, OnOk, OnErr};
 ghost use Rattle.std.specs.List.{AllByRecursion};
 ghost use Rattle.ts_store.specs.rollup.Rollups.{with_grid_cells};
-ghost use Rattle.ts_store.specs.write.CellsCreated.{buckets_of, cells_created_from, cells_created_under, IsCreatedInPart, AreCreatedInPart, KeepRollupSeries};
+ghost use Rattle.ts_store.specs.write.CellsCreated.{bucket_indices, cells_created_from, cells_created_under, IsCreatedInPart, AreCreatedInPart, KeepRollupSeries};
 
 use crate::rollup::Rollup;
 use std::alloc::{AllocError, Allocator};
@@ -16,7 +16,7 @@ pub(crate) fn list_buckets<A: Allocator + Copy>(
     time: Time,
 ) -> Result<(), AllocError>
     requires { AllByRecursion (λ r. pos 1 ≤ℤ r.interval) rules.now }
-    ensures { OnOk result (buckets.new.items ≡ buckets_of rules.now time) }
+    ensures { OnOk result (buckets.new.items ≡ bucket_indices rules.now time) }
 {
     buckets.clear();
     for rule in rules {

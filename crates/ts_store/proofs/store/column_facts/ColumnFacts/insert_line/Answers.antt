@@ -22,7 +22,7 @@ use Rattle.ts_core.specs.store.StoreData.{CellMap, AreLive}
 use Rattle.ts_store.specs.rollup.Rollups.{RollupState, AreRollups, cells_of}
 use Rattle.ts_store.specs.write.LivePuts.{AreOfFields}
 use Rattle.ts_store.specs.retain.RollupSteps.{with_all_grid_cells}
-use Rattle.ts_store.specs.write.CellsCreated.{buckets_of, cells_created_under, AreCreatedInPart, KeepRollupSeries}
+use Rattle.ts_store.specs.write.CellsCreated.{bucket_indices, cells_created_under, AreCreatedInPart, KeepRollupSeries}
 use Rattle.ts_store.specs.write.LinesPut.{OfEachRule, GainsCells}
 use Rattle.ts_store.proofs.write.CellsMade.{gain_nothing, line_cells}
 use Rattle.ts_store.proofs.read.ColumnsReads.{facts-length}
@@ -74,7 +74,7 @@ commit_points-requires-clause-ready g c =
     rw c.as_slice-4.ensures.value (ready_of cs ss ns (line_facts p) c.prepare_line.ensures.line.held.each staged once)
 
 pub commit_points-requires-clause-buckets : goal.commit_points-requires-clause-buckets
-commit_points-requires-clause-buckets g c = c.as_slice-3.ensures.value ∙ c.in_ok-list_buckets.ensures ∙ ap (buckets_of c.args.rules.now) (c.time.ensures ∙ sym c.time-2.ensures)
+commit_points-requires-clause-buckets g c = c.as_slice-3.ensures.value ∙ c.in_ok-list_buckets.ensures ∙ ap (bucket_indices c.args.rules.now) (c.time.ensures ∙ sym c.time-2.ensures)
 
 pub commit_points-requires-clause-fields : goal.commit_points-requires-clause-fields
 commit_points-requires-clause-fields g c =
@@ -140,7 +140,7 @@ returns-clause-ok g c =
     let yet : length ws ≡ c.self.inside.rollups.len = omega (arith, c.commit_points.auto.rollups, ap length lent', still) in
     let written : (with_items (with_items (with_items c.self.inside.rollups us) vs) ws).items ≡ ws = with_items_is (with_items (with_items c.self.inside.rollups us) vs) ws yet in
     let staged = c.in_ok-prepare_line.ensures.line.staged in
-    let listed : c.as_slice.result.now ≡ buckets_of rs c.time.result = c.as_slice.ensures.value ∙ c.in_ok-list_buckets.ensures in
+    let listed : c.as_slice.result.now ≡ bucket_indices rs c.time.result = c.as_slice.ensures.value ∙ c.in_ok-list_buckets.ensures in
     let before : columns_in c.register.new.self c.self.inside.columns.items ≡ old =
     ap (λ (xs : List Column). with_points xs (point_maps c.self.inside.columns.items)) c.register.ensures.columns ∙ ap (λ (h : StoreContent). h.columns) c.self.view_is in
     let made : with_points cs (point_maps ss) ≡ with_columns old (new_columns (map column_of old) (line_facts p)) =
@@ -253,9 +253,9 @@ returns-in_err-create_cells-clause-err g c =
     let lent : c.as_mut_slice-2.result.now ≡ c.prepare_line.new.rollups = c.as_mut_slice-2.ensures.value ∙ with_items_is c.self.inside.rollups c.prepare_line.new.rollups long in
     let still : length us ≡ c.self.inside.rollups.len = omega (arith, c.create_cells.auto.rollups, ap length lent, long) in
     let ns : List ℕ = c.prepare_line.new.touched.items in
-    let part : AreCreatedInPart (buckets_of c.args.rules.now c.time.result) c.args.lows.now ns c.prepare_line.new.rollups us =
-    subst (λ (vs : List RollupState). AreCreatedInPart (buckets_of c.args.rules.now c.time.result) c.args.lows.now ns vs us) lent
-    (subst (λ (ks : List ℕ). AreCreatedInPart (buckets_of c.args.rules.now c.time.result) c.args.lows.now ks c.as_mut_slice-2.result.now us) c.as_slice-2.ensures.value
+    let part : AreCreatedInPart (bucket_indices c.args.rules.now c.time.result) c.args.lows.now ns c.prepare_line.new.rollups us =
+    subst (λ (vs : List RollupState). AreCreatedInPart (bucket_indices c.args.rules.now c.time.result) c.args.lows.now ns vs us) lent
+    (subst (λ (ks : List ℕ). AreCreatedInPart (bucket_indices c.args.rules.now c.time.result) c.args.lows.now ks c.as_mut_slice-2.result.now us) c.as_slice-2.ensures.value
     (subst (λ (is : List ℤ). AreCreatedInPart is c.args.lows.now c.as_slice-2.result.now c.as_mut_slice-2.result.now us) (c.as_slice.ensures.value ∙ c.in_ok-list_buckets.ensures) c.in_err-create_cells.ensures.err)) in
     let before : cells_of c.prepare_line.new.rollups ≡ cells_of c.self.inside.rollups.items = c.prepare_line.ensures.cells ∙ ap cells_of c.as_mut_slice.ensures.value in
     on_any_err c.from_residual-in_err-create_cells.result
