@@ -79,11 +79,17 @@ module _ (parts : AggregateParts) (part : Aggregate) (ps : List (ℤ × ℤ)) (i
       let next : take (i + 1) ps ≡ take i ps ++ p ∷ [] = take_more ps i p within ∙ ap (λ (q : ℤ × ℤ). take i ps ++ q ∷ []) (sym read) in
       sym (ap (part_with parts part) next ∙ fold-append (λ (b : Aggregate) (q : ℤ × ℤ). merged b (part_of_point parts q.0 q.1)) part (take i ps) (p ∷ []))
 
-pub within-more : (low high : ℤ) (ps : List (ℤ × ℤ)) (i : ℕ) (p : ℤ × ℤ) → AllByRecursion (λ (q : ℤ × ℤ). is_within low high q.0 ≡ true) (take i ps) → i < length ps → p ≡ get_or ps i p → is_within low high p.0 ≡ true
-    → AllByRecursion (λ (q : ℤ × ℤ). is_within low high q.0 ≡ true) (take (i + 1) ps)
-within-more low high ps i p inside within read here =
-    let next : take (i + 1) ps ≡ take i ps ++ p ∷ [] = take_more ps i p within ∙ ap (λ (q : ℤ × ℤ). take i ps ++ q ∷ []) (sym read) in
-    subst (λ (qs : List (ℤ × ℤ)). AllByRecursion (λ (q : ℤ × ℤ). is_within low high q.0 ≡ true) qs) (sym next) (all_push (λ (q : ℤ × ℤ). is_within low high q.0 ≡ true) (take i ps) p inside here)
+-- points in the order of time, the first at or after low: up to one that is before high, all are within
+pub rising-within : (low high : ℤ) (p : ℤ × ℤ) (ps : List (ℤ × ℤ)) (i : ℕ) (d : ℤ × ℤ) → IsRising (p ∷ ps) → low ≤ℤ p.0 → i < length (p ∷ ps) → (get_or (p ∷ ps) i d).0 <ℤ high
+    → AllByRecursion (λ (q : ℤ × ℤ). is_within low high q.0 ≡ true) (take (suc i) (p ∷ ps))
+rising-within low high p ps zero d s l w h = (and_from (int_le low p.0) (int_lt p.0 high) (le_true low p.0 l) (lt_true p.0 high h), tt)
+rising-within low high p [] (suc i) d s l w h = absurd (omega arith)
+rising-within low high p (q ∷ ps) (suc i) d s l w h =
+    let below = less_at p (q ∷ ps) s i d (omega arith) in
+    let next = less_at p (q ∷ ps) s 0 d (omega arith) in (
+      and_from (int_le low p.0) (int_lt p.0 high) (le_true low p.0 l) (lt_true p.0 high (omega (arith, ints))),
+      rising-within low high q ps i d (is_rising_behind 1 (p ∷ q ∷ ps) s) (omega (arith, ints)) (omega arith) h,
+    )
 
 -- a range that some points lie in isn't empty
 range-some : (low high : ℤ) (ps : List (ℤ × ℤ)) → 0 < length ps → AllByRecursion (λ (p : ℤ × ℤ). is_within low high p.0 ≡ true) ps → low <ℤ high

@@ -23,6 +23,11 @@ pub(crate) trait Fold: Copy {
         requires { (folded self).count < 2 ^ 62 }
         ensures { folded result ≡ merged (folded self) (part_of_point parts time value) };
 
+    /// Adds points.
+    fn with_all(self, points: &[(Time, i64)]) -> Self
+        requires { (folded self).count + length points.now ≤ 2 ^ 62 }
+        ensures { folded result ≡ part_with parts (folded self) points.now };
+
     /// Returns the fold of some points by their aggregate.
     fn from_agg(part: Agg) -> Self
         requires some { 0 < part.count }
@@ -40,6 +45,19 @@ pub(crate) trait Fold: Copy {
     /// Returns an aggregate with the parts that are kept.
     fn part(self) -> Agg
         ensures { result ≡ folded self };
+}
+
+/// Adds points to a fold, one by one.
+#[inline]
+fn with_each<F: Fold>(fold: F, points: &[(Time, i64)]) -> F
+    requires { (F.folded fold).count + length points.now ≤ 2 ^ 62 }
+    ensures { F.folded result ≡ part_with F.parts (F.folded fold) points.now }
+{
+    let mut fold = fold;
+    for point in points {
+        fold = fold.with(point.0, point.1);
+    }
+    fold
 }
 
 /// Returns extremes with these bounds, and with 0 at time 0 for the first and the last point.
@@ -111,6 +129,13 @@ impl Fold for Counted {
         }
     }
 
+    #[inline]
+    fn with_all(self, points: &[(Time, i64)]) -> Counted {
+        Counted {
+            count: self.count + points.len() as u64,
+        }
+    }
+
     fn from_agg(part: Agg) -> Counted {
         Counted {
             count: part.count(),
@@ -124,10 +149,7 @@ impl Fold for Counted {
     }
 
     fn part(self) -> Agg {
-        match Agg::from_parts(self.count, 0, Some(wide_extremes())) {
-            Some(part) => part,
-            None => unreachable!(),
-        }
+        Agg::of_parts(self.count, 0, Some(wide_extremes()))
     }
 }
 
@@ -184,6 +206,11 @@ impl Fold for Summed {
         }
     }
 
+    #[inline]
+    fn with_all(self, points: &[(Time, i64)]) -> Summed {
+        with_each(self, points)
+    }
+
     fn from_agg(part: Agg) -> Summed {
         Summed {
             count: part.count(),
@@ -199,10 +226,7 @@ impl Fold for Summed {
     }
 
     fn part(self) -> Agg {
-        match Agg::from_parts(self.count, self.sum, Some(wide_extremes())) {
-            Some(part) => part,
-            None => unreachable!(),
-        }
+        Agg::of_parts(self.count, self.sum, Some(wide_extremes()))
     }
 }
 
@@ -263,6 +287,11 @@ impl Fold for Bounded {
         self.merge(<Bounded as Fold>::single(time, value))
     }
 
+    #[inline]
+    fn with_all(self, points: &[(Time, i64)]) -> Bounded {
+        with_each(self, points)
+    }
+
     fn from_agg(part: Agg) -> Bounded {
         match (part.min(), part.max()) {
             (Some(min), Some(max)) => Bounded {
@@ -280,10 +309,7 @@ impl Fold for Bounded {
     }
 
     fn part(self) -> Agg {
-        match Agg::from_parts(self.count, self.sum, Some(bounds(self.min, self.max))) {
-            Some(part) => part,
-            None => unreachable!(),
-        }
+        Agg::of_parts(self.count, self.sum, Some(bounds(self.min, self.max)))
     }
 }
 
@@ -298,6 +324,11 @@ impl Fold for Agg {
 
     fn with(self, time: Time, value: i64) -> Agg {
         self.merge(<Agg as Partial>::single(time, value))
+    }
+
+    #[inline]
+    fn with_all(self, points: &[(Time, i64)]) -> Agg {
+        with_each(self, points)
     }
 
     fn from_agg(part: Agg) -> Agg {

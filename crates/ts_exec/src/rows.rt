@@ -1,9 +1,10 @@
 //! Adds points and parts to the rows of a group.
-ghost use Rattle.std.specs.Prelude.{◌≡◌, ◌+◌, ◌^◌, ◌≤◌, ◌<◌, ◌<ℤ◌, ℤ, true, [], length, IfSome, IfNone, get_or, min, if◌then◌else◌};
+ghost use Rattle.std.specs.Prelude.{◌≡◌, ◌+◌, ◌^◌, ◌≤◌, ◌<◌, ◌<ℤ◌, ℤ, true, [], length, take, IfSome, IfNone, get_or, min, if◌then◌else◌};
 ghost use Rattle.std.specs.List.{AllByRecursion};
 ghost use Rattle.ts_core.specs.aggregates.Aggregates.{empty_aggregate};
 ghost use Rattle.ts_core.specs.facts.Facts.{is_within};
-ghost use Rattle.ts_exec.specs.RowParts.{AreMerged, IsRun, part_of_point, part_with, row_index_at, with_part, with_point_parts};
+ghost use Rattle.ts_raw.specs.PlainColumns.{IsRising};
+ghost use Rattle.ts_exec.specs.RowParts.{AreMerged, IsRun, part_of_point, row_index_at, with_part, with_point_parts};
 
 use crate::buckets::{BucketCursor, BucketSpan};
 use crate::fold::Fold;
@@ -137,77 +138,53 @@ fn with_blocks<F: Fold>(fold: F, low: i64, high: i64, points: &mut Points<'_>) -
     fold
 }
 
-/// Returns true if a time lies from `low`, inclusive, to `high`, exclusive.
+/// Returns how many of the first points, which must be in the order of time, lie from `low`, inclusive, to `high`,
+/// exclusive. So the last of some points tells that all of them are before `high`.
 #[inline]
-fn is_within(time: Time, low: i64, high: i64) -> bool
-    ensures { result ≡ is_within low high time }
+fn count_within(points: &[(Time, i64)], low: i64, high: i64) -> usize
+    requires { IsRising points.now }
+    ensures inside { result ≤ length points.now }
+    ensures within { AllByRecursion (λ (p : ℤ × ℤ). is_within low high p.0 ≡ true) (take result points.now) }
 {
-    low <= time.nanos() && time.nanos() < high
-}
-
-/// Returns true if points all lie from `low`, inclusive, to `high`, exclusive. Compares their times without branches.
-#[inline]
-fn are_within(points: &[(Time, i64)], low: i64, high: i64) -> bool
-    ensures { result ≡ true → AllByRecursion (λ (p : ℤ × ℤ). is_within low high p.0 ≡ true) points.now }
-{
-    let mut all = true;
-    for point in points {
-        all &= is_within(point.0, low, high);
+    let (Some(first), Some(last)) = (points.first(), points.last()) else {
+        return 0;
+    };
+    if first.0.nanos() < low {
+        return 0;
     }
-    all
-}
-
-/// Adds points to a fold.
-#[inline]
-fn with_all<F: Fold>(fold: F, points: &[(Time, i64)]) -> F
-    requires { (F.folded fold).count + length points.now ≤ 2 ^ 62 }
-    ensures { F.folded result ≡ part_with F.parts (F.folded fold) points.now }
-{
-    let mut fold = fold;
-    for point in points {
-        fold = fold.with(point.0, point.1);
+    if last.0.nanos() < high {
+        return points.len();
     }
-    fold
-}
-
-/// Merges the next points into a fold, four at a time, while they lie from `low`, inclusive, to `high`, exclusive.
-#[inline]
-fn with_fours<F: Fold>(fold: F, low: i64, high: i64, points: &mut &[(Time, i64)]) -> F
-    requires { low <ℤ high → (F.folded fold).count + length points.old.now ≤ 2 ^ 62 }
-    ensures { AreMerged F.parts low high (F.folded fold) (F.folded result) points.old.now points.new.now }
-{
-    let mut fold = fold;
-    while points.len() >= 4 {
-        let (four, others) = points.split_at(4);
-        if !are_within(four, low, high) {
-            break;
-        }
-        fold = with_all(fold, four);
-        *points = others;
+    let mut count = 0;
+    while points.len() - count > 3 && points[count + 3].0.nanos() < high {
+        count += 4;
     }
-    fold
+    while count < points.len() && points[count].0.nanos() < high {
+        count += 1;
+    }
+    count
 }
 
-/// Merges the next points into a fold, up to the first that isn't from `low`, inclusive, to `high`, exclusive.
+/// Merges the next points, which must be in the order of time, into a fold, up to the first that isn't from `low`,
+/// inclusive, to `high`, exclusive.
 #[inline]
 fn with_points<F: Fold>(fold: F, low: i64, high: i64, points: &mut &[(Time, i64)]) -> F
-    requires { low <ℤ high → (F.folded fold).count + length points.old.now ≤ 2 ^ 62 }
-    ensures { AreMerged F.parts low high (F.folded fold) (F.folded result) points.old.now points.new.now }
+    requires few { low <ℤ high → (F.folded fold).count + length points.old.now ≤ 2 ^ 62 }
+    requires rising { IsRising points.old.now }
+    ensures merged { AreMerged F.parts low high (F.folded fold) (F.folded result) points.old.now points.new.now }
+    ensures rising { IsRising points.new.now }
 {
-    let mut fold = with_fours(fold, low, high, points);
-    while let Some((point, others)) = points.split_first() {
-        let (time, value) = *point;
-        if !is_within(time, low, high) {
-            break;
-        }
-        fold = fold.with(time, value);
-        *points = others;
+    let count = count_within(points, low, high);
+    if count == 0 {
+        return fold;
     }
-    fold
+    let (run, others) = points.split_at(count);
+    *points = others;
+    fold.with_all(run)
 }
 
-/// Adds points to a run and to the runs after it, and merges each run but the last into its row. At most `others`
-/// points are to come. Returns the last run.
+/// Adds points, which must be in the order of time, to a run and to the runs after it, and merges each run but the last
+/// into its row. At most `others` points are to come. Returns the last run.
 fn extend_runs<F: Fold>(
     rows: &mut [Agg],
     buckets: &mut BucketCursor,
@@ -216,6 +193,7 @@ fn extend_runs<F: Fold>(
     others: u64,
 ) -> BucketRun<F>
     requires few { length points.now + others < 2 ^ 64 }
+    requires rising { IsRising points.now }
     requires run { IsRun buckets.old rows.old (length points.now + others) run.low run.high run.row_index (F.folded run.fold) }
     ensures value { with_part result.row_index (F.folded result.fold) rows.new ≡ with_point_parts F.parts buckets.old points.now (with_part run.row_index (F.folded run.fold) rows.old) }
     ensures run { IsRun buckets.old rows.new others result.low result.high result.row_index (F.folded result.fold) }

@@ -1,5 +1,5 @@
 -- What holds of lists side by side: at one place, after a change, with one more item, and of those that pass a test.
-use Rattle.std.proofs.Common.{◌≡◌, ℕ, zero, suc, Bool, true, false, cond, List, [], ◌∷◌, ◌++◌, length, filter, map, refl, ap, arith, subst}
+use Rattle.std.proofs.Common.{◌≡◌, ◌<◌, ℕ, zero, suc, min, Bool, true, false, cond, List, [], ◌∷◌, ◌++◌, length, filter, map, take, set, get_or, refl, ap, arith, subst}
 use Rattle.std.specs.List.{AllZip, zip}
 use Rattle.std.proofs.lemmas.Option.{none-some, same_Some}
 use Rattle.ts_core.specs.settings.Settings.{Rule}
@@ -110,3 +110,31 @@ AllZipBeside-long R xs [] (z ∷ zs) e a = absurd a
 AllZipBeside-long R xs (y ∷ ys) [] e a = absurd a
 AllZipBeside-long R [] (y ∷ ys) (z ∷ zs) e a = absurd (omega arith)
 AllZipBeside-long R (x ∷ xs) (y ∷ ys) (z ∷ zs) e a = ap suc (AllZipBeside-long R xs ys zs (omega arith) a.1)
+
+-- ---- a change of the first items alone, as a loop makes it
+
+module _ {X Y : Type 0} (f : X → Y → Y) where
+  -- the items after them are as before
+  pub beside-ahead : (xs : List X) (ys : List Y) (i : ℕ) (y : Y) → get_or (changed_beside f (take i xs) ys) i y ≡ get_or ys i y
+  beside-ahead xs ys zero y = refl
+  beside-ahead [] ys (suc i) y = refl
+  beside-ahead (x ∷ xs) [] (suc i) y = refl
+  beside-ahead (x ∷ xs) (z ∷ ys) (suc i) y = beside-ahead xs ys i y
+
+  pub beside-next : (xs : List X) (ys : List Y) (i : ℕ) (x : X) (y : Y) → i < length xs → i < length ys → set (changed_beside f (take i xs) ys) i (f (get_or xs i x) (get_or ys i y)) ≡ changed_beside f (take (suc i) xs) ys
+  beside-next [] ys i x y l m = absurd (omega arith)
+  beside-next (z ∷ xs) [] i x y l m = absurd (omega arith)
+  beside-next (z ∷ xs) (w ∷ ys) zero x y l m = refl
+  beside-next (z ∷ xs) (w ∷ ys) (suc i) x y l m = ap (λ (vs : List Y). f z w ∷ vs) (beside-next xs ys i x y (omega arith) (omega arith))
+
+  -- and so many are all
+  pub beside-all : (xs : List X) (ys : List Y) (n : ℕ) → n ≡ min (length xs) (length ys) → changed_beside f (take n xs) ys ≡ changed_beside f xs ys
+  beside-all xs ys zero e = none xs ys e
+    where
+      none : (xs : List X) (ys : List Y) → 0 ≡ min (length xs) (length ys) → ys ≡ changed_beside f xs ys
+      none [] ys e = refl
+      none (x ∷ xs) [] e = refl
+      none (x ∷ xs) (y ∷ ys) e = absurd (omega arith)
+  beside-all [] ys (suc n) e = refl
+  beside-all (x ∷ xs) [] (suc n) e = refl
+  beside-all (x ∷ xs) (y ∷ ys) (suc n) e = ap (λ (vs : List Y). f x y ∷ vs) (beside-all xs ys n (omega arith))

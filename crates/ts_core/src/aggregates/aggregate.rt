@@ -48,6 +48,7 @@ impl Model for Agg {
     ghost inverse = { λ v. record { count = v.count; sum = v.sum; extremes = v.extremes } };
 }
 
+#[inline]
 fn earlier(a: (Time, i64), b: (Time, i64)) -> (Time, i64)
     ensures { result ≡ lesser early_cmp a b }
 {
@@ -58,6 +59,7 @@ fn earlier(a: (Time, i64), b: (Time, i64)) -> (Time, i64)
     }
 }
 
+#[inline]
 fn later(a: (Time, i64), b: (Time, i64)) -> (Time, i64)
     ensures { result ≡ lesser late_cmp a b }
 {
@@ -81,6 +83,7 @@ fn is_later(a: (Time, i64), b: (Time, i64)) -> bool
 }
 
 impl Extremes {
+    #[inline]
     fn both(self, other: Extremes) -> Extremes
         ensures { result ≡ extremes_of_both self other }
     {
@@ -119,6 +122,7 @@ pub fn times(count: u64, value: i64) -> i128
     i128::from(count) * i128::from(value)
 }
 
+#[inline]
 fn merge_extremes(a: Option<Extremes>, b: Option<Extremes>) -> Option<Extremes>
     ensures { result ≡ merged_extremes a b }
 {
@@ -150,11 +154,20 @@ impl Agg {
         if !are_countable(count, sum, &extremes) {
             return None;
         }
-        Some(Agg {
+        Some(Agg::of_parts(count, sum, extremes))
+    }
+
+    /// Creates the aggregate with these parts, which must be possible.
+    #[inline]
+    pub fn of_parts(count: u64, sum: i128, extremes: Option<Extremes>) -> Agg
+        requires { IsCountable (record { count = count; sum = sum; extremes = extremes }) }
+        ensures { result ≡ record { count = count; sum = sum; extremes = extremes } }
+    {
+        Agg {
             count,
             sum,
             extremes,
-        })
+        }
     }
 
     fn without_inner(self, part: Agg) -> Option<Agg>
@@ -259,6 +272,7 @@ impl Partial for Agg {
         self.count
     }
 
+    #[inline]
     fn merge(self, other: Agg) -> Agg {
         Agg {
             count: self.count + other.count,

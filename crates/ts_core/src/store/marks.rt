@@ -75,12 +75,10 @@ fn raise_lows<A: Allocator>(rules: &[Rule<A>], lows: &mut [i128], now: Time)
     requires { AllByRecursion (λ r. pos 1 ≤ℤ r.interval) rules.now }
     ensures { lows.new ≡ raised now rules.now lows.old }
 {
-    if let Some((rule, rules)) = rules.split_first() {
-        if let Some((low, lows)) = lows.split_first_mut() {
-            let kept = index_of(rule, kept_since(rule.duration(), now));
-            *low = (*low).max(kept);
-            raise_lows(rules, lows, now);
-        }
+    for i in 0..rules.len().min(lows.len()) {
+        let rule = &rules[i];
+        let kept = index_of(rule, kept_since(rule.duration(), now));
+        lows[i] = lows[i].max(kept);
     }
 }
 
