@@ -149,7 +149,7 @@ impl Fold for Counted {
     }
 
     fn part(self) -> Agg {
-        Agg::of_parts(self.count, 0, Some(wide_extremes()))
+        Agg::of_points(self.count, 0, wide_extremes())
     }
 }
 
@@ -226,7 +226,7 @@ impl Fold for Summed {
     }
 
     fn part(self) -> Agg {
-        Agg::of_parts(self.count, self.sum, Some(wide_extremes()))
+        Agg::of_points(self.count, self.sum, wide_extremes())
     }
 }
 
@@ -309,7 +309,7 @@ impl Fold for Bounded {
     }
 
     fn part(self) -> Agg {
-        Agg::of_parts(self.count, self.sum, Some(bounds(self.min, self.max)))
+        Agg::of_points(self.count, self.sum, bounds(self.min, self.max))
     }
 }
 

@@ -1,5 +1,5 @@
 //! Aggregates of points: count, sum and extremes.
-ghost use Rattle.std.specs.Prelude.{◌≡◌, ◌↔◌, ◌+◌, ◌*◌, ◌^◌, ◌≤◌, ℤ, pos, ◌*ℤ◌, unsigned_abs, IsTrue, IsNone, IsSome, IfSome, option_map};
+ghost use Rattle.std.specs.Prelude.{◌≡◌, ◌↔◌, ◌+◌, ◌*◌, ◌^◌, ◌≤◌, ℤ, pos, ◌*ℤ◌, unsigned_abs, IsTrue, IsNone, IsSome, IfSome, Some, option_map};
 ghost use Rattle.std.specs.declared.cmp.Ordering.{Ordering};
 ghost use Rattle.ts_core.specs.aggregates.Orders.{lesser, early_cmp, late_cmp};
 ghost use Rattle.ts_core.specs.aggregates.Aggregates.{Aggregate, empty_aggregate, aggregate_of_one, merged, merged_extremes, extremes_of_both, IsSpread, IsSound, IsCountable};
@@ -154,19 +154,25 @@ impl Agg {
         if !are_countable(count, sum, &extremes) {
             return None;
         }
-        Some(Agg::of_parts(count, sum, extremes))
+        Some(Agg {
+            count,
+            sum,
+            extremes,
+        })
     }
 
-    /// Creates the aggregate with these parts, which must be possible.
+    /// Creates the aggregate of at least one point, whose sum lies between `count` times the minimum and `count` times
+    /// the maximum. Tests nothing.
     #[inline]
-    pub fn of_parts(count: u64, sum: i128, extremes: Option<Extremes>) -> Agg
-        requires { IsCountable (record { count = count; sum = sum; extremes = extremes }) }
-        ensures { result ≡ record { count = count; sum = sum; extremes = extremes } }
+    pub fn of_points(count: u64, sum: i128, extremes: Extremes) -> Agg
+        requires few { count ≤ 2 ^ 62 }
+        requires spread { IsSpread count sum extremes }
+        ensures { result ≡ record { count = count; sum = sum; extremes = Some extremes } }
     {
         Agg {
             count,
             sum,
-            extremes,
+            extremes: Some(extremes),
         }
     }
 
