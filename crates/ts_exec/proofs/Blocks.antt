@@ -1,6 +1,7 @@
 -- Blocks of points in one run: their aggregate merged at once is each point merged.
-use Rattle.std.proofs.Common.{◌≡◌, ℕ, suc, ◌+◌, ◌<◌, ◌≤◌, ◌^◌, ℤ, ◌≤ℤ◌, ◌<ℤ◌, true, List, [], ◌∷◌, ◌++◌, length, length-append, get_or, take, min, append_assoc, refl, sym, ◌∙◌, ap, subst, arith, Option, Some, None}
+use Rattle.std.proofs.Common.{◌≡◌, ℕ, zero, suc, ◌+◌, ◌<◌, ◌≤◌, ◌^◌, ℤ, ◌≤ℤ◌, ◌<ℤ◌, int_le, int_lt, true, List, [], ◌∷◌, ◌++◌, length, length-append, get_or, take, min, append_assoc, refl, sym, ◌∙◌, ap, subst, arith, Option, Some, None}
 use Rattle.std.specs.List.{AllByRecursion}
+use Rattle.std.proofs.lemmas.Bool.{and_from}
 use Rattle.std.proofs.lemmas.Int.{ints}
 use Rattle.std.proofs.lemmas.List.{take_more, length-take-le}
 use Rattle.std.proofs.lemmas.List.Sums.{fold-append}
@@ -10,10 +11,13 @@ use Rattle.ts_core.specs.aggregates.Aggregates.{Aggregate, empty_aggregate, aggr
 use Rattle.ts_core.specs.aggregates.MergeLaws.{aggregate_laws}
 use Rattle.ts_core.specs.aggregates.SoundLaws.{sound_laws}
 use Rattle.ts_core.proofs.aggregates.RemaindersLemmas.{fold-possible}
+use Rattle.ts_core.proofs.lists.Comparisons.{le_true, lt_true}
 use Rattle.ts_core.proofs.lists.ListSteps.{all_append, all_push}
 use Rattle.ts_core.proofs.queries.Boundaries.{within_parts}
 use Rattle.ts_core.proofs.aggregates.AggregatesLemmas.{count_of_fold}
+use Rattle.ts_raw.specs.PlainColumns.{IsRising}
 use Rattle.ts_raw.specs.Summaries.{IsFront}
+use Rattle.ts_raw.proofs.CutLemmas.{less_at, is_rising_behind}
 use Rattle.ts_exec.specs.declared.aggregate_parts.AggregateParts.{AggregateParts}
 use Rattle.ts_exec.specs.declared.aggregate_parts.AggregateParts.TheVariants.{CountAlone, CountAndSum, Bounds, Whole}
 use Rattle.ts_exec.specs.RowParts.{BucketGrid, IsRun, AreMerged, row_index_at, part_of, part_of_point, part_with, with_part, with_point_parts}
@@ -79,16 +83,20 @@ module _ (parts : AggregateParts) (part : Aggregate) (ps : List (ℤ × ℤ)) (i
       let next : take (i + 1) ps ≡ take i ps ++ p ∷ [] = take_more ps i p within ∙ ap (λ (q : ℤ × ℤ). take i ps ++ q ∷ []) (sym read) in
       sym (ap (part_with parts part) next ∙ fold-append (λ (b : Aggregate) (q : ℤ × ℤ). merged b (part_of_point parts q.0 q.1)) part (take i ps) (p ∷ []))
 
--- points in the order of time, the first at or after low: up to one that is before high, all are within
-pub rising-within : (low high : ℤ) (p : ℤ × ℤ) (ps : List (ℤ × ℤ)) (i : ℕ) (d : ℤ × ℤ) → IsRising (p ∷ ps) → low ≤ℤ p.0 → i < length (p ∷ ps) → (get_or (p ∷ ps) i d).0 <ℤ high
-    → AllByRecursion (λ (q : ℤ × ℤ). is_within low high q.0 ≡ true) (take (suc i) (p ∷ ps))
-rising-within low high p ps zero d s l w h = (and_from (int_le low p.0) (int_lt p.0 high) (le_true low p.0 l) (lt_true p.0 high h), tt)
-rising-within low high p [] (suc i) d s l w h = absurd (omega arith)
-rising-within low high p (q ∷ ps) (suc i) d s l w h =
-    let below = less_at p (q ∷ ps) s i d (omega arith) in
-    let next = less_at p (q ∷ ps) s 0 d (omega arith) in (
-      and_from (int_le low p.0) (int_lt p.0 high) (le_true low p.0 l) (lt_true p.0 high (omega (arith, ints))),
-      rising-within low high q ps i d (is_rising_behind 1 (p ∷ q ∷ ps) s) (omega (arith, ints)) (omega arith) h,
+within-true : (low high t : ℤ) → low ≤ℤ t → t <ℤ high → is_within low high t ≡ true
+within-true low high t l h = and_from (int_le low t) (int_lt t high) (le_true low t l) (lt_true t high h)
+
+-- points in the order of time, from one at or after low to one before high, are all within
+pub rising-within : (low high : ℤ) (ps : List (ℤ × ℤ)) (i : ℕ) (d e : ℤ × ℤ) → IsRising ps → i < length ps → low ≤ℤ (get_or ps 0 d).0 → (get_or ps i e).0 <ℤ high
+    → AllByRecursion (λ (q : ℤ × ℤ). is_within low high q.0 ≡ true) (take (suc i) ps)
+rising-within low high [] i d e s w l h = absurd (omega arith)
+rising-within low high (p ∷ ps) zero d e s w l h = (within-true low high p.0 l h, tt)
+rising-within low high (p ∷ []) (suc i) d e s w l h = absurd (omega arith)
+rising-within low high (p ∷ q ∷ ps) (suc i) d e s w l h =
+    let last = less_at p (q ∷ ps) s i e (omega arith) in
+    let next = less_at p (q ∷ ps) s 0 q (omega arith) in (
+      within-true low high p.0 l (omega (arith, ints)),
+      rising-within low high (q ∷ ps) i q e (is_rising_behind 1 (p ∷ q ∷ ps) s) (omega arith) (omega (arith, ints)) h,
     )
 
 -- a range that some points lie in isn't empty
@@ -116,6 +124,20 @@ module _ (low high : ℤ) (parts : AggregateParts) (part next : Aggregate) (all 
     merged = ap (λ (x : Aggregate). part_with parts x front) m.merged
         ∙ sym (fold-append (λ (b : Aggregate) (p : ℤ × ℤ). merged b (part_of_point parts p.0 p.1)) part m.first front);
   }
+
+-- ---- points merged in two parts
+
+module _ (low high : ℤ) (parts : AggregateParts) (part next : Aggregate) (all before : List (ℤ × ℤ)) (m : AreMerged parts low high part next all before) where
+  pub room-left : (low <ℤ high → part.count + length all ≤ 2 ^ 62) → low <ℤ high → next.count + length before ≤ 2 ^ 62
+  room-left few l =
+      let fits = few l in
+      let own : next.count ≡ part.count + length m.first = ap (λ (x : Aggregate). x.count) m.merged ∙ merged_count parts part m.first in
+      let long : length all ≡ length m.first + length before = ap (λ (ps : List (ℤ × ℤ)). length ps) m.points ∙ length-append m.first before in
+      omega arith
+
+  pub merged-then : (last : Aggregate) (left : List (ℤ × ℤ)) → AreMerged parts low high next last before left → AreMerged parts low high part last all left
+  merged-then last left n =
+      subst (λ (x : Aggregate). AreMerged parts low high part x all left) (sym n.merged) (points-merged low high parts part next all before n.first left m n.points n.within)
 
 -- ---- one more block
 
@@ -152,23 +174,6 @@ module _ (low high : ℤ) (before left : List (ℤ × ℤ)) (a : Aggregate) (fro
           ∙ ap (λ (x : Aggregate). part_with parts x front.block) m.merged
           ∙ sym (fold-append (λ (b : Aggregate) (p : ℤ × ℤ). merged b (part_of_point parts p.0 p.1)) part m.first front.block);
     }
-
--- ---- one more point
-
-module _ (parts : AggregateParts) (low high : ℤ) (part next : Aggregate) (all before left : List (ℤ × ℤ)) (p : ℤ × ℤ) (m : AreMerged parts low high part next all before) (is : before ≡ p ∷ left) (inside : is_within low high p.0 ≡ true) where
-  one_front : IsFront low high before left (aggregate_of_points (p ∷ []))
-  one_front = record { block = p ∷ []; some = omega arith; split = is; within = (inside, tt); summary = refl }
-
-  pub point-few : (low <ℤ high → part.count + length all ≤ 2 ^ 62) → next.count < 2 ^ 62
-  point-few few =
-      let fits = front-few low high before left (aggregate_of_points (p ∷ [])) one_front parts part next all m few in
-      let one = count_of_fold (p ∷ []) in
-      omega arith
-
-  pub point-merged : AreMerged parts low high part (merged next (part_of_point parts p.0 p.1)) all left
-  point-merged =
-      subst (λ (x : Aggregate). AreMerged parts low high part (merged next x) all left) (part_one parts p)
-      (front-merged low high before left (aggregate_of_points (p ∷ [])) one_front parts part next all m)
 
 -- ---- points of a run
 

@@ -23,11 +23,6 @@ pub(crate) trait Fold: Copy {
         requires { (folded self).count < 2 ^ 62 }
         ensures { folded result ≡ merged (folded self) (part_of_point parts time value) };
 
-    /// Adds points.
-    fn with_all(self, points: &[(Time, i64)]) -> Self
-        requires { (folded self).count + length points.now ≤ 2 ^ 62 }
-        ensures { folded result ≡ part_with parts (folded self) points.now };
-
     /// Returns the fold of some points by their aggregate.
     fn from_agg(part: Agg) -> Self
         requires some { 0 < part.count }
@@ -45,19 +40,6 @@ pub(crate) trait Fold: Copy {
     /// Returns an aggregate with the parts that are kept.
     fn part(self) -> Agg
         ensures { result ≡ folded self };
-}
-
-/// Adds points to a fold, one by one.
-#[inline]
-fn with_each<F: Fold>(fold: F, points: &[(Time, i64)]) -> F
-    requires { (F.folded fold).count + length points.now ≤ 2 ^ 62 }
-    ensures { F.folded result ≡ part_with F.parts (F.folded fold) points.now }
-{
-    let mut fold = fold;
-    for point in points {
-        fold = fold.with(point.0, point.1);
-    }
-    fold
 }
 
 /// Returns extremes with these bounds, and with 0 at time 0 for the first and the last point.
@@ -129,13 +111,6 @@ impl Fold for Counted {
         }
     }
 
-    #[inline]
-    fn with_all(self, points: &[(Time, i64)]) -> Counted {
-        Counted {
-            count: self.count + points.len() as u64,
-        }
-    }
-
     fn from_agg(part: Agg) -> Counted {
         Counted {
             count: part.count(),
@@ -204,11 +179,6 @@ impl Fold for Summed {
             count: self.count + 1,
             sum: self.sum + i128::from(value),
         }
-    }
-
-    #[inline]
-    fn with_all(self, points: &[(Time, i64)]) -> Summed {
-        with_each(self, points)
     }
 
     fn from_agg(part: Agg) -> Summed {
@@ -287,11 +257,6 @@ impl Fold for Bounded {
         self.merge(<Bounded as Fold>::single(time, value))
     }
 
-    #[inline]
-    fn with_all(self, points: &[(Time, i64)]) -> Bounded {
-        with_each(self, points)
-    }
-
     fn from_agg(part: Agg) -> Bounded {
         match (part.min(), part.max()) {
             (Some(min), Some(max)) => Bounded {
@@ -324,11 +289,6 @@ impl Fold for Agg {
 
     fn with(self, time: Time, value: i64) -> Agg {
         self.merge(<Agg as Partial>::single(time, value))
-    }
-
-    #[inline]
-    fn with_all(self, points: &[(Time, i64)]) -> Agg {
-        with_each(self, points)
     }
 
     fn from_agg(part: Agg) -> Agg {

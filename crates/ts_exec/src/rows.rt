@@ -4,7 +4,7 @@ ghost use Rattle.std.specs.List.{AllByRecursion};
 ghost use Rattle.ts_core.specs.aggregates.Aggregates.{empty_aggregate};
 ghost use Rattle.ts_core.specs.facts.Facts.{is_within};
 ghost use Rattle.ts_raw.specs.PlainColumns.{IsRising};
-ghost use Rattle.ts_exec.specs.RowParts.{AreMerged, IsRun, part_of_point, row_index_at, with_part, with_point_parts};
+ghost use Rattle.ts_exec.specs.RowParts.{AreMerged, IsRun, part_of_point, part_with, row_index_at, with_part, with_point_parts};
 
 use crate::buckets::{BucketCursor, BucketSpan};
 use crate::fold::Fold;
@@ -138,35 +138,58 @@ fn with_blocks<F: Fold>(fold: F, low: i64, high: i64, points: &mut Points<'_>) -
     fold
 }
 
-/// Returns how many of the first points, which must be in the order of time, lie from `low`, inclusive, to `high`,
-/// exclusive. So the last of some points tells that all of them are before `high`.
+/// Returns true if there are `count` points, at least one, and the first `count` lie from `low`, inclusive, to `high`,
+/// exclusive. They must be in the order of time, so the first and the last of them tell.
 #[inline]
-fn count_within(points: &[(Time, i64)], low: i64, high: i64) -> usize
+fn are_within(points: &[(Time, i64)], count: usize, low: i64, high: i64) -> bool
     requires { IsRising points.now }
-    ensures inside { result ≤ length points.now }
-    ensures within { AllByRecursion (λ (p : ℤ × ℤ). is_within low high p.0 ≡ true) (take result points.now) }
+    ensures { result ≡ true → (0 < count) × (count ≤ length points.now) × AllByRecursion (λ (p : ℤ × ℤ). is_within low high p.0 ≡ true) (take count points.now) }
 {
-    let (Some(first), Some(last)) = (points.first(), points.last()) else {
-        return 0;
-    };
-    if first.0.nanos() < low {
-        return 0;
+    if count == 0 || count > points.len() {
+        return false;
     }
-    if last.0.nanos() < high {
-        return points.len();
+    low <= points[0].0.nanos() && points[count - 1].0.nanos() < high
+}
+
+/// Adds points to a fold.
+#[inline]
+fn with_all<F: Fold>(fold: F, points: &[(Time, i64)]) -> F
+    requires { (F.folded fold).count + length points.now ≤ 2 ^ 62 }
+    ensures { F.folded result ≡ part_with F.parts (F.folded fold) points.now }
+{
+    let mut fold = fold;
+    for point in points {
+        fold = fold.with(point.0, point.1);
     }
-    let mut count = 0;
-    while points.len() - count > 3 && points[count + 3].0.nanos() < high {
-        count += 4;
+    fold
+}
+
+/// Merges the next points, which must be in the order of time, into a fold, `count` at a time, while they lie from `low`,
+/// inclusive, to `high`, exclusive.
+#[inline]
+fn with_groups<F: Fold>(
+    fold: F,
+    low: i64,
+    high: i64,
+    count: usize,
+    points: &mut &[(Time, i64)],
+) -> F
+    requires few { low <ℤ high → (F.folded fold).count + length points.old.now ≤ 2 ^ 62 }
+    requires rising { IsRising points.old.now }
+    ensures merged { AreMerged F.parts low high (F.folded fold) (F.folded result) points.old.now points.new.now }
+    ensures rising { IsRising points.new.now }
+{
+    let mut fold = fold;
+    while are_within(points, count, low, high) {
+        let (group, others) = points.split_at(count);
+        fold = with_all(fold, group);
+        *points = others;
     }
-    while count < points.len() && points[count].0.nanos() < high {
-        count += 1;
-    }
-    count
+    fold
 }
 
 /// Merges the next points, which must be in the order of time, into a fold, up to the first that isn't from `low`,
-/// inclusive, to `high`, exclusive.
+/// inclusive, to `high`, exclusive: all at once if they can be, else four at a time.
 #[inline]
 fn with_points<F: Fold>(fold: F, low: i64, high: i64, points: &mut &[(Time, i64)]) -> F
     requires few { low <ℤ high → (F.folded fold).count + length points.old.now ≤ 2 ^ 62 }
@@ -174,13 +197,10 @@ fn with_points<F: Fold>(fold: F, low: i64, high: i64, points: &mut &[(Time, i64)
     ensures merged { AreMerged F.parts low high (F.folded fold) (F.folded result) points.old.now points.new.now }
     ensures rising { IsRising points.new.now }
 {
-    let count = count_within(points, low, high);
-    if count == 0 {
-        return fold;
-    }
-    let (run, others) = points.split_at(count);
-    *points = others;
-    fold.with_all(run)
+    let all = points.len();
+    let whole = with_groups(fold, low, high, all, points);
+    let fours = with_groups(whole, low, high, 4, points);
+    with_groups(fours, low, high, 1, points)
 }
 
 /// Adds points, which must be in the order of time, to a run and to the runs after it, and merges each run but the last

@@ -1,6 +1,8 @@
 use Rattle.std.proofs.Common.{rules, ◌≡◌, ◌≤◌, ◌<ℤ◌, ◌+◌, ℕ, ℤ, List, [], ◌∷◌, length, length-append, refl, ◌∙◌, ap, sym, subst, arith, SFits, to_z-of_z, w64}
 use Rattle.std.proofs.lemmas.List.{nil_from_length, length-set}
 use Rattle.ts_core.specs.aggregates.Aggregates.{Aggregate}
+use Rattle.ts_raw.specs.PlainColumns.{IsRising}
+use Rattle.ts_raw.proofs.CutLemmas.{is_rising_behind}
 use Rattle.ts_exec.specs.declared.aggregate_parts.AggregateParts.{AggregateParts}
 use Rattle.ts_exec.specs.RowParts.{BucketGrid, IsRun, AreMerged, row_index_at, part_of_point, with_part, with_point_parts}
 use Rattle.ts_exec.proofs.Runs.{run-first}
@@ -10,10 +12,10 @@ use Rattle.ts_exec.proofs.rows.extend_runs.Goals.{After-with_points-run}
 use Rattle.ts_exec.proofs.rows.extend_runs.Goals as goal
 
 pub loop-point-init : goal.loop-point-init
-loop-point-init g c = record { value = refl; same = refl; few = c.requires.few; run = c.requires.run }
+loop-point-init g c = record { value = refl; same = refl; few = c.requires.few; rising = c.requires.rising; run = c.requires.run }
 
-pub with_points-run-requires : goal.with_points-run-requires
-with_points-run-requires g c =
+pub with_points-run-requires-clause-few : goal.with_points-run-requires-clause-few
+with_points-run-requires-clause-few g c =
     let low_fits : SFits w64 c.loop-point.run.low = search rules in
     let high_fits : SFits w64 c.loop-point.run.high = search rules in
     rw (to_z-of_z low_fits, to_z-of_z high_fits) (λ (l : c.loop-point.run.low <ℤ c.loop-point.run.high). let fits = c.loop-point.invariant.run.bounded l in omega arith)
@@ -23,7 +25,7 @@ joined : (g : Over) (c : After-with_points-run g) → AreMerged g.F.Fold.parts c
 joined g c =
     let low_fits : SFits w64 c.loop-point.run.low = search rules in
     let high_fits : SFits w64 c.loop-point.run.high = search rules in
-    rw (to_z-of_z low_fits, to_z-of_z high_fits) at c.with_points-run.ensures
+    rw (to_z-of_z low_fits, to_z-of_z high_fits) at c.with_points-run.ensures.merged
 
 -- and the other points are left
 front : (g : Over) (c : After-with_points-run g)
@@ -95,6 +97,7 @@ loop-point-preserved g c =
           ∙ ap (λ (r : List Aggregate). with_point_parts parts grid after r) (run-first parts t v grid old row_index' part' short c.begin_run-run.ensures.row_index one)
           ∙ sym (ap (λ (ps : List (ℤ × ℤ)). with_point_parts parts grid ps old) is)
           ∙ (front g (goal.at.loop-point-preserved g c).After-with_points-run).0 ∙ c.loop-point.invariant.value;
+      rising = is_rising_behind 1 (c.in-Some.point.now ∷ c.in-Some.after.now) (subst IsRising c.in-Some.ensures.cases.0 c.with_points-run.ensures.rising);
       same = same ∙ c.loop-point.invariant.same;
       few = omega arith;
       run = subst (λ (b : BucketGrid). IsRun b rows' (length after + c.args.others) c.begin_run-run.result.low c.begin_run-run.result.high row_index' part') (sym same) c.begin_run-run.ensures.run;

@@ -1,25 +1,29 @@
-use Rattle.std.proofs.Common.{rules, ◌≡◌, ℤ, SFits, to_z, of_z, to_z-of_z, w64, sym, subst}
-use Rattle.ts_core.specs.aggregates.Aggregates.{Aggregate, merged}
-use Rattle.ts_exec.specs.RowParts.{AreMerged, part_of_point}
-use Rattle.ts_exec.proofs.Blocks.{point-few, point-merged}
+use Rattle.std.proofs.Common.{rules, ◌≡◌, ◌+◌, ◌^◌, ◌≤◌, ◌<ℤ◌, ℤ, List, length, SFits, to_z, of_z, to_z-of_z, w64}
+use Rattle.ts_core.specs.aggregates.Aggregates.{Aggregate}
+use Rattle.ts_exec.specs.RowParts.{AreMerged}
+use Rattle.ts_exec.proofs.Blocks.{room-left, merged-then}
+use Rattle.ts_exec.proofs.rows.with_points.Given.{Over}
+use Rattle.ts_exec.proofs.rows.with_points.Goals.{After-with_groups-fours}
 use Rattle.ts_exec.proofs.rows.with_points.Goals as goal
 
-pub loop-point-init : goal.loop-point-init
-loop-point-init g c = c.with_fours-fold.ensures
-
-pub with-fold-requires : goal.with-fold-requires
-with-fold-requires g c =
-    let low : ℤ = to_z w64 (of_z w64 c.args.low) in
-    let high : ℤ = to_z w64 (of_z w64 c.args.high) in
+pub with_groups-fours-requires-clause-few : goal.with_groups-fours-requires-clause-few
+with_groups-fours-requires-clause-few g c =
     let from : SFits w64 c.args.low = search rules in
     let to : SFits w64 c.args.high = search rules in
-    point-few g.F.Fold.parts low high (g.F.Fold.folded c.args.fold) (g.F.Fold.folded c.loop-point.fold) c.args.points.now.now c.loop-point.points.now c.in-Some.others.now c.in-Some.point.now c.loop-point.invariant c.in-Some.ensures.cases.0 (sym c.if-not-is_within.ensures)
-    (rw (to_z-of_z from, to_z-of_z to) c.requires)
+    room-left _ _ g.F.Fold.parts (g.F.Fold.folded c.args.fold) (g.F.Fold.folded c.with_groups-whole.result) c.args.points.now.now c.with_groups-whole.new.points.now c.with_groups-whole.ensures.merged (rw (to_z-of_z from, to_z-of_z to) c.requires.few)
 
-pub loop-point-preserved : goal.loop-point-preserved
-loop-point-preserved g c =
-    let low : ℤ = to_z w64 (of_z w64 c.args.low) in
-    let high : ℤ = to_z w64 (of_z w64 c.args.high) in
-    let is : g.F.Fold.folded c.with-fold.result ≡ merged (g.F.Fold.folded c.loop-point.fold) (part_of_point g.F.Fold.parts c.in-Some.point.now.0 c.in-Some.point.now.1) = search rules in
-    subst (λ (x : Aggregate). AreMerged g.F.Fold.parts low high (g.F.Fold.folded c.args.fold) x c.args.points.now.now c.in-Some.others.now) (sym is)
-    (point-merged g.F.Fold.parts low high (g.F.Fold.folded c.args.fold) (g.F.Fold.folded c.loop-point.fold) c.args.points.now.now c.loop-point.points.now c.in-Some.others.now c.in-Some.point.now c.loop-point.invariant c.in-Some.ensures.cases.0 (sym c.if-not-is_within.ensures))
+-- the points at the front, up to those that come one by one
+fours : (g : Over) (c : After-with_groups-fours g) → AreMerged g.F.Fold.parts (to_z w64 (of_z w64 c.args.low)) (to_z w64 (of_z w64 c.args.high)) (g.F.Fold.folded c.args.fold) (g.F.Fold.folded c.with_groups-fours.result) c.args.points.now.now c.with_groups-fours.new.points.now
+fours g c = merged-then _ _ g.F.Fold.parts (g.F.Fold.folded c.args.fold) (g.F.Fold.folded c.with_groups-whole.result) c.args.points.now.now c.with_groups-whole.new.points.now c.with_groups-whole.ensures.merged (g.F.Fold.folded c.with_groups-fours.result) c.with_groups-fours.new.points.now c.with_groups-fours.ensures.merged
+
+pub with_groups-requires-clause-few : goal.with_groups-requires-clause-few
+with_groups-requires-clause-few g c =
+    let from : SFits w64 c.args.low = search rules in
+    let to : SFits w64 c.args.high = search rules in
+    room-left _ _ g.F.Fold.parts (g.F.Fold.folded c.args.fold) (g.F.Fold.folded c.with_groups-fours.result) c.args.points.now.now c.with_groups-fours.new.points.now (fours g (goal.at.with_groups-requires-clause-few g c).After-with_groups-fours) (rw (to_z-of_z from, to_z-of_z to) c.requires.few)
+
+pub returns-clause-merged : goal.returns-clause-merged
+returns-clause-merged g c =
+    let from : SFits w64 c.args.low = search rules in
+    let to : SFits w64 c.args.high = search rules in
+    rw (to_z-of_z from, to_z-of_z to) at (merged-then _ _ g.F.Fold.parts (g.F.Fold.folded c.args.fold) (g.F.Fold.folded c.with_groups-fours.result) c.args.points.now.now c.with_groups-fours.new.points.now (fours g (goal.at.returns-clause-merged g c).After-with_groups-fours) (g.F.Fold.folded c.with_groups.result) c.with_groups.new.points.now c.with_groups.ensures.merged)
