@@ -1,6 +1,5 @@
-use Rattle.std.proofs.Common.{rules, ◌≡◌, ◌-◌, ◌≤ℤ◌, ◌<ℤ◌, ℕ, ℤ, suc, true, List, length, take, get_or, ap, sym, subst, ◌∙◌, arith, SFits, to_z, of_z, to_z-of_z, w64}
+use Rattle.std.proofs.Common.{rules, ◌≡◌, ◌-◌, ◌≤ℤ◌, ◌<ℤ◌, ℕ, ℤ, suc, true, List, take, get_or, subst, arith, SFits, to_z-of_z, w64}
 use Rattle.std.specs.List.{AllByRecursion}
-use Rattle.std.proofs.lemmas.Int.{ints}
 use Rattle.ts_core.specs.facts.Facts.{is_within}
 use Rattle.ts_core.proofs.lists.Comparisons.{le_from, lt_from}
 use Rattle.ts_exec.proofs.Blocks.{rising-within}

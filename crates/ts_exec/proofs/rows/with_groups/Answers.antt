@@ -1,4 +1,4 @@
-use Rattle.std.proofs.Common.{rules, ◌≡◌, ◌<◌, ℤ, true, List, ◌++◌, length, take, refl, arith, SFits, to_z, of_z, to_z-of_z, w64, ap, sym, subst, ◌∙◌}
+use Rattle.std.proofs.Common.{rules, ◌≡◌, ◌<◌, ℤ, true, List, length, arith, SFits, to_z, of_z, to_z-of_z, w64, sym, subst}
 use Rattle.std.specs.List.{AllByRecursion}
 use Rattle.ts_core.specs.aggregates.Aggregates.{Aggregate}
 use Rattle.ts_core.specs.facts.Facts.{is_within}

@@ -1,5 +1,4 @@
-use Rattle.std.proofs.Common.{rules, ◌≡◌, ◌+◌, ◌^◌, ◌≤◌, ◌<ℤ◌, ℤ, List, length, SFits, to_z, of_z, to_z-of_z, w64}
-use Rattle.ts_core.specs.aggregates.Aggregates.{Aggregate}
+use Rattle.std.proofs.Common.{rules, SFits, to_z, of_z, to_z-of_z, w64}
 use Rattle.ts_exec.specs.RowParts.{AreMerged}
 use Rattle.ts_exec.proofs.Blocks.{room-left, merged-then}
 use Rattle.ts_exec.proofs.rows.with_points.Given.{Over}
