@@ -9,3 +9,5 @@ pub mod LiveParts
 pub mod CellsCreated
 pub mod LivesFilled
 pub mod RulesFilled
+-- ChangedLists
+pub mod ChangedListsLemmas

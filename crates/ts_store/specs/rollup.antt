@@ -3,3 +3,4 @@
 pub mod ColumnLists
 pub mod Rollups
 pub mod LivePoints
+pub mod ChangedLists

@@ -1,25 +1,24 @@
 -- Rollups of rules, when a column is created.
-use Rattle.std.proofs.Common.{◌≡◌, ◌<◌, ℕ, zero, suc, List, [], ◌∷◌, ◌++◌, length, map, Option, Some, None, IsSome, refl, sym, ◌∙◌, ap, subst, inl, inr, ⊎_elim, arith}
+use Rattle.std.proofs.Common.{◌≡◌, ◌<◌, ℕ, zero, suc, List, [], ◌∷◌, ◌++◌, length, map, Option, Some, None, IsSome, refl, sym, ◌∙◌, ap, subst, inl, inr, ⊎_elim}
 use Rattle.std.specs.List.{AllByRecursion, slice_get}
 use Rattle.std.proofs.lemmas.List.{append-nil}
 use Rattle.ts_core.specs.facts.Facts.{Column}
 use Rattle.ts_core.specs.settings.Settings.{Rule}
 use Rattle.ts_cells.specs.Grids.{RollupSeries}
-use Rattle.ts_store.specs.rollup.Rollups.{RollupState, cells_of, rollup_series_under, IsRollupSeriesOf, HaveRollupSeries, AreRollups, Extends, KeepsCells, KeepCells, HaveNext, joined_rollup_series, with_next}
+use Rattle.ts_store.specs.rollup.Rollups.{RollupState, cells_of, rollup_series_under, IsRollupSeriesOf, HaveRollupSeries, AreRollups, Extends, KeepsCells, KeepCells, HasNext, HaveNext, joined_rollup_series, with_next}
 use Rattle.ts_core.specs.lists.Members.{Among}
 use Rattle.ts_core.specs.lists.Numbered.{IsAt, Gains}
-use Rattle.ts_core.proofs.lists.BesideLemmas.{AllZip-same, AllZip-then, AllZip-weaker}
+use Rattle.ts_core.proofs.lists.BesideLemmas.{AllZip-then, AllZip-weaker}
 use Rattle.std.proofs.lemmas.Slice.Zip.{AllZip-long, all_zipped_more}
 use Rattle.std.proofs.lemmas.Option.{none-some, same_Some}
 use Rattle.ts_store.proofs.write.StagedColumns.{slice_get_left}
 
-pub none_next : (rs : List Rule) (c : Column) (ss : List RollupState) → length rs ≡ 0 → length ss ≡ length rs → HaveNext rs c ss
-none_next [] c [] e h = tt
-none_next [] c (s ∷ ss) e h = absurd (omega arith)
-none_next (r ∷ rs) c ss e h = absurd (omega arith)
+pub keeps_itself : (s : RollupState) → KeepsCells s s
+keeps_itself s = record { made = ([], sym (append-nil s.grid.rollup_series)); cells = refl; kept = refl }
 
-pub keep_same : (ss : List RollupState) → KeepCells ss ss
-keep_same ss = AllZip-same KeepsCells (λ s. record { made = ([], sym (append-nil s.grid.rollup_series)); cells = refl; kept = refl }) ss
+-- the next column is prepared under a rule
+abbrev pub IsPrepared : Column → Rule → RollupState → RollupState → Type 0
+IsPrepared c r s t = KeepsCells s t × HasNext r c t
 
 -- ---- more rollup series
 

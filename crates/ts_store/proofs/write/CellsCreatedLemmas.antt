@@ -1,5 +1,5 @@
 -- The cells of facts, created column after column.
-use Rattle.std.proofs.Common.{◌≡◌, ◌≤ℤ◌, ◌<ℤ◌, int_lt, Result, Ok, Err, OnErr, ℕ, zero, suc, ℤ, true, false, cond, List, [], ◌∷◌, ◌++◌, ◌+◌, ◌<◌, length, take, get_or, Option, Some, None, refl, sym, ◌∙◌, ap, subst, inl, ⊎_elim, true≢false, arith}
+use Rattle.std.proofs.Common.{◌≡◌, ◌≤ℤ◌, ◌<ℤ◌, int_lt, ℕ, zero, suc, ℤ, true, false, cond, List, [], ◌∷◌, ◌++◌, ◌+◌, ◌<◌, length, take, get_or, Option, Some, None, refl, sym, ◌∙◌, ap, subst, inl, ⊎_elim, true≢false, arith}
 use Rattle.std.specs.FinMap as finmap
 use Rattle.std.specs.List.{slice_get}
 use Rattle.std.proofs.lemmas.List.{take_more, take_all}
@@ -15,12 +15,12 @@ use Rattle.ts_core.specs.moves.StoreMoves.{GainsEmptyCells, GainEmptyCells}
 use Rattle.std.proofs.lemmas.Int.{ints}
 use Rattle.ts_core.proofs.lists.Comparisons.{lt_from, lt_not, lt_true}
 use Rattle.ts_core.proofs.plans.PieceCells.{same_cell-eq, same_cell-refl}
-use Rattle.ts_core.proofs.lists.BesideLemmas.{AllZip-same, AllZip-then}
+use Rattle.ts_core.proofs.lists.BesideLemmas.{AllZip-then}
 use Rattle.ts_cells.specs.CellChanges.{inserted_if_absent}
 use Rattle.ts_cells.specs.Grids.{RollupSeries, no_rollup_series, cell_at, cell_in}
 use Rattle.ts_cells.proofs.GridMoves.{get-inserted_if_absent}
 use Rattle.ts_store.specs.rollup.Rollups.{RollupState, cells_of, rollup_series_under, IsRollupSeriesOf, HaveRollupSeries, AreRollups, with_grid_cells, cell_created_in, rollup_series_at}
-use Rattle.ts_store.specs.write.CellsCreated.{bucket_indices, cells_created_for, cells_created_from, cells_created_under, IsCreatedInPart, AreCreatedInPart, KeepRollupSeries}
+use Rattle.ts_store.specs.write.CellsCreated.{bucket_indices, cells_created_for, cells_created_from, cells_created_under, IsCreatedInPart, AreCreatedInPart, KeepsRollupSeries, KeepRollupSeries}
 use Rattle.ts_store.proofs.rollup.RollupsGrow.{IsOfRule}
 
 -- the facts are of the columns of these numbers, and of one time
@@ -158,28 +158,9 @@ rooms_made (r ∷ rs) lows cs time ns fs [] h a = absurd h
 rooms_made (r ∷ rs) [] cs time ns fs (s ∷ ss) h a = tt
 rooms_made (r ∷ rs) (low ∷ lows) cs time ns fs (s ∷ ss) h a = (from_roomed r low cs time ns fs s h.0 a, rooms_made rs lows cs time ns fs ss h.1 a)
 
--- without buckets, low indices, or what is kept, nothing changes
-pub no_buckets : (is lows : List ℤ) (ns : List ℕ) (ss : List RollupState) → length is ≡ 0 → ss ≡ cells_created_under is lows ns ss
-no_buckets [] lows ns ss e = refl
-no_buckets (i ∷ is) lows ns ss e = absurd (omega arith)
-
-pub no_lows : (is lows : List ℤ) (ns : List ℕ) (ss : List RollupState) → length lows ≡ 0 → ss ≡ cells_created_under is lows ns ss
-no_lows [] lows ns ss e = refl
-no_lows (i ∷ is) [] ns ss e = refl
-no_lows (i ∷ is) (low ∷ lows) ns ss e = absurd (omega arith)
-
-pub no_rollups : (is lows : List ℤ) (ns : List ℕ) (ss : List RollupState) → length ss ≡ 0 → ss ≡ cells_created_under is lows ns ss
-no_rollups [] lows ns ss e = refl
-no_rollups (i ∷ is) [] ns ss e = refl
-no_rollups (i ∷ is) (low ∷ lows) ns [] e = refl
-no_rollups (i ∷ is) (low ∷ lows) ns (s ∷ ss) e = absurd (omega arith)
-
-pub rollup_series_same : (ss : List RollupState) → KeepRollupSeries ss ss
-rollup_series_same ss = AllZip-same (λ (s t : RollupState). t ≡ with_grid_cells t.grid.cells s) (λ s. refl) ss
-
 pub rollups_stay : (rs : List Rule) (cs : List Column) (ss ts : List RollupState) → AreRollups rs cs ss → KeepRollupSeries ss ts → AreRollups rs cs ts
 rollups_stay rs cs ss ts h k =
-    AllZip-then (IsOfRule cs) (λ (s t : RollupState). t ≡ with_grid_cells t.grid.cells s) (IsOfRule cs) (λ r s t have same. subst (IsOfRule cs r) (sym same) have) rs ss ts h k
+    AllZip-then (IsOfRule cs) KeepsRollupSeries (IsOfRule cs) (λ r s t have same. subst (IsOfRule cs r) (sym same) have) rs ss ts h k
 
 -- ---- step by step
 
@@ -214,42 +195,22 @@ roomed_below low index ns s below = ap (λ b. cond b s (cells_created_for index 
 pub some_roomed : (low index : ℤ) (ns : List ℕ) (i : ℕ) (s t : RollupState) → low ≤ℤ index → t ≡ cells_created_for index (take i ns) s → IsCreatedInPart low index ns s t
 some_roomed low index ns i s t above made = (i, made ∙ sym (roomed_above low index (take i ns) s above))
 
-none_roomed_yet : (low index : ℤ) (ns : List ℕ) (s : RollupState) → IsCreatedInPart low index ns s s
+pub none_roomed_yet : (low index : ℤ) (ns : List ℕ) (s : RollupState) → IsCreatedInPart low index ns s s
 none_roomed_yet low index ns s = (0, elim (int_lt index low) as (λ b. s ≡ cond b s s) [ true ↦ refl | false ↦ refl ])
 
-none_yet : (is lows : List ℤ) (ns : List ℕ) (ss : List RollupState) → AreCreatedInPart is lows ns ss ss
-none_yet [] lows ns ss = refl
-none_yet (i ∷ is) [] ns ss = refl
-none_yet (i ∷ is) (low ∷ lows) ns [] = refl
-none_yet (i ∷ is) (low ∷ lows) ns (s ∷ ss) = (none_roomed_yet low i ns s, none_yet is lows ns ss)
-
-all_roomed_now : (low index : ℤ) (ns : List ℕ) (s : RollupState) → IsCreatedInPart low index ns s (cells_created_from low index ns s)
-all_roomed_now low index ns s = (length ns, ap (λ ms. cells_created_from low index ms s) (sym (take_all (length ns) ns (omega arith))))
+pub all_roomed_now : (low index : ℤ) (ns : List ℕ) (s t : RollupState) → t ≡ cells_created_from low index ns s → IsCreatedInPart low index ns s t
+all_roomed_now low index ns s t made = (length ns, made ∙ ap (λ ms. cells_created_from low index ms s) (sym (take_all (length ns) ns (omega arith))))
 
 -- for all of them
 pub all_now : (is lows : List ℤ) (ns : List ℕ) (ss : List RollupState) → AreCreatedInPart is lows ns ss (cells_created_under is lows ns ss)
 all_now [] lows ns ss = refl
 all_now (i ∷ is) [] ns ss = refl
 all_now (i ∷ is) (low ∷ lows) ns [] = refl
-all_now (i ∷ is) (low ∷ lows) ns (s ∷ ss) = (all_roomed_now low i ns s, all_now is lows ns ss)
+all_now (i ∷ is) (low ∷ lows) ns (s ∷ ss) = (all_roomed_now low i ns s (cells_created_from low i ns s) refl, all_now is lows ns ss)
 
--- out of memory under the first rule
-pub room_begins : (i low : ℤ) (is is' lows lows' : List ℤ) (ns : List ℕ) (s t : RollupState) (ss ss' : List RollupState) → is' ≡ i ∷ is → lows' ≡ low ∷ lows → ss' ≡ s ∷ ss → IsCreatedInPart low i ns s t
-    → AreCreatedInPart is' lows' ns ss' (t ∷ ss)
-room_begins i low is is' lows lows' ns s t ss ss' e d f capacity =
-    subst (λ (js : List ℤ). AreCreatedInPart js lows' ns ss' (t ∷ ss)) (sym e)
-    (subst (λ (ls : List ℤ). AreCreatedInPart (i ∷ is) ls ns ss' (t ∷ ss)) (sym d)
-    (subst (λ (us : List RollupState). AreCreatedInPart (i ∷ is) (low ∷ lows) ns us (t ∷ ss)) (sym f) (capacity, none_yet is lows ns ss)))
-
--- out of memory under a later rule
-pub room_stays : {T E : Type 0} (result : Result T E) (i low : ℤ) (is is' lows lows' : List ℤ) (ns : List ℕ) (s t : RollupState) (ss ss' ts : List RollupState) → is' ≡ i ∷ is → lows' ≡ low ∷ lows → ss' ≡ s ∷ ss
-    → t ≡ cells_created_from low i ns s → OnErr result (AreCreatedInPart is lows ns ss ts) → OnErr result (AreCreatedInPart is' lows' ns ss' (t ∷ ts))
-room_stays (Ok x) i low is is' lows lows' ns s t ss ss' ts e d f made has_cells = tt
-room_stays (Err x) i low is is' lows lows' ns s t ss ss' ts e d f made has_cells =
-    subst (λ (js : List ℤ). AreCreatedInPart js lows' ns ss' (t ∷ ts)) (sym e)
-    (subst (λ (ls : List ℤ). AreCreatedInPart (i ∷ is) ls ns ss' (t ∷ ts)) (sym d)
-    (subst (λ (us : List RollupState). AreCreatedInPart (i ∷ is) (low ∷ lows) ns us (t ∷ ts)) (sym f)
-    (subst (IsCreatedInPart low i ns s) (sym made) (all_roomed_now low i ns s), has_cells)))
+-- the cells are created under a rule; x is the index of its bucket with its low index
+abbrev pub IsCreated : List ℕ → ℤ × ℤ → RollupState → RollupState → Type 0
+IsCreated ns x s t = KeepsRollupSeries s t × (t ≡ cells_created_from x.1 x.0 ns s)
 
 -- ---- each has room for no facts
 

@@ -20,14 +20,14 @@ use Rattle.ts_core.proofs.lists.MembersLemmas.{Among-append, Among-left, Among-r
 use Rattle.ts_core.proofs.lists.NumberedLemmas.{at_among}
 use Rattle.ts_core.proofs.lists.Sorted.{found_among, among_found}
 use Rattle.ts_core.specs.store.Cells.{cell_of, is_rolled, total_of}
-use Rattle.ts_core.specs.store.Marks.{index_of}
 use Rattle.ts_line.specs.Parts.{LinePart, Parts, fact_of}
 use Rattle.ts_raw.specs.Columns.{PointMap, ColumnState}
 use Rattle.ts_store.specs.store.ColumnStates.{facts_in, facts_of_columns, with_points, point_maps, no_column, with_staged, committed, all_committed, AreReady, AreStaged}
-use Rattle.ts_store.specs.write.CellsCreated.{bucket_indices}
+use Rattle.ts_store.specs.write.CellsCreated.{KeepsRollupSeries}
 use Rattle.ts_store.specs.write.LivePuts.{WasThere, IsLivePut, AreOfFields}
 use Rattle.ts_store.specs.write.PointPuts.{AreLiveOver, PutsPoint, CommitsPoint, ArePointsStaged}
 use Rattle.ts_store.specs.read.PointsRead.{number_of_points}
+use Rattle.ts_store.specs.rollup.ChangedLists.{ChangesBeside}
 use Rattle.ts_store.specs.rollup.Rollups.{RollupState, IsRollupSeriesOf, AreRollups, rollup_series_at, with_grid_cells, cells_of}
 use Rattle.ts_store.specs.retain.RollupSteps.{with_all_grid_cells}
 use Rattle.ts_store.proofs.write.StagedColumns.{points_at, one_committed, staged_others, same_names, ready_others, committed_is}
@@ -139,25 +139,6 @@ module _ (cs : List Column) (ss : List ColumnState) (n : ℕ) (f : Fact) (once :
 
 -- ---- under each rule
 
--- without rules, and without what is kept for them
-pub none_put : (rs : List Rule) (f : Fact) (facts : List Fact) (ms : List CellMap) → length rs ≡ 0 → ms ≡ put_cells rs f facts ms
-none_put [] f facts ms e = refl
-none_put (r ∷ rs) f facts ms e = absurd (omega arith)
-
-pub nowhere_put : (rs : List Rule) (f : Fact) (facts : List Fact) (ss : List RollupState) → length ss ≡ 0 → cells_of ss ≡ put_cells rs f facts (cells_of ss)
-nowhere_put [] f facts ss e = refl
-nowhere_put (r ∷ rs) f facts [] e = refl
-nowhere_put (r ∷ rs) f facts (s ∷ ss) e = absurd (omega arith)
-
--- each rule has its bucket
-pub buckets-none : (rs : List Rule) (time : ℤ) (is : List ℤ) → is ≡ bucket_indices rs time → length is ≡ 0 → length rs ≡ 0
-buckets-none rs time is e none = sym (length-map rs (λ (r : Rule). index_of r time)) ∙ sym (ap length e) ∙ none
-
-pub buckets-more : (r : Rule) (rs rs' : List Rule) (time index : ℤ) (is is' : List ℤ) → rs' ≡ r ∷ rs → is' ≡ index ∷ is → is' ≡ bucket_indices rs' time → (index ≡ index_of r time) × (is ≡ bucket_indices rs time)
-buckets-more r rs rs' time index is is' d e h =
-    let both : index ∷ is ≡ bucket_indices (r ∷ rs) time = sym e ∙ h ∙ ap (λ (qs : List Rule). bucket_indices qs time) d in
-    (ap (λ (js : List ℤ). get_or js 0 index) both, ap (λ (js : List ℤ). drop 1 js) both)
-
 -- each has an entry for the column
 pub inside_each : (n m k : ℕ) (ss : List RollupState) → k ≡ n → n < m → AllByRecursion (λ (s : RollupState). length s.series_of_column ≡ m) ss → AllByRecursion (λ (s : RollupState). k < length s.series_of_column) ss
 inside_each n m k [] e l all = tt
@@ -177,13 +158,18 @@ unrolled_put (r ∷ rs) cs (s ∷ ss) n f facts a at none =
     let passed : is_rolled r f ≡ false = subst (IsRollupSeriesOf r f.column s.grid.rollup_series) none.0 (rollup_series_known r s.grid.rollup_series cs s.series_of_column n f.column a.0 at) in
     ap₂ (λ (m : CellMap) (ms : List CellMap). m ∷ ms) (sym (ap (λ b. cond b (refolded r (cell_of r f) facts s.grid.cells) s.grid.cells) passed)) (unrolled_put rs cs ss n f facts a.1 at none.1)
 
--- the first rule, and the others
-pub all_put-more : (r : Rule) (rs rs' : List Rule) (states : List ColumnState) (column : ℕ) (time value : ℤ) (old : Option ℤ) (s t : RollupState) (ss ts ss' : List RollupState) → rs' ≡ r ∷ rs → ss' ≡ s ∷ ss
-    → PutsPoint (r ∷ []) states column time value old (s ∷ []) (t ∷ []) → PutsPoint rs states column time value old ss ts → PutsPoint rs' states column time value old ss' (t ∷ ts)
-all_put-more r rs rs' states column time value old s t ss ts ss' d e one others = λ cs before f over put.
-    let all : AreLiveOver (r ∷ rs) cs states before (s ∷ ss) = subst (AreLiveOver (r ∷ rs) cs states before) e (subst (λ (qs : List Rule). AreLiveOver qs cs states before ss') d over) in
-    ap₂ (λ (ms ns : List CellMap). ms ++ ns) (one cs before f (first_over r rs cs states before s ss all) put) (others cs before f (others_over r rs cs states before s ss all) put)
-    ∙ sym (ap₂ (λ (qs : List Rule) (us : List RollupState). put_cells qs f (facts_of (with_points cs (point_maps states))) (cells_of us)) d e)
+module _ (states : List ColumnState) (column : ℕ) (time value : ℤ) (old : Option ℤ) where
+  -- the rollup of a rule changes
+  abbrev pub PutsUnder : Rule → RollupState → RollupState → Type 0
+  PutsUnder r s t = KeepsRollupSeries s t × PutsPoint (r ∷ []) states column time value old (s ∷ []) (t ∷ [])
+
+  -- the rollups of all rules do
+  pub all_put : (rs : List Rule) (ss ts : List RollupState) → ChangesBeside PutsUnder rs ss ts → PutsPoint rs states column time value old ss ts
+  all_put [] ss ts h = λ cs before f over put. ap cells_of h
+  all_put (r ∷ rs) [] ts h = λ cs before f over put. ap cells_of h
+  all_put (r ∷ rs) (s ∷ ss) [] h = absurd h
+  all_put (r ∷ rs) (s ∷ ss) (t ∷ ts) h = λ cs before f over put.
+      ap₂ (λ (ms ns : List CellMap). ms ++ ns) (h.0.1 cs before f (first_over r rs cs states before s ss over) put) (all_put rs ss ts h.1 cs before f (others_over r rs cs states before s ss over) put)
 
 pub grids_kept_more : (s t : RollupState) (ss ts ss' : List RollupState) → ss' ≡ s ∷ ss → t ≡ with_grid_cells t.grid.cells s → ts ≡ with_all_grid_cells (cells_of ts) ss → t ∷ ts ≡ with_all_grid_cells (cells_of (t ∷ ts)) ss'
 grids_kept_more s t ss ts ss' e one others = ap₂ (λ (u : RollupState) (us : List RollupState). u ∷ us) one others ∙ sym (ap (with_all_grid_cells (cells_of (t ∷ ts))) e)

@@ -4,6 +4,7 @@ use Rattle.std.specs.List.{AllZip, zip}
 use Rattle.ts_core.specs.lists.Beside.{changed_beside}
 use Rattle.ts_core.specs.settings.Settings.{Rule}
 use Rattle.ts_core.specs.store.Marks.{index_of}
+use Rattle.ts_store.specs.rollup.ChangedLists.{ChangesBeside}
 use Rattle.ts_store.specs.rollup.Rollups.{RollupState, with_grid_cells, cell_created_in, rollup_series_at}
 
 -- the index of a time's bucket under each rule
@@ -29,12 +30,12 @@ IsCreatedInPart low index ns s t = (n : ℕ) × (t ≡ cells_created_from low in
 
 -- the same under each rule, in the bucket with its index
 abbrev pub AreCreatedInPart : List ℤ → List ℤ → List ℕ → List RollupState → List RollupState → Type 0
-AreCreatedInPart [] lows ns ss ts = ts ≡ ss
-AreCreatedInPart (index ∷ buckets) [] ns ss ts = ts ≡ ss
-AreCreatedInPart (index ∷ buckets) (low ∷ lows) ns [] ts = ts ≡ []
-AreCreatedInPart (index ∷ buckets) (low ∷ lows) ns (s ∷ ss) [] = ⊥
-AreCreatedInPart (index ∷ buckets) (low ∷ lows) ns (s ∷ ss) (t ∷ ts) = IsCreatedInPart low index ns s t × AreCreatedInPart buckets lows ns ss ts
+AreCreatedInPart buckets lows ns = ChangesBeside (λ (x : ℤ × ℤ). IsCreatedInPart x.1 x.0 ns) (zip buckets lows)
 
--- the cells of each rule may have changed, and nothing else
+-- the cells of a rule may have changed, and nothing else
+abbrev pub KeepsRollupSeries : RollupState → RollupState → Type 0
+KeepsRollupSeries s t = t ≡ with_grid_cells t.grid.cells s
+
+-- the same for each rule
 abbrev pub KeepRollupSeries : List RollupState → List RollupState → Type 0
-KeepRollupSeries = AllZip (λ (s t : RollupState). t ≡ with_grid_cells t.grid.cells s)
+KeepRollupSeries = AllZip KeepsRollupSeries

@@ -94,6 +94,7 @@ impl<A: Allocator + Copy> ColumnFacts<A> {
         requires few { is_too_many self.old.series (series_of line.now) ≡ false }
         requires rollups { AreRollups rules.now (map column_of self.old.columns) self.old.rollups }
         requires intervals { AllByRecursion (λ r. pos 1 ≤ℤ r.interval) rules.now }
+        requires lows { length lows.now ≡ length rules.now }
         requires live { StayLive rules.now lows.now self.old.columns (cells_of self.old.rollups) }
         requires fit { length (facts_in self.old.columns) + length (line_facts line.now) ≤ 2 ^ 62 }
         ensures ok { OnOk result (PutsLine rules.now lows.now self.old self.new line.now) }

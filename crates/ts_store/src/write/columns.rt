@@ -28,16 +28,10 @@ fn prepare_rollups<A: Allocator + Copy>(
     ensures kept { KeepCells rollups.old rollups.new }
     ensures next { OnOk result (HaveNext rules.now (record { series = key.now; field = field.now }) rollups.new) }
 {
-    match rules.split_first() {
-        None => Ok(()),
-        Some((rule, rules)) => match rollups.split_first_mut() {
-            None => Ok(()),
-            Some((rollup, rollups)) => {
-                rollup.prepare(rule, key, field)?;
-                prepare_rollups(rules, rollups, key, field)
-            }
-        },
+    for (i, rollup) in rollups.iter_mut().enumerate() {
+        rollup.prepare(&rules[i], key, field)?;
     }
+    Ok(())
 }
 
 /// Assigns the new column, under each rule, the rollup series that `prepare_rollups` found. Does not allocate.

@@ -83,22 +83,24 @@ fn update_cells<A: Allocator + Copy>(
     requires intervals { AllByRecursion (λ r. pos 1 ≤ℤ r.interval) rules.now }
     requires buckets { buckets.now ≡ bucket_indices rules.now time }
     requires column { column < length columns.now }
+    requires rules { length rollups.old ≡ length rules.now }
     requires each { AllByRecursion (λ s. length s.series_of_column ≡ length columns.now) rollups.old }
     requires few { number_of_points columns.now ≤ 2 ^ 62 }
     ensures kept { rollups.new ≡ with_all_grid_cells (cells_of rollups.new) rollups.old }
     ensures cells { PutsPoint rules.now columns.now column time value old rollups.old rollups.new }
 {
-    let Some((rule, rules)) = rules.split_first() else {
-        return;
-    };
-    let Some((index, buckets)) = buckets.split_first() else {
-        return;
-    };
-    let Some((rollup, rollups)) = rollups.split_first_mut() else {
-        return;
-    };
-    update_cell(rule, index, rollup, columns, column, time, value, old);
-    update_cells(rules, buckets, rollups, columns, column, time, value, old);
+    for (i, rollup) in rollups.iter_mut().enumerate() {
+        update_cell(
+            &rules[i],
+            &buckets[i],
+            rollup,
+            columns,
+            column,
+            time,
+            value,
+            old,
+        );
+    }
 }
 
 /// Commits the staged point of a column, which has this time and value, and corrects the cells of the rules. Searches
@@ -115,6 +117,7 @@ fn commit_point<A: Allocator + Copy>(
     requires intervals { AllByRecursion (λ r. pos 1 ≤ℤ r.interval) rules.now }
     requires buckets { buckets.now ≡ bucket_indices rules.now time }
     requires ready { AreReady columns.old.items (column ∷ []) }
+    requires rules { length rollups.old ≡ length rules.now }
     requires each { AllByRecursion (λ s. length s.series_of_column ≡ length columns.old.items) rollups.old }
     requires few { number_of_points columns.old.items + 1 ≤ 2 ^ 62 }
     ensures columns { columns.new.items ≡ set columns.old.items column (committed (get_or columns.old.items column no_column)) }
@@ -155,6 +158,7 @@ pub(crate) fn commit_points<A: Allocator + Copy, L: Allocator>(
     requires buckets { buckets.now ≡ bucket_indices rules.now time }
     requires ready { AreReady columns.old.items numbers.now }
     requires fields { length fields.now ≡ length numbers.now }
+    requires rules { length rollups.old ≡ length rules.now }
     requires each { AllByRecursion (λ s. length s.series_of_column ≡ length columns.old.items) rollups.old }
     requires few { number_of_points columns.old.items + length numbers.now ≤ 2 ^ 62 }
     ensures columns { columns.new.items ≡ all_committed columns.old.items numbers.now }

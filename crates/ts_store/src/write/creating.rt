@@ -55,20 +55,15 @@ pub(crate) fn create_cells<A: Allocator + Copy>(
     rollups: &mut [Rollup<A>],
     touched: &[ColumnId],
 ) -> Result<(), AllocError>
-    requires { AllByRecursion (λ s. AllByRecursion (λ n. n < length s.series_of_column) touched.now) rollups.old }
+    requires buckets { length buckets.now ≡ length rollups.old }
+    requires lows { length lows.now ≡ length buckets.now }
+    requires each { AllByRecursion (λ s. AllByRecursion (λ n. n < length s.series_of_column) touched.now) rollups.old }
     ensures kept { KeepRollupSeries rollups.old rollups.new }
     ensures ok { OnOk result (rollups.new ≡ cells_created_under buckets.now lows.now touched.now rollups.old) }
     ensures err { OnErr result (AreCreatedInPart buckets.now lows.now touched.now rollups.old rollups.new) }
 {
-    let Some((index, buckets)) = buckets.split_first() else {
-        return Ok(());
-    };
-    let Some((low, lows)) = lows.split_first() else {
-        return Ok(());
-    };
-    let Some((rollup, rollups)) = rollups.split_first_mut() else {
-        return Ok(());
-    };
-    create_cells_under(index, low, rollup, touched)?;
-    create_cells(buckets, lows, rollups, touched)
+    for (i, rollup) in rollups.iter_mut().enumerate() {
+        create_cells_under(&buckets[i], &lows[i], rollup, touched)?;
+    }
+    Ok(())
 }

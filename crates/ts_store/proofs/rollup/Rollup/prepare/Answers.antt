@@ -1,4 +1,4 @@
-use Rattle.std.proofs.Common.{◌∙◌, ◌++◌, [], Some, None, ap, sym, subst}
+use Rattle.std.proofs.Common.{◌∙◌, ◌++◌, [], Some, ap, sym, subst}
 use Rattle.std.proofs.lemmas.List.{append-nil}
 use Rattle.ts_store.specs.rollup.ColumnLists.{lists_in, capacities_in}
 use Rattle.ts_store.specs.rollup.Rollups.{RollupState, IsRollup, has_spare}

@@ -40,6 +40,9 @@ insert_line-requires-clause-rollups g c =
     let facts = c.self.inside.facts in
     subst (λ (rs : List Rule). AreRollups rs (map column_of facts.columns) facts.rollups) (sym c.rules.ensures.value) c.self.invariant.rollups
 
+pub insert_line-requires-clause-lows : goal.insert_line-requires-clause-lows
+insert_line-requires-clause-lows g c = ap length c.lows.ensures ∙ c.self.invariant.sized.lows ∙ ap length (sym c.rules.ensures.value)
+
 pub insert_line-requires-clause-live : goal.insert_line-requires-clause-live
 insert_line-requires-clause-live g c =
     let before = c.self.inside in

@@ -1,9 +1,10 @@
-use Rattle.std.proofs.Common.{◌≡◌, ◌⊎◌, ◌∙◌, List, [], ℕ, ℤ, length, map, ap, sym, subst, inl, inr, refl, ◌<◌, arith}
+use Rattle.std.proofs.Common.{◌≡◌, ◌⊎◌, ◌∙◌, Vec, List, [], ℕ, ℤ, length, map, ap, sym, subst, inl, inr, refl, ◌<◌, arith}
 use Rattle.std.specs.Vec.{with_items}
 use Rattle.std.proofs.lemmas.List.{append-nil, with_items_is, length-map}
 use Rattle.ts_core.specs.lists.Members.{AllDistinct}
 use Rattle.ts_core.specs.facts.Facts.{Series, Column, Fact}
 use Rattle.ts_core.specs.settings.Settings.{Rule}
+use Rattle.ts_core.specs.store.Marks.{index_of}
 use Rattle.ts_core.specs.facts.Times.{least_time}
 use Rattle.ts_core.specs.store.History.{MayBeTaken}
 use Rattle.ts_core.specs.store.StoreStates.{ColumnPoints, column_of, facts_of}
@@ -28,7 +29,7 @@ use Rattle.ts_store.proofs.write.CellsMade.{gain_nothing, line_cells}
 use Rattle.ts_store.proofs.read.ColumnsReads.{facts-length}
 use Rattle.ts_store.proofs.write.PointsPut.{of_fields, staged_length, wide_of, live_same}
 use Rattle.ts_store.proofs.retain.RollupMoves.{rollups_with}
-use Rattle.ts_store.proofs.rollup.RollupsGrow.{numbers_inside}
+use Rattle.ts_store.proofs.rollup.RollupsGrow.{rollups-length, numbers_inside}
 use Rattle.ts_store.proofs.write.CellsCreatedLemmas.{rooms_same, rollups_stay, part_rooms}
 use Rattle.ts_store.proofs.write.RollupsPut.{rollups_held, staged_inside, line_rooms, line_gains, all_gained}
 use Rattle.ts_store.proofs.store.ColumnsLemmas.{known_of, names_held}
@@ -45,6 +46,10 @@ still_rollups : (rules : List Rule) (old : StoreContent) (before after : Indexed
 still_rollups rules old before after states us was same held have =
     subst (λ (cs : List Column). AreRollups rules cs us) (names_held before states held.each ∙ sym same)
     (subst (λ (h : StoreContent). AreRollups rules (map column_of h.columns) h.rollups) (sym was) have)
+
+-- each rule has its rollup
+rule_count : {A : Type 0} (rules : List Rule) (old : StoreContent) (before : Indexed) (states : List ColumnState) (us : Vec RollupState A) → content_of before states us.items ≡ old → AreRollups rules (map column_of old.columns) old.rollups → us.len ≡ length rules
+rule_count rules old before states us was have = us.ok.0 ∙ ap (λ (h : StoreContent). length h.rollups) was ∙ rollups-length rules (map column_of old.columns) old.rollups have
 
 -- the state after the call ran out of memory
 grown : (rules : List Rule) (lows : List ℤ) (p : Parts) (key : Series) (old : StoreContent) (before between after : Indexed) (states states' : List ColumnState) (us us' us'' : List RollupState) → key ≡ series_of p → content_of before states us ≡ old
@@ -83,6 +88,10 @@ commit_points-requires-clause-fields g c =
     let ss : List ColumnState = c.prepare_line.new.columns.items in
     let ns : List ℕ = c.prepare_line.new.touched.items in
     ap length c.fields-2.ensures.value ∙ sym (length-map p.fields (fact_of p)) ∙ sym (staged_length cs ss ns (line_facts p) c.in_ok-prepare_line.ensures.line.staged) ∙ sym (ap length c.as_slice-4.ensures.value)
+
+pub commit_points-requires-clause-rules : goal.commit_points-requires-clause-rules
+commit_points-requires-clause-rules g c =
+    ap length c.as_mut_slice-3.ensures.value ∙ sym (with_items (with_items c.self.inside.rollups c.prepare_line.new.rollups) c.create_cells.new.rollups).ok.0 ∙ rule_count _ _ _ _ c.self.inside.rollups c.self.view_is c.requires.rollups
 
 pub commit_points-requires-clause-each : goal.commit_points-requires-clause-each
 commit_points-requires-clause-each g c =
@@ -179,8 +188,16 @@ returns-clause-ok g c =
           _ gains' has_cells facts;
     }
 
-pub create_cells-requires : goal.create_cells-requires
-create_cells-requires g c =
+pub create_cells-requires-clause-lows : goal.create_cells-requires-clause-lows
+create_cells-requires-clause-lows g c = c.requires.lows ∙ sym (ap length (c.as_slice.ensures.value ∙ c.in_ok-list_buckets.ensures) ∙ length-map c.args.rules.now (λ (r : Rule). index_of r c.time.result))
+
+pub create_cells-requires-clause-buckets : goal.create_cells-requires-clause-buckets
+create_cells-requires-clause-buckets g c =
+    ap length (c.as_slice.ensures.value ∙ c.in_ok-list_buckets.ensures) ∙ length-map c.args.rules.now (λ (r : Rule). index_of r c.time.result)
+    ∙ sym (ap length c.as_mut_slice-2.ensures.value ∙ sym (with_items c.self.inside.rollups c.prepare_line.new.rollups).ok.0 ∙ rule_count _ _ _ _ c.self.inside.rollups c.self.view_is c.requires.rollups)
+
+pub create_cells-requires-clause-each : goal.create_cells-requires-clause-each
+create_cells-requires-clause-each g c =
     let cs : List Column = c.prepare_line.new.index.columns in
     let ns : List ℕ = c.prepare_line.new.touched.items in
     let long : length c.prepare_line.new.rollups ≡ c.self.inside.rollups.len = omega (arith, c.prepare_line.auto.rollups, ap length c.as_mut_slice.ensures.value, c.self.inside.rollups.ok.0) in
