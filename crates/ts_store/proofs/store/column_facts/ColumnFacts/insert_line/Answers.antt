@@ -11,7 +11,7 @@ use Rattle.ts_core.specs.store.StoreStates.{ColumnPoints, column_of, facts_of}
 use Rattle.ts_core.specs.moves.StoreMoves.{PutsFacts, GainEmptyCells}
 use Rattle.ts_line.specs.Parts.{LinePart, Parts, series_of, fact_of, line_facts}
 use Rattle.ts_raw.specs.Columns.{ColumnState}
-use Rattle.ts_raw.specs.Indexed.{Indexed}
+use Rattle.ts_raw.specs.Indexed.{Indexed, IsSoundIndex}
 use Rattle.ts_core.specs.lists.Numbered.{Gains, IsAt}
 use Rattle.ts_core.proofs.lists.Results.{on_any_err}
 use Rattle.ts_store.specs.write.LinesInColumns.{GrowsForLine}
@@ -67,6 +67,13 @@ grown rules lows p key old before between after states states' us us' us'' named
       cells = cells;
       taken = taken;
     }))
+
+-- the state after the call ran out of memory before it created a column: at most the series is registered
+registered_only : (rules : List Rule) (lows : List ℤ) (p : Parts) (key : Series) (old : StoreContent) (before after : Indexed) (states : List ColumnState) (us : List RollupState) → key ≡ series_of p → content_of before states us ≡ old → MayGain before.series after.series key
+    → after.columns ≡ before.columns → IsSoundIndex after → IsSoundContent before states → AreRollups rules (map column_of old.columns) old.rollups → GrowsForLine rules lows old (content_of after states us) p
+registered_only rules lows p key old before after states us named was gains same sound held have =
+    grown rules lows p key old before after after states states us us us named was gains same refl (none_made (columns_in after states) (line_facts p)) (series_held before after states sound same held) refl
+    (still_rollups rules old before after states us was same held have) (rooms_same rules lows (cells_of us)) (gain_nothing (line_facts p) rules lows (cells_of us)) (inl refl)
 
 pub commit_points-requires-clause-ready : goal.commit_points-requires-clause-ready
 commit_points-requires-clause-ready g c =
@@ -218,38 +225,17 @@ prepare_line-requires-clause-held g c = series_held c.self.inside.index c.regist
 
 pub returns-in-Err-clause-err : goal.returns-in-Err-clause-err
 returns-in-Err-clause-err g c =
-    let before : Indexed = c.self.inside.index in
-    let after : Indexed = c.register.new.self in
-    let states : List ColumnState = c.self.inside.columns.items in
-    let us : List RollupState = c.self.inside.rollups.items in
-    grown c.args.rules.now c.args.lows.now c.args.line.now c.args.key.now c.args.self.now before after after states states us us us c.requires.key c.self.view_is (inl c.in-Err.ensures.registered.kept) c.register.ensures.columns refl
-    (none_made (columns_in after states) (line_facts c.args.line.now)) (series_held before after states c.register.ensures.sound c.register.ensures.columns c.self.invariant) refl
-    (still_rollups c.args.rules.now c.args.self.now before after states us c.self.view_is c.register.ensures.columns c.self.invariant c.requires.rollups) (rooms_same c.args.rules.now c.args.lows.now (cells_of us))
-    (gain_nothing (line_facts c.args.line.now) c.args.rules.now c.args.lows.now (cells_of us)) (inl refl)
+    registered_only _ _ _ _ _ _ _ _ _ c.requires.key c.self.view_is (inl c.in-Err.ensures.registered.kept) c.register.ensures.columns c.register.ensures.sound c.self.invariant c.requires.rollups
 
 pub returns-in_err-reserve-clause-err : goal.returns-in_err-reserve-clause-err
 returns-in_err-reserve-clause-err g c =
-    let before : Indexed = c.self.inside.index in
-    let after : Indexed = c.register.new.self in
-    let states : List ColumnState = c.self.inside.columns.items in
-    let us : List RollupState = c.self.inside.rollups.items in
     on_any_err c.from_residual.result
-    (grown c.args.rules.now c.args.lows.now c.args.line.now c.args.key.now c.args.self.now before after after states states us us us c.requires.key c.self.view_is (inr c.in-Ok.ensures.registered.gains) c.register.ensures.columns refl
-    (none_made (columns_in after states) (line_facts c.args.line.now)) (series_held before after states c.register.ensures.sound c.register.ensures.columns c.self.invariant) refl
-    (still_rollups c.args.rules.now c.args.self.now before after states us c.self.view_is c.register.ensures.columns c.self.invariant c.requires.rollups) (rooms_same c.args.rules.now c.args.lows.now (cells_of us))
-    (gain_nothing (line_facts c.args.line.now) c.args.rules.now c.args.lows.now (cells_of us)) (inl refl))
+    (registered_only _ _ _ _ _ _ _ _ _ c.requires.key c.self.view_is (inr c.in-Ok.ensures.registered.gains) c.register.ensures.columns c.register.ensures.sound c.self.invariant c.requires.rollups)
 
 pub returns-in_err-list_buckets-clause-err : goal.returns-in_err-list_buckets-clause-err
 returns-in_err-list_buckets-clause-err g c =
-    let before : Indexed = c.self.inside.index in
-    let after : Indexed = c.register.new.self in
-    let states : List ColumnState = c.self.inside.columns.items in
-    let us : List RollupState = c.self.inside.rollups.items in
     on_any_err c.from_residual-in_err-list_buckets.result
-    (grown c.args.rules.now c.args.lows.now c.args.line.now c.args.key.now c.args.self.now before after after states states us us us c.requires.key c.self.view_is (inr c.in-Ok.ensures.registered.gains) c.register.ensures.columns refl
-    (none_made (columns_in after states) (line_facts c.args.line.now)) (series_held before after states c.register.ensures.sound c.register.ensures.columns c.self.invariant) refl
-    (still_rollups c.args.rules.now c.args.self.now before after states us c.self.view_is c.register.ensures.columns c.self.invariant c.requires.rollups) (rooms_same c.args.rules.now c.args.lows.now (cells_of us))
-    (gain_nothing (line_facts c.args.line.now) c.args.rules.now c.args.lows.now (cells_of us)) (inl refl))
+    (registered_only _ _ _ _ _ _ _ _ _ c.requires.key c.self.view_is (inr c.in-Ok.ensures.registered.gains) c.register.ensures.columns c.register.ensures.sound c.self.invariant c.requires.rollups)
 
 pub returns-in_err-prepare_line-clause-err : goal.returns-in_err-prepare_line-clause-err
 returns-in_err-prepare_line-clause-err g c =
