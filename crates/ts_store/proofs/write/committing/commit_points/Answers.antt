@@ -1,4 +1,4 @@
-use Rattle.std.proofs.Common.{rules, ◌≡◌, ◌∙◌, ◌+◌, ◌≤◌, ◌^◌, ℕ, ℤ, suc, List, ◌∷◌, length, ap, sym, subst, refl, arith, SFits, w64, to_z, of_z, to_z-of_z}
+use Rattle.std.proofs.Common.{rules, ◌≡◌, ◌∙◌, ◌+◌, ◌≤◌, ◌^◌, ℕ, ℤ, suc, List, length, ap, sym, subst, refl, arith, SFits, w64, to_z-of_z}
 use Rattle.std.proofs.lemmas.Slice.Zip.{either_empty_from_Zip}
 use Rattle.std.specs.List.{AllByRecursion}
 use Rattle.ts_line.specs.Parts.{LinePart}
@@ -36,7 +36,7 @@ commit_point-requires-clause-ready g c =
 
 pub commit_point-requires-clause-each : goal.commit_point-requires-clause-each
 commit_point-requires-clause-each g c =
-    wide_still (length c.loop-number.columns.items) c.args.rollups.now c.loop-number.rollups c.loop-number.invariant.kept
+    wide_still _ _ _ c.loop-number.invariant.kept
     (subst (λ n. AllByRecursion (λ (s : RollupState). length s.series_of_column ≡ n) c.args.rollups.now) (sym c.loop-number.invariant.long) c.requires.each)
 
 pub commit_point-requires-clause-few : goal.commit_point-requires-clause-few
@@ -48,46 +48,29 @@ commit_point-requires-clause-few g c =
 pub loop-number-preserved : goal.loop-number-preserved
 loop-number-preserved g c =
     let ss : List ColumnState = c.loop-number.columns.items in
-    let ss' : List ColumnState = c.commit_point.new.columns.items in
-    let us : List RollupState = c.loop-number.rollups in
-    let us' : List RollupState = c.commit_point.new.rollups in
-    let n : ℕ = c.in-Some.number.now in
-    let x : LinePart × ℤ = c.in-Some.field.now in
-    let ns' : List ℕ = c.loop-number.number-iterator.a.rest.now in
     let ns : List ℕ = c.next.new.self.a.rest.now in
-    let xs' : List (LinePart × ℤ) = c.loop-number.number-iterator.b.rest.now in
-    let xs : List (LinePart × ℤ) = c.next.new.self.b.rest.now in
-    let ids : ns' ≡ n ∷ ns = c.in-Some.ensures.steps.0 in
-    let values : xs' ≡ x ∷ xs = c.in-Some.ensures.steps.1 in
-    let longer : length ns' ≡ suc (length ns) = ap length ids in
-    let wider : length xs' ≡ suc (length xs) = ap length values in
+    let ids = c.in-Some.ensures.steps.0 in
+    let values = c.in-Some.ensures.steps.1 in
+    let longer : length c.loop-number.number-iterator.a.rest.now ≡ suc (length ns) = ap length ids in
+    let wider : length c.loop-number.number-iterator.b.rest.now ≡ suc (length c.next.new.self.b.rest.now) = ap length values in
     let fits : SFits w64 c.value.result = search rules in
-    let value : to_z w64 (of_z w64 c.value.result) ≡ x.1 = to_z-of_z fits ∙ c.value.ensures in
-    let next = next_ready ss ss' n ns ns' ids c.commit_point.ensures.columns c.loop-number.invariant.ready c.loop-number.invariant.few in
+    let next = next_ready _ _ _ _ _ ids c.commit_point.ensures.columns c.loop-number.invariant.ready c.loop-number.invariant.few in
     record {
       ready = next.0;
       few = next.2;
       same = omega (arith, longer, wider, c.loop-number.invariant.same);
       long = next.1 ∙ c.loop-number.invariant.long;
       columns = ap (λ (zs : List ColumnState). all_committed zs ns) c.commit_point.ensures.columns ∙ sym (ap (all_committed ss) ids) ∙ c.loop-number.invariant.columns;
-      kept = grids_kept_then c.args.rollups.now us us' c.loop-number.invariant.kept c.commit_point.ensures.kept;
+      kept = grids_kept_then _ _ _ c.loop-number.invariant.kept c.commit_point.ensures.kept;
       cells = λ cs after ends others. c.loop-number.invariant.cells cs after ends
-          (rest_put c.args.rules.now c.args.time cs ss ss' us us' n ns ns' x xs xs' (to_z w64 (of_z w64 c.value.result)) after ends ids values value c.commit_point.ensures.columns c.commit_point.ensures.kept next.3
-          c.commit_point.ensures.cells others);
+          (rest_put c.args.rules.now _ cs _ _ _ _ _ _ _ _ _ _ _ after ends ids values (to_z-of_z fits ∙ c.value.ensures) c.commit_point.ensures.columns c.commit_point.ensures.kept next.3 c.commit_point.ensures.cells others);
     }
 
 pub returns-clause-columns : goal.returns-clause-columns
 returns-clause-columns g c =
-    let ns : List ℕ = c.loop-number.number-iterator.a.rest.now in
-    let xs : List (LinePart × ℤ) = c.loop-number.number-iterator.b.rest.now in
-    let none : length ns ≡ 0 = none_left ns xs c.loop-number.invariant.same (either_empty_from_Zip c.loop-number.number-iterator c.next.new.self c.next.result c.in-None.is c.next.ensures.steps) in
-    none_committed c.loop-number.columns.items ns none ∙ c.loop-number.invariant.columns
+    none_committed _ _ (none_left _ _ c.loop-number.invariant.same (either_empty_from_Zip c.loop-number.number-iterator c.next.new.self c.next.result c.in-None.is c.next.ensures.steps)) ∙ c.loop-number.invariant.columns
 
 pub returns-clause-cells : goal.returns-clause-cells
 returns-clause-cells g c = λ cs fs over put.
-    let ss : List ColumnState = c.loop-number.columns.items in
-    let us : List RollupState = c.loop-number.rollups in
-    let ns : List ℕ = c.loop-number.number-iterator.a.rest.now in
-    let xs : List (LinePart × ℤ) = c.loop-number.number-iterator.b.rest.now in
-    let none : length ns ≡ 0 = none_left ns xs c.loop-number.invariant.same (either_empty_from_Zip c.loop-number.number-iterator c.next.new.self c.next.result c.in-None.is c.next.ensures.steps) in
-    c.loop-number.invariant.cells cs (with_points cs (point_maps ss)) (cells_of us) (rest_done c.args.rules.now c.args.time ns xs cs ss us none) fs over put
+    let none = none_left _ _ c.loop-number.invariant.same (either_empty_from_Zip c.loop-number.number-iterator c.next.new.self c.next.result c.in-None.is c.next.ensures.steps) in
+    c.loop-number.invariant.cells cs (with_points cs (point_maps c.loop-number.columns.items)) (cells_of c.loop-number.rollups) (rest_done c.args.rules.now _ _ _ cs _ _ none) fs over put
