@@ -14,6 +14,7 @@ use Rattle.ts_core.proofs.lists.MembersLemmas.{Among-left, Among-right, Among-ap
 use Rattle.ts_core.proofs.facts.Ids.{series_total, exact_series}
 use Rattle.ts_core.proofs.lists.NumberedLemmas.{at_within, at_among, same_at, once_more, same_place}
 use Rattle.ts_core.proofs.lists.Permutations.{moved_all, moved_among}
+use Rattle.ts_cells.proofs.GridMoves.{all_at}
 use Rattle.ts_raw.specs.Indexed.{Indexed}
 use Rattle.ts_store.specs.image.SavedContent.{SavedColumn, SavedSeries, saved_field, saved_key, SavesColumns, SavesSeries}
 use Rattle.ts_store.specs.image.ColumnsListed.{without_columns, with_saved_column, ListsFirst, ListsColumns}
@@ -171,6 +172,10 @@ pub left_next : {X : Type 0} (P : X → Type 0) (xs : List X) (i : ℕ) (x : X) 
 left_next P [] i x l e h = absurd (omega (arith, l))
 left_next P (y ∷ xs) zero x l e h = subst P (sym e) h.0
 left_next P (y ∷ xs) (suc i) x l e h = left_next P xs i x (omega (arith, l)) e h
+
+-- the item with this index
+pub item_has : {X : Type 0} (P : X → Type 0) (xs : List X) (i : ℕ) (x d : X) → i < length xs → x ≡ get_or xs i d → AllByRecursion P xs → P x
+item_has P xs i x d l e h = subst P (sym e) (all_at P xs i d l h)
 
 pub all_taken : {X : Type 0} (P : X → Type 0) (xs : List X) (n : ℕ) → length xs ≤ n → AllByRecursion P (take n xs) → AllByRecursion P xs
 all_taken P [] n l h = tt

@@ -1,7 +1,7 @@
 -- The effect of moving a column: on rollups, and on columns with their points.
 use Rattle.std.proofs.Common.{◌≡◌, ℕ, zero, suc, ℤ, ◌<◌, ◌≤◌, true, false, cond, List, [], ◌∷◌, ◌++◌, length, filter, map, set, get_or, refl, sym, ◌∙◌, ap, ap₂, subst, inl, inr, arith, Some, None, is_some, true≢false, int_le, Equal}
 use Rattle.std.specs.Ordering.{int_cmp}
-use Rattle.std.specs.List.{slice_get, AllByRecursion}
+use Rattle.std.specs.List.{slice_get}
 use Rattle.std.specs.Cmp.{int_cmp_total}
 use Rattle.std.specs.FinMap as finmap
 use Rattle.std.specs.FinMap.{entries, entries_sorted, get-entries, get-retain_keys, int_cmp-IsAntisymmetric}
@@ -24,10 +24,10 @@ use Rattle.ts_store.specs.store.ColumnStates.{point_maps, with_points, columns_i
 use Rattle.ts_store.specs.read.PointsRead.{number_of_points}
 use Rattle.ts_store.specs.rollup.Rollups.{RollupState, IsRollupSeriesOf, AreRollups, rollup_series_at, with_grid_cells, cells_of}
 use Rattle.ts_store.specs.retain.RollupSteps.{with_all_grid_cells, FreezeFit, facts_left, content_moved}
-use Rattle.ts_store.specs.retain.PointMoves.{column_below, MayMove, MovesPoints}
+use Rattle.ts_store.specs.retain.PointMoves.{MovesPoints}
 use Rattle.ts_store.proofs.store.ColumnsLemmas.{names_held}
 use Rattle.ts_store.proofs.write.StagedColumns.{points_at}
-use Rattle.ts_store.proofs.rollup.RollupsGrow.{rollup_series-length}
+use Rattle.ts_store.specs.rollup.ChangedLists.{ChangesBeside}
 use Rattle.ts_store.proofs.retain.RollupExpiry.{grids_kept}
 use Rattle.ts_store.proofs.write.LiveOver.{first_over, others_over}
 
@@ -93,31 +93,18 @@ columns_left c mark (b ∷ cs) (m ∷ ms) (suc n) d l e =
 
 -- ---- under all rules
 
-pub columns_within : (rs : List Rule) (cs : List Column) (ss : List RollupState) (n : ℕ) → AreRollups rs cs ss → n < length cs → AllByRecursion (λ (s : RollupState). n < length s.series_of_column) ss
-columns_within [] cs [] n a l = tt
-columns_within [] cs (s ∷ ss) n a l = absurd a
-columns_within (r ∷ rs) cs [] n a l = tt
-columns_within (r ∷ rs) cs (s ∷ ss) n a l = (let e = rollup_series-length r s.grid.rollup_series cs s.series_of_column a.0 in omega arith, columns_within rs cs ss n a.1 l)
+-- its points are moved under a rule
+abbrev pub MovesUnder : List ColumnState → ℕ → ℤ → Rule → RollupState → RollupState → Type 0
+MovesUnder states n mark r s t = MovesPoints (r ∷ []) states n mark (s ∷ []) (t ∷ [])
 
--- without rules
-pub none_frozen : (ms : List CellMap) (ss : List RollupState) → length ss ≡ 0 → ss ≡ with_all_grid_cells ms ss
-none_frozen [] ss e = refl
-none_frozen (m ∷ ms) [] e = refl
-none_frozen (m ∷ ms) (s ∷ ss) e = absurd (omega arith)
-
-pub all_moved-none : (rs : List Rule) (cs : List Column) (ss : List RollupState) (c : Column) (ps : List (ℤ × ℤ)) (facts : List Fact) → length rs ≡ 0 → AreRollups rs cs ss → ss ≡ with_all_grid_cells (all_moved rs c ps facts (cells_of ss)) ss
-all_moved-none [] cs ss c ps facts e a = grids_kept ss
-all_moved-none (r ∷ rs) cs ss c ps facts e a = absurd (let n : ⊥ = omega arith in n)
-
--- the first rule, and the others
-pub all_moved-more : (r : Rule) (rs rs' : List Rule) (states : List ColumnState) (n : ℕ) (mark : ℤ) (s t : RollupState) (ss ts ss' : List RollupState) → rs' ≡ r ∷ rs → ss' ≡ s ∷ ss
-    → MovesPoints (r ∷ []) states n mark (s ∷ []) (t ∷ []) → MovesPoints rs states n mark ss ts → MovesPoints rs' states n mark ss' (t ∷ ts)
-all_moved-more r rs rs' states n mark s t ss ts ss' d e one others = λ cs c may.
-    let all : MayMove (r ∷ rs) cs states n mark (s ∷ ss) c = subst (λ (us : List RollupState). MayMove (r ∷ rs) cs states n mark us c) e (subst (λ (qs : List Rule). MayMove qs cs states n mark ss' c) d may) in
+pub all_moved_under : (states : List ColumnState) (n : ℕ) (mark : ℤ) (rs : List Rule) (ss ts : List RollupState) → ChangesBeside (MovesUnder states n mark) rs ss ts → MovesPoints rs states n mark ss ts
+all_moved_under states n mark [] ss ts h = λ cs c may. h ∙ grids_kept ss
+all_moved_under states n mark (r ∷ rs) [] ts h = λ cs c may. absurd may.over.rollups
+all_moved_under states n mark (r ∷ rs) (s ∷ ss) [] h = absurd h
+all_moved_under states n mark (r ∷ rs) (s ∷ ss) (t ∷ ts) h = λ cs c may.
     let before : List ColumnPoints = with_points cs (point_maps states) in
-    ap₂ (λ (us vs : List RollupState). us ++ vs) (one cs c (record { over = first_over r rs cs states before s ss all.over; at = all.at; fit = (all.fit.0, tt) }))
-    (others cs c (record { over = others_over r rs cs states before s ss all.over; at = all.at; fit = all.fit.1 }))
-    ∙ sym (ap₂ (λ (qs : List Rule) (us : List RollupState). with_all_grid_cells (all_moved qs c (column_below mark n states) (facts_left mark c cs states) (cells_of us)) us) d e)
+    ap₂ (λ (us vs : List RollupState). us ++ vs) (h.0 cs c (record { over = first_over r rs cs states before s ss may.over; at = may.at; fit = (may.fit.0, tt) }))
+    (all_moved_under states n mark rs ss ts h.1 cs c (record { over = others_over r rs cs states before s ss may.over; at = may.at; fit = may.fit.1 }))
 
 -- ---- a column of the content
 

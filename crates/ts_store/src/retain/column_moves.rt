@@ -20,20 +20,17 @@ use ts_raw::Column as _;
 
 /// Removes up to 256 cells below the low index of the first rule that has such cells. Returns true if there were any.
 fn expire_first<A: Allocator + Copy>(rollups: &mut [Rollup<A>], lows: &[i128]) -> bool
+    requires { length lows.now ≡ length rollups.old }
     ensures kept { rollups.new ≡ with_all_grid_cells (cells_of rollups.new) rollups.old }
     ensures some { OnTrue result (FirstLoses lows.now (cells_of rollups.old) (cells_of rollups.new)) }
     ensures none { OnFalse result ((rollups.new ≡ rollups.old) × AreAbove lows.now (cells_of rollups.old)) }
 {
-    let Some((low, lows)) = lows.split_first() else {
-        return false;
-    };
-    let Some((rollup, rollups)) = rollups.split_first_mut() else {
-        return false;
-    };
-    if rollup.expire(low) > 0 {
-        return true;
+    for (i, rollup) in rollups.iter_mut().enumerate() {
+        if rollup.expire(&lows[i]) > 0 {
+            return true;
+        }
     }
-    expire_first(rollups, lows)
+    false
 }
 
 impl<A: Allocator + Copy> ColumnFacts<A> {
@@ -63,6 +60,7 @@ impl<A: Allocator + Copy> ColumnFacts<A> {
     /// Removes up to 256 cells below the low index of the first rule that has such cells. Returns true if there were
     /// any. Does not allocate.
     pub(crate) fn expire(&mut self, lows: &[i128]) -> bool
+        requires { length lows.now ≡ length self.old.rollups }
         ensures kept { self.new ≡ content_with_cells (cells_of self.new.rollups) self.old }
         ensures some { OnTrue result (FirstLoses lows.now (cells_of self.old.rollups) (cells_of self.new.rollups)) }
         ensures none { OnFalse result ((self.new ≡ self.old) × AreAbove lows.now (cells_of self.old.rollups)) }

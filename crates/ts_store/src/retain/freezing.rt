@@ -91,15 +91,13 @@ pub(crate) fn move_all<A: Allocator + Copy>(
     mark: Time,
 )
     requires intervals { AllByRecursion (λ r. pos 1 ≤ℤ r.interval) rules.now }
+    requires rules { length rollups.old ≡ length rules.now }
     requires column { column < length columns.now }
     requires each { AllByRecursion (λ s. length s.series_of_column ≡ length columns.now) rollups.old }
     requires few { number_of_points columns.now ≤ 2 ^ 62 }
     ensures { MovesPoints rules.now columns.now column mark rollups.old rollups.new }
 {
-    if let Some((rule, rules)) = rules.split_first() {
-        if let Some((rollup, rollups)) = rollups.split_first_mut() {
-            move_points(rule, rollup, columns, column, mark);
-            move_all(rules, rollups, columns, column, mark);
-        }
+    for (i, rollup) in rollups.iter_mut().enumerate() {
+        move_points(&rules[i], rollup, columns, column, mark);
     }
 }

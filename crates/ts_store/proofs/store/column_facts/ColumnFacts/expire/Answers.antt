@@ -20,6 +20,9 @@ written g c =
     let long : length c.expire_first.new.rollups ≡ c.self.inside.rollups.len = cc (c.expire_first.auto.rollups, c.as_mut_slice.ensures.value, counted) in
     with_items_is c.self.inside.rollups c.expire_first.new.rollups long
 
+pub expire_first-requires : goal.expire_first-requires
+expire_first-requires g c = c.requires ∙ sym (ap length (c.as_mut_slice.ensures.value ∙ ap (λ (h : StoreContent). h.rollups) c.self.view_is))
+
 pub returns-clause-none : goal.returns-clause-none
 returns-clause-none g c =
     on_false c.expire_first.result (λ h. (

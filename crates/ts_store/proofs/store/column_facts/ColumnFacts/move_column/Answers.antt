@@ -16,7 +16,12 @@ use Rattle.ts_store.proofs.store.ColumnsLemmas.{names_held}
 use Rattle.ts_store.proofs.read.ColumnsReads.{facts-length, with_points-length}
 use Rattle.ts_store.proofs.write.PointsPut.{wide_of}
 use Rattle.ts_store.proofs.retain.RollupMoves.{held_moves}
+use Rattle.ts_store.proofs.rollup.RollupsGrow.{rollups-length}
 use Rattle.ts_store.proofs.store.column_facts.ColumnFacts.move_column.Goals as goal
+
+pub move_all-requires-clause-rules : goal.move_all-requires-clause-rules
+move_all-requires-clause-rules g c =
+    ap length (c.as_mut_slice.ensures.value ∙ ap (λ (h : StoreContent). h.rollups) c.self.view_is) ∙ rollups-length c.args.rules.now (map column_of c.args.self.now.columns) c.args.self.now.rollups c.requires.rollups
 
 pub move_all-requires-clause-column : goal.move_all-requires-clause-column
 move_all-requires-clause-column g c =
