@@ -1,6 +1,7 @@
 -- The created cells of points: exactly the missing ones from the low index on.
-use Rattle.std.proofs.Common.{◌≡◌, ◌⊎◌, ◌≤ℤ◌, ◌<ℤ◌, ◌<◌, ◌&&◌, ℕ, ℤ, true, false, cond, List, [], ◌∷◌, ◌++◌, length, get_or, Option, Some, None, Result, Ok, Err, OnOk, refl, sym, ◌∙◌, ap, subst, inl, inr, ⊎_elim, true≢false, arith}
+use Rattle.std.proofs.Common.{◌≡◌, ◌⊎◌, ◌≤ℤ◌, ◌<ℤ◌, ◌<◌, ◌&&◌, ℕ, ℤ, true, false, cond, List, [], ◌∷◌, ◌++◌, length, get_or, Option, Some, None, refl, sym, ◌∙◌, ap, subst, inl, inr, ⊎_elim, true≢false, arith}
 use Rattle.std.specs.FinMap as finmap
+use Rattle.std.specs.List.{zip}
 use Rattle.std.proofs.lemmas.Int.{ints}
 use Rattle.std.proofs.lemmas.Option.{get_or_from_slice_get, slice_get-get_or, slice_get_within, none-some, same_Some}
 use Rattle.ts_core.specs.lists.Members.{Among}
@@ -22,11 +23,12 @@ use Rattle.ts_cells.proofs.GridMoves.{get-inserted_if_absent}
 use Rattle.ts_store.specs.image.BuildingParts.{MakesCells}
 use Rattle.ts_store.specs.store.PossibleCells.{IsPossibleCell, HasPossibleCells}
 use Rattle.ts_store.specs.write.LinesPut.{OfEachRule, IsOfFacts, GainsCells}
-use Rattle.ts_store.specs.rollup.Rollups.{RollupState, IsRollupSeriesOf, rollup_series_under, cells_of, with_grid_cells, cell_created_in}
+use Rattle.ts_store.specs.rollup.Rollups.{RollupState, AreRollups, IsRollupSeriesOf, rollup_series_at, rollup_series_under, cells_of, with_grid_cells, cell_created_in}
+use Rattle.ts_store.specs.rollup.ChangedLists.{ChangesBeside}
 use Rattle.ts_store.proofs.write.CellsMade.{each_same, each_more, gains_nothing}
 use Rattle.ts_store.proofs.store.ColumnsLemmas.{in_column}
 use Rattle.ts_store.proofs.store.PossibleCellsKept.{cell_possible}
-use Rattle.ts_store.proofs.write.CellsCreatedLemmas.{roomy_there}
+use Rattle.ts_store.proofs.write.CellsCreatedLemmas.{rollup_series_known, roomy_there}
 
 -- ---- one cell
 
@@ -139,10 +141,6 @@ made-all facts r low m n h = record {
   possible = h.possible;
 }
 
--- the points as they were given
-pub points_made : (c : Column) (ps qs : List (ℤ × ℤ)) (r : Rule) (low : ℤ) (m n : CellMap) → ps ≡ qs → MakesCells (facts_at c ps) r low m n → MakesCells (facts_at c qs) r low m n
-points_made c ps qs r low m n e h = subst (λ (xs : List (ℤ × ℤ)). MakesCells (facts_at c xs) r low m n) e h
-
 -- points of another measurement need none
 pub made-apart : (c : Column) (ps : List (ℤ × ℤ)) (r : Rule) (low : ℤ) (m : CellMap) → same_text c.series.measurement r.measurement ≡ false → MakesCells (facts_at c ps) r low m m
 made-apart c ps r low m apart = record {
@@ -192,28 +190,21 @@ all-made-then fs gs rs lows ms ns os a b = (
 
 -- ---- under each rule
 
--- there is no rule, no low index or no rollup left
-pub no_rules_left : (P : Rule → ℤ → CellMap → CellMap → Type 0) (rs : List Rule) (lows : List ℤ) (ms : List CellMap) → length rs ≡ 0 → OfEachRule P rs lows ms ms
-no_rules_left P [] lows ms e = (refl, λ i r low m n ar al am an. absurd (none-some r ar))
-no_rules_left P (r ∷ rs) lows ms e = absurd (omega arith)
+-- the effect of creating the cells of points of the column with this index under a rule, from its low index on
+pub record MakesUnder (number : ℕ) (ps : List (ℤ × ℤ)) (x : Rule × ℤ) (s t : RollupState) : Type 0 where
+  pub kept : t ≡ with_grid_cells t.grid.cells s
+  pub cells : (c : Column) → IsRollupSeriesOf x.0 c s.grid.rollup_series (rollup_series_at s number) → MakesCells (facts_at c ps) x.0 x.1 s.grid.cells t.grid.cells
 
-pub no_lows_left : (P : Rule → ℤ → CellMap → CellMap → Type 0) (rs : List Rule) (lows : List ℤ) (ms : List CellMap) → length lows ≡ 0 → OfEachRule P rs lows ms ms
-no_lows_left P rs [] ms e = (refl, λ i r low m n ar al am an. absurd (none-some low al))
-no_lows_left P rs (low ∷ lows) ms e = absurd (omega arith)
-
-pub no_rollups_left : (P : Rule → ℤ → CellMap → CellMap → Type 0) (rs : List Rule) (lows : List ℤ) (ss : List RollupState) → length ss ≡ 0 → OfEachRule P rs lows (cells_of ss) (cells_of ss)
-no_rollups_left P rs lows [] e = (refl, λ i r low m n ar al am an. absurd (none-some m am))
-no_rollups_left P rs lows (s ∷ ss) e = absurd (omega arith)
-
--- the first rule, and the others
-pub each_made-more : {T E : Type 0} (P : Rule → ℤ → CellMap → CellMap → Type 0) (result : Result T E) (r : Rule) (rs rs' : List Rule) (low : ℤ) (lows lows' : List ℤ) (s t : RollupState) (ss ts ss' : List RollupState) → rs' ≡ r ∷ rs → lows' ≡ low ∷ lows → ss' ≡ s ∷ ss
-    → P r low s.grid.cells t.grid.cells → OnOk result (OfEachRule P rs lows (cells_of ss) (cells_of ts)) → OnOk result (OfEachRule P rs' lows' (cells_of ss') (cells_of (t ∷ ts)))
-each_made-more P (Err x) r rs rs' low lows lows' s t ss ts ss' d e f one others = tt
-each_made-more P (Ok x) r rs rs' low lows lows' s t ss ts ss' d e f one others =
-    subst (λ (qs : List Rule). OfEachRule P qs lows' (cells_of ss') (cells_of (t ∷ ts))) (sym d)
-    (subst (λ (ls : List ℤ). OfEachRule P (r ∷ rs) ls (cells_of ss') (cells_of (t ∷ ts))) (sym e)
-    (subst (λ (us : List RollupState). OfEachRule P (r ∷ rs) (low ∷ lows) (cells_of us) (cells_of (t ∷ ts))) (sym f)
-    (each_more P r rs low lows s.grid.cells (cells_of ss) t.grid.cells (cells_of ts) one others)))
+pub all_made_under : (number : ℕ) (ps : List (ℤ × ℤ)) (cs : List Column) (c : Column) (rs : List Rule) (lows : List ℤ) (ss ts : List RollupState) → IsAt cs number c → AreRollups rs cs ss → length lows ≡ length rs
+    → ChangesBeside (MakesUnder number ps) (zip rs lows) ss ts → OfEachRule (MakesCells (facts_at c ps)) rs lows (cells_of ss) (cells_of ts)
+all_made_under number ps cs c [] lows ss ts at over l h =
+    subst (λ (us : List RollupState). OfEachRule (MakesCells (facts_at c ps)) [] lows (cells_of ss) (cells_of us)) (sym h) (refl, λ i r low m n ar al am an. absurd (none-some r ar))
+all_made_under number ps cs c (r ∷ rs) [] ss ts at over l h = absurd (omega (arith, l))
+all_made_under number ps cs c (r ∷ rs) (low ∷ lows) [] ts at over l h = absurd over
+all_made_under number ps cs c (r ∷ rs) (low ∷ lows) (s ∷ ss) [] at over l h = absurd h
+all_made_under number ps cs c (r ∷ rs) (low ∷ lows) (s ∷ ss) (t ∷ ts) at over l h =
+    each_more (MakesCells (facts_at c ps)) r rs low lows s.grid.cells (cells_of ss) t.grid.cells (cells_of ts) (h.0.cells c (rollup_series_known r s.grid.rollup_series cs s.series_of_column number c over.0 at))
+    (all_made_under number ps cs c rs lows ss ts at over.1 (omega (arith, l)) h.1)
 
 -- ---- under the rollup series of a rule, which stay
 

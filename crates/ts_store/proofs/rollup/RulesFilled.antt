@@ -1,5 +1,5 @@
 -- Cells of all rules, filled with raw facts.
-use Rattle.std.proofs.Common.{◌≡◌, ◌≢◌, ◌⊎◌, ◌≤ℤ◌, ◌<◌, ◌&&◌, ℕ, zero, suc, ℤ, true, false, cond, List, [], ◌∷◌, length, map, filter, get_or, Option, Some, None, option_map, refl, sym, ◌∙◌, ap, subst, inl, inr, ⊎_elim, true≢false, arith}
+use Rattle.std.proofs.Common.{◌≡◌, ◌≢◌, ◌⊎◌, ◌≤ℤ◌, ◌<◌, ◌≤◌, ◌^◌, ◌&&◌, ℕ, zero, suc, ℤ, true, false, cond, List, [], ◌∷◌, ◌++◌, length, map, filter, get_or, Option, Some, None, option_map, refl, sym, ◌∙◌, ap, subst, inl, inr, ⊎_elim, true≢false, arith}
 use Rattle.std.specs.FinMap as finmap
 use Rattle.std.specs.List.{AllByRecursion}
 use Rattle.std.proofs.lemmas.List.{length-map}
@@ -12,7 +12,7 @@ use Rattle.ts_core.specs.aggregates.Aggregates.{empty_aggregate, merged, aggrega
 use Rattle.ts_core.specs.aggregates.MergeLaws.{aggregate_laws}
 use Rattle.ts_core.specs.store.Cells.{Cell, cell_of, is_rolled, is_in_cell, same_cell, total_of}
 use Rattle.ts_core.specs.lists.Changes.{or_else}
-use Rattle.ts_core.specs.store.StoreStates.{ColumnPoints, CellParts, column_of, facts_of}
+use Rattle.ts_core.specs.store.StoreStates.{ColumnPoints, CellParts, column_of, facts_at, facts_of}
 use Rattle.ts_core.specs.store.StoreData.{CellMap, no_parts, IsLive, AreLive}
 use Rattle.ts_core.proofs.moves.MovesStand.{key_there, key_not}
 use Rattle.ts_core.proofs.plans.PieceCells.{same_cell-eq, same_cell-refl}
@@ -26,7 +26,8 @@ use Rattle.ts_raw.specs.Indexed.{Indexed}
 use Rattle.ts_store.specs.store.PossibleCells.{HasPossibleCells, HavePossibleCells}
 use Rattle.ts_store.specs.store.ColumnStates.{IsSoundContent, content_of, columns_in, with_points, point_maps}
 use Rattle.ts_store.specs.write.LinesPut.{OfEachRule, IsOfFacts, PutsCells}
-use Rattle.ts_store.specs.rollup.Rollups.{RollupState, AreRollups, HaveRollupSeries, IsRollupSeriesOf, rollup_series_at, cells_of}
+use Rattle.ts_store.specs.rollup.Rollups.{RollupState, AreRollups, HaveRollupSeries, IsRollupSeriesOf, rollup_series_at, with_grid_cells, cells_of}
+use Rattle.ts_store.specs.rollup.ChangedLists.{ChangesBeside}
 use Rattle.ts_store.specs.retain.RollupSteps.{with_all_grid_cells}
 use Rattle.ts_store.proofs.store.ColumnsLemmas.{known_of, names_held, facts-distinct}
 use Rattle.ts_store.proofs.write.PointsPut.{grids_kept_then}
@@ -34,11 +35,7 @@ use Rattle.ts_store.proofs.retain.RollupMoves.{rollups_with}
 use Rattle.ts_store.proofs.rollup.RollupsGrow.{rollups-length}
 use Rattle.ts_store.proofs.write.CellsCreatedLemmas.{rollup_series_known}
 
--- ---- the first rule, and the others
-
--- the properties of the first rollup, and of the others
-pub rollups_first : (r : Rule) (rs rs' : List Rule) (cs : List Column) (s : RollupState) (ss ss' : List RollupState) → rs' ≡ r ∷ rs → ss' ≡ s ∷ ss → AreRollups rs' cs ss' → HaveRollupSeries r s.grid.rollup_series cs s.series_of_column × AreRollups rs cs ss
-rollups_first r rs rs' cs s ss ss' d e h = subst (λ (us : List RollupState). AreRollups (r ∷ rs) cs us) e (subst (λ (qs : List Rule). AreRollups qs cs ss') d h)
+-- ---- each rollup has its columns
 
 pub rollup_series_first : (r : Rule) (cs : List Column) (n : ℕ) (c : Column) (s : RollupState) → HaveRollupSeries r s.grid.rollup_series cs s.series_of_column → IsAt cs n c → IsRollupSeriesOf r c s.grid.rollup_series (rollup_series_at s n)
 rollup_series_first r cs n c s h at = rollup_series_known r s.grid.rollup_series cs s.series_of_column n c h at
@@ -55,25 +52,7 @@ frozen-same ms = AllZip-same KeepsFrozen (λ m k. refl) ms
 pub frozen-both : (ms ns os : List CellMap) → KeepFrozen ms ns → KeepFrozen ns os → KeepFrozen ms os
 frozen-both ms ns os a b = AllZip-then KeepsFrozen KeepsFrozen KeepsFrozen (λ m n o p q k. q k ∙ p k) ms ns os a b
 
-pub frozen-more : (s t : RollupState) (ss ts ss' : List RollupState) → ss' ≡ s ∷ ss → KeepsFrozen s.grid.cells t.grid.cells → KeepFrozen (cells_of ss) (cells_of ts) → KeepFrozen (cells_of ss') (cells_of (t ∷ ts))
-frozen-more s t ss ts ss' e one others = subst (λ (us : List RollupState). KeepFrozen (cells_of us) (cells_of (t ∷ ts))) (sym e) (one, others)
-
 -- ---- facts that are left
-
-pub filled-none : (left all : List Fact) (rs : List Rule) (ms : List CellMap) → length rs ≡ 0 → AreFilledBut left all rs ms
-filled-none left all [] ms e = tt
-filled-none left all (r ∷ rs) ms e = absurd (omega arith)
-
-pub filled-nowhere : (left all : List Fact) (rs : List Rule) (ss : List RollupState) → length ss ≡ 0 → AreFilledBut left all rs (cells_of ss)
-filled-nowhere left all [] ss e = tt
-filled-nowhere left all (r ∷ rs) [] e = tt
-filled-nowhere left all (r ∷ rs) (s ∷ ss) e = absurd (omega arith)
-
-pub filled-more : (before left all : List Fact) (r : Rule) (rs rs' : List Rule) (s t : RollupState) (ss ts ss' : List RollupState) → rs' ≡ r ∷ rs → ss' ≡ s ∷ ss → AreFilledBut before all rs' (cells_of ss')
-    → (IsFilledBut before all r s.grid.cells → IsFilledBut left all r t.grid.cells) → (AreFilledBut before all rs (cells_of ss) → AreFilledBut left all rs (cells_of ts)) → AreFilledBut left all rs' (cells_of (t ∷ ts))
-filled-more before left all r rs rs' s t ss ts ss' d e h one others =
-    let h' : AreFilledBut before all (r ∷ rs) (cells_of (s ∷ ss)) = subst (λ (us : List RollupState). AreFilledBut before all (r ∷ rs) (cells_of us)) e (subst (λ (qs : List Rule). AreFilledBut before all qs (cells_of ss')) d h) in
-    subst (λ (qs : List Rule). AreFilledBut left all qs (cells_of (t ∷ ts))) (sym d) (one h'.0, others h'.1)
 
 -- nothing is added yet
 pub filled-idle : (all : List Fact) (rs : List Rule) (ms : List CellMap) → AreIdle ms → AreFilledBut all all rs ms
@@ -85,6 +64,30 @@ filled-idle all (r ∷ rs) (m ∷ ms) h = (λ k p e. ap (λ a. merged a (total_o
 pub filled-live : (columns : List ColumnPoints) (rs : List Rule) (ms : List CellMap) → AreFilledBut [] (facts_of columns) rs ms → AreLive columns rs ms
 filled-live columns rs ms h =
     OfEach-weaker (IsFilledBut [] (facts_of columns)) (IsLive columns) (λ r m filled k p e. sym (aggregate_laws.comm p.live empty_aggregate ∙ aggregate_laws.unit p.live) ∙ filled k p e) rs ms h
+
+-- ---- points are added
+
+-- the effect of adding points of the column with this index under a rule
+pub record AddsUnder (number : ℕ) (ps : List (ℤ × ℤ)) (r : Rule) (s t : RollupState) : Type 0 where
+  pub kept : t ≡ with_grid_cells t.grid.cells s
+  pub frozen : KeepsFrozen s.grid.cells t.grid.cells
+  pub live : (c : Column) (left all : List Fact) → IsRollupSeriesOf r c s.grid.rollup_series (rollup_series_at s number) → length all ≤ 2 ^ 62
+      → IsFilledBut (facts_at c ps ++ left) all r s.grid.cells → IsFilledBut left all r t.grid.cells
+
+module _ (number : ℕ) (ps : List (ℤ × ℤ)) where
+  pub all_frozen : (rs : List Rule) (ss ts : List RollupState) → ChangesBeside (AddsUnder number ps) rs ss ts → KeepFrozen (cells_of ss) (cells_of ts)
+  all_frozen [] ss ts h = subst (λ (us : List RollupState). KeepFrozen (cells_of ss) (cells_of us)) (sym h) (frozen-same (cells_of ss))
+  all_frozen (r ∷ rs) [] ts h = subst (λ (us : List RollupState). KeepFrozen [] (cells_of us)) (sym h) tt
+  all_frozen (r ∷ rs) (s ∷ ss) [] h = absurd h
+  all_frozen (r ∷ rs) (s ∷ ss) (t ∷ ts) h = (h.0.frozen, all_frozen rs ss ts h.1)
+
+  pub all_added : (cs : List Column) (c : Column) (left all : List Fact) (rs : List Rule) (ss ts : List RollupState) → IsAt cs number c → AreRollups rs cs ss → length all ≤ 2 ^ 62 → ChangesBeside (AddsUnder number ps) rs ss ts
+      → AreFilledBut (facts_at c ps ++ left) all rs (cells_of ss) → AreFilledBut left all rs (cells_of ts)
+  all_added cs c left all [] ss ts at over few h filled = tt
+  all_added cs c left all (r ∷ rs) [] ts at over few h filled = absurd over
+  all_added cs c left all (r ∷ rs) (s ∷ ss) [] at over few h filled = absurd h
+  all_added cs c left all (r ∷ rs) (s ∷ ss) (t ∷ ts) at over few h filled =
+      (h.0.live c left all (rollup_series_first r cs number c s over.0 at) few filled.0, all_added cs c left all rs ss ts at over.1 few h.1 filled.1)
 
 -- ---- cells with their parts
 

@@ -73,21 +73,16 @@ fn make_under_all<A: Allocator + Copy>(
     column: &StoredColumn<A>,
 ) -> Result<(), AllocError>
     requires intervals { AllByRecursion (λ r. pos 1 ≤ℤ r.interval) rules.now }
+    requires rules { length rollups.old ≡ length rules.now }
+    requires lows { length lows.now ≡ length rules.now }
     requires inside { AllByRecursion (λ s. number < length s.series_of_column) rollups.old }
     ensures kept { rollups.new ≡ with_all_grid_cells (cells_of rollups.new) rollups.old }
     ensures cells { (cs : List Column) (c : Column) → IsAt cs number c → AreRollups rules.now cs rollups.old → OnOk result (OfEachRule (MakesCells (facts_at c (finmap.entries column.now.points))) rules.now lows.now (cells_of rollups.old) (cells_of rollups.new)) }
 {
-    let Some((rule, rules)) = rules.split_first() else {
-        return Ok(());
-    };
-    let Some((low, lows)) = lows.split_first() else {
-        return Ok(());
-    };
-    let Some((rollup, rollups)) = rollups.split_first_mut() else {
-        return Ok(());
-    };
-    make_cells(rule, low, rollup, number, column.all())?;
-    make_under_all(rules, lows, rollups, number, column)
+    for (i, rollup) in rollups.iter_mut().enumerate() {
+        make_cells(&rules[i], &lows[i], rollup, number, column.all())?;
+    }
+    Ok(())
 }
 
 /// Creates the missing cells of all points.
@@ -98,6 +93,8 @@ pub(crate) fn make_all_cells<A: Allocator + Copy>(
     columns: &[StoredColumn<A>],
 ) -> Result<(), AllocError>
     requires intervals { AllByRecursion (λ r. pos 1 ≤ℤ r.interval) rules.now }
+    requires rules { length rollups.old ≡ length rules.now }
+    requires lows { length lows.now ≡ length rules.now }
     requires each { AllByRecursion (λ s. length s.series_of_column ≡ length columns.now) rollups.old }
     ensures kept { rollups.new ≡ with_all_grid_cells (cells_of rollups.new) rollups.old }
     ensures cells { (cs : List Column) → length columns.now ≡ length cs → AreRollups rules.now cs rollups.old → OnOk result (OfEachRule (MakesCells (facts_of (with_points cs (point_maps columns.now)))) rules.now lows.now (cells_of rollups.old) (cells_of rollups.new)) }
@@ -148,17 +145,15 @@ fn add_under_all<A: Allocator + Copy>(
     column: &StoredColumn<A>,
 )
     requires intervals { AllByRecursion (λ r. pos 1 ≤ℤ r.interval) rules.now }
+    requires rules { length rollups.old ≡ length rules.now }
     requires inside { AllByRecursion (λ s. number < length s.series_of_column) rollups.old }
     requires few { finmap.len column.now.points ≤ 2 ^ 62 }
     ensures kept { rollups.new ≡ with_all_grid_cells (cells_of rollups.new) rollups.old }
     ensures frozen { KeepFrozen (cells_of rollups.old) (cells_of rollups.new) }
     ensures live { (cs : List Column) (c : Column) (left all : List Fact) → IsAt cs number c → AreRollups rules.now cs rollups.old → length all ≤ 2 ^ 62 → AreFilledBut (facts_at c (finmap.entries column.now.points) ++ left) all rules.now (cells_of rollups.old) → AreFilledBut left all rules.now (cells_of rollups.new) }
 {
-    if let Some((rule, rules)) = rules.split_first() {
-        if let Some((rollup, rollups)) = rollups.split_first_mut() {
-            add_points(rule, rollup, number, column.all());
-            add_under_all(rules, rollups, number, column);
-        }
+    for (i, rollup) in rollups.iter_mut().enumerate() {
+        add_points(&rules[i], rollup, number, column.all());
     }
 }
 
@@ -169,6 +164,7 @@ pub(crate) fn add_all_points<A: Allocator + Copy>(
     columns: &[StoredColumn<A>],
 )
     requires intervals { AllByRecursion (λ r. pos 1 ≤ℤ r.interval) rules.now }
+    requires rules { length rollups.old ≡ length rules.now }
     requires each { AllByRecursion (λ s. length s.series_of_column ≡ length columns.now) rollups.old }
     requires few { number_of_points columns.now ≤ 2 ^ 62 }
     ensures kept { rollups.new ≡ with_all_grid_cells (cells_of rollups.new) rollups.old }

@@ -15,6 +15,7 @@ use Rattle.ts_store.specs.retain.RollupSteps.{with_all_grid_cells}
 use Rattle.ts_store.proofs.store.ColumnsLemmas.{names_held}
 use Rattle.ts_store.proofs.read.ColumnsReads.{facts-length}
 use Rattle.ts_store.proofs.write.PointsPut.{wide_of, wide_still}
+use Rattle.ts_store.proofs.rollup.RollupsGrow.{rollups-length}
 use Rattle.ts_store.proofs.rollup.RulesFilled.{Makes, Adds, all_fill}
 use Rattle.ts_store.proofs.store.column_facts.ColumnFacts.fill_cells.Goals as goal
 
@@ -25,10 +26,19 @@ wide rules index ss lent us held kept is same rollups =
     let shown : AreRollups rules (map column_of (columns_in index ss)) us = subst (λ (h : StoreContent). AreRollups rules (map column_of h.columns) h.rollups) (sym is) rollups in
     wide_of rules index.columns (length lent) us (subst (λ (cs : List Column). AreRollups rules cs us) (names_held index ss kept.each) shown) (ap (λ (xs : List ColumnState). length xs) same ∙ kept.each)
 
+pub make_all_cells-requires-clause-rules : goal.make_all_cells-requires-clause-rules
+make_all_cells-requires-clause-rules g c =
+    ap length (c.as_mut_slice.ensures.value ∙ ap (λ (h : StoreContent). h.rollups) c.self.view_is) ∙ rollups-length c.args.rules.now (map column_of c.args.self.now.columns) c.args.self.now.rollups c.requires.rollups
+
 pub make_all_cells-requires-clause-each : goal.make_all_cells-requires-clause-each
 make_all_cells-requires-clause-each g c =
     subst (AllByRecursion (λ (s : RollupState). length s.series_of_column ≡ length c.as_slice-columns.result.now)) (sym c.as_mut_slice.ensures.value)
     (wide c.args.rules.now c.self.inside.index c.self.inside.columns.items c.as_slice-columns.result.now c.self.inside.rollups.items c.args.self.now c.self.invariant c.self.view_is c.as_slice-columns.ensures.value c.requires.rollups)
+
+pub add_all_points-requires-clause-rules : goal.add_all_points-requires-clause-rules
+add_all_points-requires-clause-rules g c =
+    ap length c.as_mut_slice-2.ensures.value ∙ sym (with_items c.self.inside.rollups c.make_all_cells.new.rollups).ok.0 ∙ c.self.inside.rollups.ok.0 ∙ ap (λ (h : StoreContent). length h.rollups) c.self.view_is
+    ∙ rollups-length c.args.rules.now (map column_of c.args.self.now.columns) c.args.self.now.rollups c.requires.rollups
 
 pub add_all_points-requires-clause-each : goal.add_all_points-requires-clause-each
 add_all_points-requires-clause-each g c =

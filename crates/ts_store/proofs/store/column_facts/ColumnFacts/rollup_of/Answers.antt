@@ -26,6 +26,12 @@ make_all_cells-requires-clause-intervals g c =
     let is : c.as_slice.result.now ≡ c.args.rule.now ∷ [] = c.as_slice.ensures.value ∙ c.in_ok-rules.ensures ∙ ap (λ (q : Rule). q ∷ []) c.in_ok-try_clone.ensures in
     wide_rule c.args.rule.now c.as_slice.result.now is c.requires.interval
 
+pub make_all_cells-requires-clause-rules : goal.make_all_cells-requires-clause-rules
+make_all_cells-requires-clause-rules g c = ap length (c.as_mut_slice.ensures.value ∙ c.in_ok-rollups.ensures) ∙ sym (ap length (c.as_slice.ensures.value ∙ c.in_ok-rules.ensures))
+
+pub make_all_cells-requires-clause-lows : goal.make_all_cells-requires-clause-lows
+make_all_cells-requires-clause-lows g c = ap length c.from_ref.ensures.value ∙ sym (ap length (c.as_slice.ensures.value ∙ c.in_ok-rules.ensures))
+
 pub make_all_cells-requires-clause-each : goal.make_all_cells-requires-clause-each
 make_all_cells-requires-clause-each g c =
     let s : RollupState = c.in_ok-rollup_over.field-0 in
@@ -37,6 +43,11 @@ pub add_all_points-requires-clause-intervals : goal.add_all_points-requires-clau
 add_all_points-requires-clause-intervals g c =
     let is : c.as_slice-2.result.now ≡ c.args.rule.now ∷ [] = c.as_slice-2.ensures.value ∙ c.in_ok-rules.ensures ∙ ap (λ (q : Rule). q ∷ []) c.in_ok-try_clone.ensures in
     wide_rule c.args.rule.now c.as_slice-2.result.now is c.requires.interval
+
+pub add_all_points-requires-clause-rules : goal.add_all_points-requires-clause-rules
+add_all_points-requires-clause-rules g c =
+    ap length c.as_mut_slice-2.ensures.value ∙ sym (with_items c.in_ok-rollups.rollups c.make_all_cells.new.rollups).ok.0 ∙ c.in_ok-rollups.rollups.ok.0 ∙ ap length c.in_ok-rollups.ensures
+    ∙ sym (ap length (c.as_slice-2.ensures.value ∙ c.in_ok-rules.ensures))
 
 pub add_all_points-requires-clause-each : goal.add_all_points-requires-clause-each
 add_all_points-requires-clause-each g c =
