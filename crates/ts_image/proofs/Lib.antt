@@ -21,6 +21,7 @@ pub mod Stopping
 pub mod Heads
 pub mod WholeReading
 pub mod Testing
+pub mod Zips
 pub mod MadeSettings
 pub mod Loading
 pub mod Rising

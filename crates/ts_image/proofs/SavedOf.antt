@@ -1,10 +1,9 @@
 -- Columns and cells of a store as they are saved.
-use Rattle.std.proofs.Common.{◌≡◌, ◌↔◌, ℕ, ℤ, zero, suc, add-one, ◌+◌, ◌-◌, ◌<◌, Bool, true, false, ◌&&◌, cond, int_le, nat_lt, List, [], ◌∷◌, ◌++◌, length, map, filter, take, drop, refl, sym, ap, ◌∙◌, arith}
+use Rattle.std.proofs.Common.{◌≡◌, ◌↔◌, ◌⊎◌, inl, inr, ℕ, ℤ, zero, suc, add-one, ◌+◌, ◌<◌, Bool, true, false, ◌&&◌, cond, int_le, nat_lt, List, [], ◌∷◌, ◌++◌, length, map, filter, take, refl, sym, ap, ◌∙◌, arith}
 use Rattle.std.specs.Prelude.{IsTrue, slice_index_or}
 use Rattle.std.specs.Int.{w32, w64}
 use Rattle.std.specs.List.{AllByRecursion}
 use Rattle.std.specs.FinMap as finmap
-use Rattle.std.proofs.lemmas.List.{take_all}
 use Rattle.ts_core.specs.lists.Members.{Among}
 use Rattle.ts_core.specs.lists.Numbered.{IsAt}
 use Rattle.ts_core.specs.facts.Facts.{Text, Column}
@@ -73,9 +72,11 @@ counts_next k n rs lt =
     let z : 0 + n ≡ n = omega arith in
     ap (λ (m : ℕ). cell_counts_from k 0 (take m rs)) (add-one n) ∙ counts_suc k 0 n rs lt ∙ ap (λ (m : ℕ). cell_counts_from k 0 (take n rs) ++ length (frozen_cells_at k m) ∷ []) z
 
--- without the first
-pub rest_of : (xs : List ℕ) (x : ℕ) (ys : List ℕ) → xs ≡ x ∷ ys → take (length xs - 1) (drop 1 xs) ≡ ys
-rest_of xs x ys e = ap (λ (zs : List ℕ). take (length zs - 1) (drop 1 zs)) e ∙ take_all (length (x ∷ ys) - 1) ys (omega arith)
+-- no rule is left once no count is
+pub no_rule_left : (k : StoreData) (n : ℕ) (rs : List Rule) (counts : List ℕ) → counts ≡ cell_counts_from k n rs → (rs ≡ []) ⊎ (counts ≡ []) → rs ≡ []
+no_rule_left k n [] counts are e = refl
+no_rule_left k n (r ∷ rs) counts are (inl e) = e
+no_rule_left k n (r ∷ rs) counts are (inr e) = absurd (omega (arith, ap length (sym e ∙ are)))
 
 -- ---- the format
 

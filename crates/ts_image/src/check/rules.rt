@@ -76,13 +76,12 @@ pub(crate) fn are_lows<A: Allocator>(
     requires { AllByRecursion HasLongInterval rules.now }
     ensures { IsTrue result ↔ AreLows version mark.now (map rule_from_parts rules.now) lows.now }
 {
-    match (rules.split_first(), lows.split_first()) {
-        (None, None) => true,
-        (Some((rule, rules)), Some((low, lows))) => {
-            is_low(version, mark, rule, low) && are_lows(version, mark, rules, lows)
+    for (rule, low) in rules.iter().zip(lows) {
+        if !is_low(version, mark, rule, low) {
+            return false;
         }
-        _ => false,
     }
+    rules.len() == lows.len()
 }
 
 fn are_cells_of<A: Allocator>(
@@ -107,12 +106,12 @@ pub(crate) fn are_all_cells<A: Allocator>(
     requires { AllByRecursion HasLongInterval rules.now }
     ensures { IsTrue result ↔ CellsAre mark.now (map rule_from_parts rules.now) lows.now (map cells_of_parts cells.now) }
 {
-    match (rules.split_first(), lows.split_first(), cells.split_first()) {
-        (Some((rule, rules)), Some((low, lows)), Some((first, cells))) => {
-            are_cells_of(mark, rule, low, first) && are_all_cells(mark, rules, lows, cells)
+    for ((rule, low), cells) in rules.iter().zip(lows).zip(cells) {
+        if !are_cells_of(mark, rule, low, cells) {
+            return false;
         }
-        _ => true,
     }
+    true
 }
 
 /// Returns true if the counts of a rule's cells and the points of its measurement are at most the accepted facts.
@@ -139,10 +138,10 @@ pub(crate) fn are_counted<A: Allocator>(
 ) -> bool
     ensures { IsTrue result ↔ AreCountedAll accepted (map series_of_parts series.now) (map rule_from_parts rules.now) (map cells_of_parts cells.now) }
 {
-    match (rules.split_first(), cells.split_first()) {
-        (Some((rule, rules)), Some((first, cells))) => {
-            is_counted(accepted, series, rule, first) && are_counted(accepted, series, rules, cells)
+    for (rule, cells) in rules.iter().zip(cells) {
+        if !is_counted(accepted, series, rule, cells) {
+            return false;
         }
-        _ => true,
     }
+    true
 }

@@ -106,11 +106,10 @@ pub(crate) fn put_cells_from<W: Write, A: Allocator + Copy>(
     requires fit { FitCellsFrom store.now number rules.now }
     ensures { PutsField (along (λ r. list_of w64 (image_cell r)) (map image_rule_of rules.now)) (image_cells_from store.now number rules.now) sink.old out.old result sink.new out.new }
 {
-    match rules.split_first() {
-        None => Ok(()),
-        Some((rule, others)) => {
-            put_rule_cells(store, rule, number, counts[0], out, sink)?;
-            put_cells_from(store, others, &counts[1..], number + 1, out, sink)
-        }
+    let mut number = number;
+    for (rule, count) in rules.iter().zip(counts) {
+        put_rule_cells(store, rule, number, *count, out, sink)?;
+        number += 1;
     }
+    Ok(())
 }
