@@ -1,6 +1,7 @@
 -- Marks as a script prints them. (Own rule.)
-use Rattle.std.specs.Prelude.{◌≡◌, ◌+◌, ◌≤◌, ℕ, ℤ, List, [], ◌∷◌, ◌++◌, codes, Result, IsOk, OnOk, String, string_bytes, string_len, string_capacity}
+use Rattle.std.specs.Prelude.{◌≡◌, ◌+◌, ◌≤◌, ℕ, ℤ, List, ◌++◌, codes, Result, IsOk, OnOk, String, string_bytes, string_len, string_capacity}
 use Rattle.std.specs.Fmt.{signed_decimal}
+use Rattle.std.specs.List.{flat_map, zip}
 use Rattle.ts_core.specs.facts.Facts.{Text}
 use Rattle.ts_core.specs.store.Marks.{Marks}
 use Rattle.ts_core.specs.settings.Settings.{Rule, Settings}
@@ -13,10 +14,9 @@ rule_text name low = name ++ (codes "=" ++ signed_decimal low)
 abbrev pub low_text : Text → ℤ → Text
 low_text name low = codes " " ++ rule_text name low
 
+-- the name and the low index of each rule
 abbrev pub lows_text : List Rule → List ℤ → Text
-lows_text [] lows = []
-lows_text (r ∷ rs) [] = []
-lows_text (r ∷ rs) (low ∷ lows) = low_text r.name low ++ lows_text rs lows
+lows_text rules lows = flat_map (λ (x : Rule × ℤ). low_text x.0.name x.1) (zip rules lows)
 
 abbrev pub raw_text : ℤ → Text
 raw_text mark = codes "marks " ++ signed_decimal mark

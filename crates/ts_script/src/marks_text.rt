@@ -27,13 +27,10 @@ fn lows_to(text: &mut String, rules: &[Rule<Global>], lows: &[i128]) -> Result<(
     requires { AllByRecursion (λ (r : RuleValue). length r.name ≤ 32) rules.now }
     ensures { IsAppendedWithin (74 * length rules.now) (lows_text rules.now lows.now) text.old text.new result }
 {
-    match (rules.split_first(), lows.split_first()) {
-        (Some((rule, rules)), Some((low, lows))) => {
-            low_to(text, rule.name(), *low)?;
-            lows_to(text, rules, lows)
-        }
-        _ => Ok(()),
+    for (rule, low) in rules.iter().zip(lows) {
+        low_to(text, rule.name(), *low)?;
     }
+    Ok(())
 }
 
 /// Appends the name and the low index of an added rule. Does not allocate if `text` has the capacity.
