@@ -1,12 +1,11 @@
-use Rattle.std.proofs.Common.{rules, ◌≡◌, ◌+◌, ℕ, List, ◌∷◌, length, map, drop, get_or, ap, sym, subst, ◌∙◌, arith}
+use Rattle.std.proofs.Common.{rules, ◌≡◌, ◌+◌, List, length, map, drop, ap, arith}
 use Rattle.std.specs.Int.{w64}
 use Rattle.std.proofs.lemmas.Result.{err_from_is_err_and}
 use Rattle.std.proofs.lemmas.Slice.Zip.{either_empty_from_Zip}
-use Rattle.ts_core.specs.store.StoreData.{StoreData}
 use Rattle.ts_image.specs.Formats.{Format, list_of}
 use Rattle.ts_image.specs.Images.{ImageRule, ImageCell, image_cell}
 use Rattle.ts_image.specs.SavedParts.{image_rule_of}
-use Rattle.ts_image.specs.Saving.{FitCellsFrom, image_cells_from, cell_counts_from}
+use Rattle.ts_image.specs.Saving.{image_cells_from}
 use Rattle.ts_image.proofs.Putting.{along_none, along_more, along_stops}
 use Rattle.ts_image.proofs.SavedOf.{no_rule_left}
 use Rattle.ts_image.proofs.write.store_cells.put_cells_from.Goals as goal
@@ -20,32 +19,24 @@ loop-rule-init g c =
     let ns : c.into_iter-rule-iterator.result.b.rest.now ≡ c.args.counts.now = search rules in
     rw (rs, ns) record { last = c.requires.last; counts = c.requires.counts; fit = c.requires.fit; put = λ r sink out h. h }
 
-pub put_rule_cells-requires : goal.put_rule_cells-requires
-put_rule_cells-requires g c =
-    let k : StoreData = c.args.store.now in
-    let n : ℕ = c.loop-rule.number in
-    let e = c.in-Some.ensures.steps in
-    let counts : c.in-Some.count.now ∷ c.next.new.self.b.rest.now ≡ cell_counts_from k n (c.in-Some.rule.now ∷ c.next.new.self.a.rest.now) = sym e.1 ∙ c.loop-rule.invariant.counts ∙ ap (cell_counts_from k n) e.0 in
-    record { number = omega (arith, ap length e.0, c.loop-rule.invariant.last); count = ap (λ (xs : List ℕ). get_or xs 0 0) counts; fit = (subst (FitCellsFrom k n) e.0 c.loop-rule.invariant.fit).0 }
-
 pub returns-in_err-put_rule_cells : goal.returns-in_err-put_rule_cells
 returns-in_err-put_rule_cells g c =
-    let k : StoreData = c.args.store.now in
     let rest = c.next.new.self.a.rest.now in
     let p = err_from_is_err_and c.from_residual.result c.from_residual.ensures.1 in
-    rw p.1 (c.loop-rule.invariant.put _ _ _ (rw c.in-Some.ensures.steps.0 (along_stops cells_format (image_rule_of c.in-Some.rule.now) (map image_rule_of rest) (image_cells_from k (c.loop-rule.number + 1) rest) _ c.in_err-put_rule_cells.ensures)))
+    rw p.1 (c.loop-rule.invariant.put _ _ _ (rw c.in-Some.ensures.steps.0 (along_stops cells_format (image_rule_of c.in-Some.rule.now) (map image_rule_of rest) (image_cells_from c.args.store.now (c.loop-rule.number + 1) rest) _ c.in_err-put_rule_cells.ensures)))
 
 pub loop-rule-preserved : goal.loop-rule-preserved
 loop-rule-preserved g c =
-    let k : StoreData = c.args.store.now in
-    let n : ℕ = c.loop-rule.number in
+    let rest = c.next.new.self.a.rest.now in
+    let so_far = c.loop-rule.invariant in
     let e = c.in-Some.ensures.steps in
-    let counts : c.in-Some.count.now ∷ c.next.new.self.b.rest.now ≡ cell_counts_from k n (c.in-Some.rule.now ∷ c.next.new.self.a.rest.now) = sym e.1 ∙ c.loop-rule.invariant.counts ∙ ap (cell_counts_from k n) e.0 in
+    let counts = rw (e.0, e.1) at so_far.counts in
+    let fit = rw e.0 at so_far.fit in
     record {
-      last = omega (arith, ap length e.0, c.loop-rule.invariant.last);
+      last = omega (arith, ap length e.0, so_far.last);
       counts = ap (drop 1) counts;
-      fit = (subst (FitCellsFrom k n) e.0 c.loop-rule.invariant.fit).1;
-      put = λ r sink out h. c.loop-rule.invariant.put r sink out (rw e.0 (along_more cells_format (image_rule_of c.in-Some.rule.now) (map image_rule_of c.next.new.self.a.rest.now) c.in_ok-put_rule_cells.ensures h));
+      fit = fit.1;
+      put = λ r sink out h. so_far.put r sink out (rw e.0 (along_more cells_format (image_rule_of c.in-Some.rule.now) (map image_rule_of rest) c.in_ok-put_rule_cells.ensures h));
     }
 
 pub returns : goal.returns
