@@ -13,7 +13,7 @@ use Rattle.ts_core.specs.lists.Changes.{or_else}
 use Rattle.ts_core.specs.store.StoreData.{CellMap, no_parts}
 use Rattle.ts_core.specs.moves.StoreMoves.{GainsEmptyCells, GainEmptyCells}
 use Rattle.std.proofs.lemmas.Int.{ints}
-use Rattle.ts_core.proofs.lists.Comparisons.{lt_from, lt_not, lt_true}
+use Rattle.ts_core.proofs.lists.Comparisons.{lt_from, lt_not}
 use Rattle.ts_core.proofs.plans.PieceCells.{same_cell-eq, same_cell-refl}
 use Rattle.ts_core.proofs.lists.BesideLemmas.{AllZip-then}
 use Rattle.ts_cells.specs.CellChanges.{inserted_if_absent}
@@ -187,13 +187,7 @@ roomed_above low index ns s above =
       | false ↦ λ e. refl
     ] refl
 
-pub roomed_below : (low index : ℤ) (ns : List ℕ) (s : RollupState) → index <ℤ low → cells_created_from low index ns s ≡ s
-roomed_below low index ns s below = ap (λ b. cond b s (cells_created_for index ns s)) (lt_true index low below)
-
 -- ---- room for some of the columns
-
-pub some_roomed : (low index : ℤ) (ns : List ℕ) (i : ℕ) (s t : RollupState) → low ≤ℤ index → t ≡ cells_created_for index (take i ns) s → IsCreatedInPart low index ns s t
-some_roomed low index ns i s t above made = (i, made ∙ sym (roomed_above low index (take i ns) s above))
 
 pub none_roomed_yet : (low index : ℤ) (ns : List ℕ) (s : RollupState) → IsCreatedInPart low index ns s s
 none_roomed_yet low index ns s = (0, elim (int_lt index low) as (λ b. s ≡ cond b s s) [ true ↦ refl | false ↦ refl ])

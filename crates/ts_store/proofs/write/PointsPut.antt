@@ -171,9 +171,6 @@ module _ (states : List ColumnState) (column : ℕ) (time value : ℤ) (old : Op
   all_put (r ∷ rs) (s ∷ ss) (t ∷ ts) h = λ cs before f over put.
       ap₂ (λ (ms ns : List CellMap). ms ++ ns) (h.0.1 cs before f (first_over r rs cs states before s ss over) put) (all_put rs ss ts h.1 cs before f (others_over r rs cs states before s ss over) put)
 
-pub grids_kept_more : (s t : RollupState) (ss ts ss' : List RollupState) → ss' ≡ s ∷ ss → t ≡ with_grid_cells t.grid.cells s → ts ≡ with_all_grid_cells (cells_of ts) ss → t ∷ ts ≡ with_all_grid_cells (cells_of (t ∷ ts)) ss'
-grids_kept_more s t ss ts ss' e one others = ap₂ (λ (u : RollupState) (us : List RollupState). u ∷ us) one others ∙ sym (ap (with_all_grid_cells (cells_of (t ∷ ts))) e)
-
 pub grids_kept_then : (ss ts us : List RollupState) → ts ≡ with_all_grid_cells (cells_of ts) ss → us ≡ with_all_grid_cells (cells_of us) ts → us ≡ with_all_grid_cells (cells_of us) ss
 grids_kept_then [] [] us e f = f
 grids_kept_then [] (t ∷ ts) us e f = absurd (let n : length (t ∷ ts) ≡ 0 = ap (λ (xs : List RollupState). length xs) e in omega (arith, n))
