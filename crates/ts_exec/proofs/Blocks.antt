@@ -1,7 +1,6 @@
 -- Blocks of points in one run: their aggregate merged at once is each point merged.
-use Rattle.std.proofs.Common.{◌≡◌, ℕ, zero, suc, ◌+◌, ◌<◌, ◌≤◌, ◌^◌, ℤ, ◌≤ℤ◌, ◌<ℤ◌, int_le, int_lt, true, List, [], ◌∷◌, ◌++◌, length, length-append, get_or, take, min, append_assoc, refl, sym, ◌∙◌, ap, subst, arith, Option, Some, None}
+use Rattle.std.proofs.Common.{◌≡◌, ℕ, zero, suc, ◌+◌, ◌<◌, ◌≤◌, ◌^◌, ℤ, ◌≤ℤ◌, ◌<ℤ◌, true, List, [], ◌∷◌, ◌++◌, length, length-append, get_or, take, min, append_assoc, refl, sym, ◌∙◌, ap, subst, arith, Option, Some, None}
 use Rattle.std.specs.List.{AllByRecursion}
-use Rattle.std.proofs.lemmas.Bool.{and_from}
 use Rattle.std.proofs.lemmas.Int.{ints}
 use Rattle.std.proofs.lemmas.List.{take_more, length-take-le}
 use Rattle.std.proofs.lemmas.List.Sums.{fold-append}
@@ -11,8 +10,8 @@ use Rattle.ts_core.specs.aggregates.Aggregates.{Aggregate, empty_aggregate, aggr
 use Rattle.ts_core.specs.aggregates.MergeLaws.{aggregate_laws}
 use Rattle.ts_core.specs.aggregates.SoundLaws.{sound_laws}
 use Rattle.ts_core.proofs.aggregates.RemaindersLemmas.{fold-possible}
-use Rattle.ts_core.proofs.lists.Comparisons.{le_true, lt_true}
 use Rattle.ts_core.proofs.lists.ListSteps.{all_append, all_push}
+use Rattle.ts_core.proofs.plans.Covered.{within_true}
 use Rattle.ts_core.proofs.queries.Boundaries.{within_parts}
 use Rattle.ts_core.proofs.aggregates.AggregatesLemmas.{count_of_fold}
 use Rattle.ts_raw.specs.PlainColumns.{IsRising}
@@ -83,19 +82,16 @@ module _ (parts : AggregateParts) (part : Aggregate) (ps : List (ℤ × ℤ)) (i
       let next : take (i + 1) ps ≡ take i ps ++ p ∷ [] = take_more ps i p within ∙ ap (λ (q : ℤ × ℤ). take i ps ++ q ∷ []) (sym read) in
       sym (ap (part_with parts part) next ∙ fold-append (λ (b : Aggregate) (q : ℤ × ℤ). merged b (part_of_point parts q.0 q.1)) part (take i ps) (p ∷ []))
 
-within-true : (low high t : ℤ) → low ≤ℤ t → t <ℤ high → is_within low high t ≡ true
-within-true low high t l h = and_from (int_le low t) (int_lt t high) (le_true low t l) (lt_true t high h)
-
 -- points in the order of time, from one at or after low to one before high, are all within
 pub rising-within : (low high : ℤ) (ps : List (ℤ × ℤ)) (i : ℕ) (d e : ℤ × ℤ) → IsRising ps → i < length ps → low ≤ℤ (get_or ps 0 d).0 → (get_or ps i e).0 <ℤ high
     → AllByRecursion (λ (q : ℤ × ℤ). is_within low high q.0 ≡ true) (take (suc i) ps)
 rising-within low high [] i d e s w l h = absurd (omega arith)
-rising-within low high (p ∷ ps) zero d e s w l h = (within-true low high p.0 l h, tt)
+rising-within low high (p ∷ ps) zero d e s w l h = (within_true low high p.0 l h, tt)
 rising-within low high (p ∷ []) (suc i) d e s w l h = absurd (omega arith)
 rising-within low high (p ∷ q ∷ ps) (suc i) d e s w l h =
     let last = less_at p (q ∷ ps) s i e (omega arith) in
     let next = less_at p (q ∷ ps) s 0 q (omega arith) in (
-      within-true low high p.0 l (omega (arith, ints)),
+      within_true low high p.0 l (omega (arith, ints)),
       rising-within low high (q ∷ ps) i q e (is_rising_behind 1 (p ∷ q ∷ ps) s) (omega arith) (omega (arith, ints)) h,
     )
 
