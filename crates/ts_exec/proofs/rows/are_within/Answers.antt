@@ -21,5 +21,5 @@ returns-then-low-nanos c = λ e.
       omega arith,
       omega arith,
       subst (λ m. AllByRecursion (λ (p : ℤ × ℤ). is_within c.args.low c.args.high p.0 ≡ true) (take m points)) some
-      (rising-within c.args.low c.args.high points (n - 1) c.index-points-0.result c.index-points-count.result c.requires (omega arith) (subst (λ t. c.args.low ≤ℤ t) first low) (subst (λ t. t <ℤ c.args.high) last high)),
+          (rising-within c.args.low c.args.high points (n - 1) c.index-points-0.result c.index-points-count.result c.requires (omega arith) (subst (λ t. c.args.low ≤ℤ t) first low) (subst (λ t. t <ℤ c.args.high) last high)),
     )
