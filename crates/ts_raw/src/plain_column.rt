@@ -71,7 +71,7 @@ fn insert_point<A: Allocator>(points: &mut Vec<(Time, i64), A>, point: (Time, i6
 }
 
 /// Returns the number of points before a time in nanoseconds, by binary search.
-fn count_before(points: &[(Time, i64)], time: i64) -> usize
+pub(crate) fn count_before(points: &[(Time, i64)], time: i64) -> usize
     requires { IsRising points.now }
     ensures bound { result ≤ length points.now }
     ensures start { IsStartOf time points.now result }
