@@ -12,6 +12,7 @@ use Rattle.ts_store.specs.declared.retain.StepAnswer.{StepAnswer}
 use Rattle.ts_store.specs.declared.retain.StepAnswer.TheVariants.{Moved, Done}
 use Rattle.ts_core.specs.moves.StoreMoves.{run_begun, column_moved, with_cells, run_ended}
 use Rattle.ts_cells.specs.Expiry.{IsAbove, LosesBelow}
+use Rattle.ts_store.specs.rollup.ChangedLists.{FirstChanges}
 use Rattle.ts_store.specs.store.Inventories.{inventory_of, all_waiting, steps_in, StepsTo, LeavesRecent}
 
 -- steps that ended no run
@@ -35,10 +36,7 @@ pub record LosesCells (low : ℤ) (before after : CellMap) : Type 0 where
 
 -- the first rule that has cells below its low index loses some of them, and no other rule loses any
 abbrev pub FirstLoses : List ℤ → List CellMap → List CellMap → Type 0
-FirstLoses [] ms ns = ⊥
-FirstLoses (low ∷ lows) [] ns = ⊥
-FirstLoses (low ∷ lows) (m ∷ ms) [] = ⊥
-FirstLoses (low ∷ lows) (m ∷ ms) (n ∷ ns) = (LosesCells low m n × (ns ≡ ms)) ⊎ (IsAbove low m × (n ≡ m) × FirstLoses lows ms ns)
+FirstLoses = FirstChanges IsAbove LosesCells
 
 -- moves the first of the waiting columns
 pub record MovesFirst (old new : StoreData) : Type 0 where

@@ -13,6 +13,7 @@ use Rattle.ts_core.specs.store.StoreStates.{column_of}
 use Rattle.ts_core.specs.store.StoreData.{CellMap, StoreData}
 use Rattle.ts_line.specs.Parts.{Parts, line_facts}
 use Rattle.ts_line.specs.declared.fault.LineFault.{LineFault}
+use Rattle.ts_store.specs.rollup.ChangedLists.{FirstChanges}
 use Rattle.ts_store.specs.write.LinesPut.{IsOfFacts}
 use Rattle.ts_store.specs.write.Registered.{new_columns}
 use Rattle.ts_store.specs.declared.retain.StepAnswer.{StepAnswer}
@@ -113,10 +114,7 @@ pub record Expires (low : ℤ) (old new : List Cell) : Type 0 where
 
 -- the first rule that has cells below its low index loses some of them, and no other rule loses any
 abbrev pub FirstExpires : List ℤ → List (List Cell) → List (List Cell) → Type 0
-FirstExpires [] old new = ⊥
-FirstExpires (low ∷ lows) [] new = ⊥
-FirstExpires (low ∷ lows) (a ∷ old) [] = ⊥
-FirstExpires (low ∷ lows) (a ∷ old) (b ∷ new) = (Expires low a b × (new ≡ old)) ⊎ ((expired_in low a ≡ 0) × (b ≡ a) × FirstExpires lows old new)
+FirstExpires = FirstChanges (λ (low : ℤ) (cells : List Cell). expired_in low cells ≡ 0) Expires
 
 -- the number of steps that remove all cells below the low indices
 abbrev pub batches_in : List ℤ → List (List Cell) → ℕ
