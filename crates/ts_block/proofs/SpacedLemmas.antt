@@ -1,13 +1,15 @@
 -- Steps that are all the same: their bytes repeat the first step.
-use Rattle.std.proofs.Common.{◌≡◌, ℕ, ◌-◌, ◌≤◌, ℤ, List, [], ◌∷◌, ◌++◌, length, IsOk, Ok, take, drop, append_assoc, length-append, refl, sym, ◌∙◌, ap, subst, arith}
+use Rattle.std.proofs.Common.{◌≡◌, ℕ, zero, suc, ◌+◌, ◌-◌, ◌^◌, ◌<◌, ◌≤◌, ℤ, ◌-ℤ◌, ◌<ℤ◌, unsigned_abs, List, [], ◌∷◌, ◌++◌, length, IsOk, Ok, ◌⊎◌, ⊎_elim, take, drop, append_assoc, length-append, refl, sym, ◌∙◌, ap, subst, arith}
+use Rattle.std.proofs.lemmas.Int.{ints}
 use Rattle.std.proofs.lemmas.List.{take-append-drop}
 use Rattle.std.proofs.Math.Seq.{drop-append_seam, take-append_seam}
 use Rattle.ts_core.specs.facts.Times.{IsTime}
-use Rattle.ts_block.specs.Appending.{values_start}
+use Rattle.ts_block.specs.Appending.{values_start, last_time}
 use Rattle.ts_block.specs.Varints.{number_text}
 use Rattle.ts_block.specs.NumbersRead.{number_at}
-use Rattle.ts_block.specs.Blocks.{times_of, values_of, head_text, step_between, steps_text, values_text, block_text, AreLater, IsBlockOf}
-use Rattle.ts_block.specs.Decoding.{FollowBy, AreSpaced}
+use Rattle.ts_block.specs.Blocks.{times_of, values_of, head_text, step_between, steps_text, values_text, block_text, AreLater, last_of, IsBlockOf}
+use Rattle.ts_block.specs.BlocksRead.{step_from}
+use Rattle.ts_block.specs.Decoding.{FollowBy, AreSpaced, AreApartBy}
 use Rattle.ts_block.proofs.Choices.{ok_is}
 use Rattle.ts_block.proofs.NumberLaws.{number_again}
 use Rattle.ts_block.proofs.PartLaws.{step_back, step_fits}
@@ -41,6 +43,9 @@ follow_from t u (w ∷ ws) is later r =
     let step : step_between t u ≡ step_between u w = ap (λ (x : ℕ × List ℕ). x.0) same in
     let front : rest ≡ take (length rest) others = sym (take-append_seam rest more) ∙ ap (take (length rest)) (sym (ap (λ (x : ℕ × List ℕ). x.1) same)) in
     (sym (step_back t u later.0), subst (λ n. FollowBy n u (w ∷ ws)) (sym step) (follow_from u w ws later.1 later.2 front))
+
+one_more_fits : (t u : ℤ) → IsTime t → IsTime u → t <ℤ u → step_between t u + 1 < 2 ^ 64
+one_more_fits t u a b h = let p = a.not_before in let q = b.not_after in omega (arith, ints)
 
 module _ (block : List ℕ) (values : ℕ) where
   -- the bytes from the head to the values are those of the steps
@@ -77,6 +82,19 @@ module _ (block : List ℕ) (values : ℕ) where
       let same : length rest ≡ length (steps_text q.0 (times_of qs)) = ap (λ (x : ℕ × List ℕ). length x.1) first in
       omega arith
 
+  -- the distance is one more than the step
+  pub distance_fits : (points : List (ℤ × ℤ)) → IsBlockOf block points → values ≡ values_start points → (length (take (values - 9) (drop 9 block)) ≡ 0 → ⊥) → (n : ℕ) (rest : List ℕ) → Ok (n, rest) ≡ number_at (take (values - 9) (drop 9 block))
+      → n + 1 < 2 ^ 64
+  unfolding steps_text
+  distance_fits [] b v some n rest e = absurd b.points_are
+  distance_fits (p ∷ []) b v some n rest e = absurd (some (ap length (steps_of_block p [] b v)))
+  distance_fits (p ∷ q ∷ qs) b v some n rest e =
+      let steps = steps_of_block p (q ∷ qs) b v in
+      let first = ok_is (n, rest) (step_between p.0 q.0, steps_text q.0 (times_of qs)) (e ∙ ap number_at steps ∙ first_alone p.0 q.0 (times_of qs) b.points_are.1 b.points_are.2) in
+      let same : n ≡ step_between p.0 q.0 = ap (λ (x : ℕ × List ℕ). x.0) first in
+      let fits = one_more_fits p.0 q.0 b.points_are.1 b.points_are.2.1 b.points_are.2.0 in
+      omega arith
+
   pub spaced_points_are : (points : List (ℤ × ℤ)) → IsBlockOf block points → values ≡ values_start points → (n : ℕ) (rest : List ℕ) → Ok (n, rest) ≡ number_at (take (values - 9) (drop 9 block))
       → rest ≡ take (length rest) (take (values - 9) (drop 9 block)) → AreSpaced n points
   spaced_points_are [] b v n rest e same = absurd b.points_are
@@ -87,3 +105,34 @@ module _ (block : List ℕ) (values : ℕ) where
       subst (λ k. FollowBy k p.0 (q.0 ∷ times_of qs)) (sym (ap (λ (x : ℕ × List ℕ). x.0) first))
       (follow_from p.0 q.0 (times_of qs) b.points_are.1 b.points_are.2
       ((λ i. (ap (λ (x : ℕ × List ℕ). x.1) (sym first)) i) ∙ same ∙ (λ i. take (length ((ap (λ (x : ℕ × List ℕ). x.1) first) i)) (steps i))))
+
+-- the distance is the step and 1
+pub apart_by : (step : ℕ) (ps : List (ℤ × ℤ)) → AreSpaced step ps → AreApartBy (step + 1) ps
+apart_by step ps h = subst (λ n. AreApartBy n ps) (let e : suc step ≡ step + 1 = omega arith in e) h
+
+-- ---- a point more
+
+follow_push : (k : ℕ) (t : ℤ) (ps : List (ℤ × ℤ)) (p : ℤ × ℤ) → suc k ≡ unsigned_abs (p.0 -ℤ last_of t (times_of ps)) → last_of t (times_of ps) <ℤ p.0 → FollowBy k t (times_of ps) → FollowBy k t (times_of (ps ++ p ∷ []))
+follow_push k t [] p d l a = (reached k t p.0 d l, tt)
+  where
+    reached : (k : ℕ) (t u : ℤ) → suc k ≡ unsigned_abs (u -ℤ t) → t <ℤ u → u ≡ step_from t k
+    reached k t u d l = grind (arith, ints)
+follow_push k t (q ∷ qs) p d l a = (a.0, follow_push k q.0 qs p d l a.1)
+
+-- the new point is as far from the last one
+apart_push : (n : ℕ) (ps : List (ℤ × ℤ)) (p : ℤ × ℤ) → n ≡ unsigned_abs (p.0 -ℤ last_time ps) → last_time ps <ℤ p.0 → AreApartBy n ps → AreApartBy n (ps ++ p ∷ [])
+apart_push zero ps p d l a = tt
+apart_push (suc k) [] p d l a = tt
+apart_push (suc k) (q ∷ qs) p d l a = follow_push k q.0 qs p d l a
+
+-- one point lies apart by any distance
+one_apart : (n : ℕ) (ps : List (ℤ × ℤ)) → length ps ≤ 1 → AreApartBy n ps
+one_apart zero ps e = tt
+one_apart (suc k) [] e = tt
+one_apart (suc k) (p ∷ []) e = tt
+one_apart (suc k) (p ∷ q ∷ qs) e = absurd (omega arith)
+
+-- the points were one, or lay apart by the same distance
+pub apart_more : (n spacing : ℕ) (ps : List (ℤ × ℤ)) (p : ℤ × ℤ) → n ≡ unsigned_abs (p.0 -ℤ last_time ps) → last_time ps <ℤ p.0 → (length ps ≤ 1) ⊎ (spacing ≡ n) → AreApartBy spacing ps → AreApartBy n (ps ++ p ∷ [])
+apart_more n spacing ps p d l c a =
+    apart_push n ps p d l (⊎_elim {C = AreApartBy n ps} (λ (e : length ps ≤ 1). one_apart n ps e) (λ (e : spacing ≡ n). subst (λ k. AreApartBy k ps) e a) c)

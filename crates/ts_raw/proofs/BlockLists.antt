@@ -7,6 +7,7 @@ use Rattle.ts_core.specs.aggregates.Aggregates.{aggregate_of_points}
 use Rattle.ts_core.proofs.store.StateLemmas.{same_head, same_rest}
 use Rattle.ts_block.specs.Blocks.{ArePoints, IsBlockOf}
 use Rattle.ts_block.specs.Appending.{EndsInBlock, values_start, last_time}
+use Rattle.ts_block.specs.Decoding.{AreApartBy}
 use Rattle.ts_block.proofs.DecodingLemmas.{values_inside}
 use Rattle.ts_raw.specs.declared.block_handle.BlockHandle.{BlockHandle}
 use Rattle.ts_raw.specs.Columns.{AreTimed}
@@ -88,18 +89,18 @@ pub text_size : (bytes : List ℕ) (m : BlockHandle) → m.start < m.end → m.e
 text_size bytes m s h = length-take-le (m.end - m.start) (drop m.start bytes) (let e = length-drop m.start bytes in omega arith)
 
 -- the bytes of a block at the end of others
-pub mark_copied : (src old new : List ℕ) (m n : BlockHandle) → IsBlockHandle src m → new ≡ old ++ block_text_at src m → n.start ≡ length old → n.end ≡ length new → n.values ≡ m.values → n.count ≡ m.count → n.last ≡ m.last → n.summary ≡ m.summary
+pub mark_copied : (src old new : List ℕ) (m n : BlockHandle) → IsBlockHandle src m → new ≡ old ++ block_text_at src m → n.start ≡ length old → n.end ≡ length new → n.values ≡ m.values → n.count ≡ m.count → n.last ≡ m.last → n.spacing ≡ m.spacing → n.summary ≡ m.summary
     → IsBlockHandle new n × (block_points_at new n ≡ block_points_at src m)
-mark_copied src old new m n h is s e v k l a =
+mark_copied src old new m n h is s e v k l g a =
     let size = text_size src m h.some h.within in
     let all = ap length is ∙ length-append old (block_text_at src m) in
     let some = h.some in
     let width : n.end - n.start ≡ length (block_text_at src m) = omega arith in
     let text : block_text_at new n ≡ block_text_at src m = (λ i. take (width i) (drop (s i) (is i))) ∙ ap (take (length (block_text_at src m))) (drop-append_seam old (block_text_at src m)) ∙ take-length (block_text_at src m) in
-    mark_moved src new m n h text (omega arith) (omega arith) v k l a
+    mark_moved src new m n h text (omega arith) (omega arith) v k l g a
 
 module _ (old new : List ℕ) (ms : List BlockHandle) (m n : BlockHandle) (h : AreBlocks old (ms ++ m ∷ [])) (is : new ≡ old ++ block_text_at old m)
-    (s : n.start ≡ length old) (e : n.end ≡ length new) (v : n.values ≡ m.values) (k : n.count ≡ m.count) (l : n.last ≡ m.last) (a : n.summary ≡ m.summary) where
+    (s : n.start ≡ length old) (e : n.end ≡ length new) (v : n.values ≡ m.values) (k : n.count ≡ m.count) (l : n.last ≡ m.last) (g : n.spacing ≡ m.spacing) (a : n.summary ≡ m.summary) where
   front : take (length old) new ≡ old
   front = ap (take (length old)) is ∙ take-append_seam old (block_text_at old m)
 
@@ -110,7 +111,7 @@ module _ (old new : List ℕ) (ms : List BlockHandle) (m n : BlockHandle) (h : A
   stay = blocks_stay old new ms front old_parts.0
 
   moved : IsBlockHandle new n × (block_points_at new n ≡ block_points_at old m)
-  moved = mark_copied old old new m n old_parts.1 is s e v k l a
+  moved = mark_copied old old new m n old_parts.1 is s e v k l g a
 
   pub moved_marked : AreBlocks new (ms ++ n ∷ [])
   moved_marked = one_more new n ms stay.0 moved.0
@@ -135,22 +136,22 @@ take_next (x ∷ xs) (suc i) d l =
 
 -- one more block is copied
 pub copied_more : (src old new : List ℕ) (all ms : List BlockHandle) (i : ℕ) (n d : BlockHandle) → AreBlocks src all → i < length all → AreBlocks old ms → blocks_at old ms ≡ blocks_at src (take i all) → new ≡ old ++ block_text_at src (get_or all i d)
-    → n.start ≡ length old → n.end ≡ length new → n.values ≡ (get_or all i d).values → n.count ≡ (get_or all i d).count → n.last ≡ (get_or all i d).last → n.summary ≡ (get_or all i d).summary
+    → n.start ≡ length old → n.end ≡ length new → n.values ≡ (get_or all i d).values → n.count ≡ (get_or all i d).count → n.last ≡ (get_or all i d).last → n.spacing ≡ (get_or all i d).spacing → n.summary ≡ (get_or all i d).summary
     → AreBlocks new (ms ++ n ∷ []) × (blocks_at new (ms ++ n ∷ []) ≡ blocks_at src (take (i + 1) all))
-copied_more src old new all ms i n d h l marked blocks is s e v k last summary =
+copied_more src old new all ms i n d h l marked blocks is s e v k last spacing summary =
     let m : BlockHandle = get_or all i d in
     let front : take (length old) new ≡ old = ap (take (length old)) is ∙ take-append_seam old (block_text_at src m) in
     let stay = blocks_stay old new ms front marked in
-    let here = mark_copied src old new m n (mark_at src all i d h l) is s e v k last summary in (
+    let here = mark_copied src old new m n (mark_at src all i d h l) is s e v k last spacing summary in (
       one_more new n ms stay.0 here.0,
       blocks_push new ms n ∙ (λ j. (stay.1 ∙ blocks) j ++ (here.1 j ∷ [])) ∙ sym (blocks_push src (take i all) m) ∙ ap (blocks_at src) (sym (take_next all i d l)),
     )
 
 -- ---- a block of points at the end
 
-pub block_at_end : (old block new : List ℕ) (ps : List (ℤ × ℤ)) (m : BlockHandle) → IsBlockOf block ps → new ≡ old ++ block → m.start ≡ length old → m.end ≡ length new → m.values ≡ values_start ps → m.count ≡ length ps → m.last ≡ last_time ps → m.summary ≡ aggregate_of_points ps
+pub block_at_end : (old block new : List ℕ) (ps : List (ℤ × ℤ)) (m : BlockHandle) → IsBlockOf block ps → new ≡ old ++ block → m.start ≡ length old → m.end ≡ length new → m.values ≡ values_start ps → m.count ≡ length ps → m.last ≡ last_time ps → AreApartBy m.spacing ps → m.summary ≡ aggregate_of_points ps
     → IsEncoded (length old) new m ps
-block_at_end old block new ps m b is s e v k l a =
+block_at_end old block new ps m b is s e v k l g a =
     let rest : drop m.start new ≡ block = (λ i. drop (s i) (is i)) ∙ drop-append_seam old block in
     let some : 0 < length block = let w = values_inside block ps b (values_start ps) refl in let n = nine ps b.points_are in omega arith in
     let ends : EndsInBlock new m.start (m.start + m.values) m.last ps = record {
@@ -159,7 +160,7 @@ block_at_end old block new ps m b is s e v k l a =
       values_at = ap (λ n. m.start + n) v;
       last_is = l;
     } in
-    let both = new_mark new m ps ends e k a in
+    let both = new_mark new m ps ends e k g a in
     record { starts = omega arith; handle = both.0; points_are = both.1 }
   where
     nine : (ps : List (ℤ × ℤ)) → ArePoints ps → 0 < values_start ps

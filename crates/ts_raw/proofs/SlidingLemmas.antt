@@ -63,7 +63,7 @@ module _ (m : BlockHandle) (to from : ℕ) (low : from ≤ m.start) where
 
 -- the block m of these bytes moves down to an offset
 module _ (bytes new : List ℕ) (m n : BlockHandle) (to : ℕ) (h : IsBlockHandle bytes m) (low : to ≤ m.start) (is : new ≡ copy_within bytes m.start m.end to)
-    (start : n.start ≡ to) (end : n.end ≡ to + (m.end - m.start)) (values : n.values ≡ m.values) (count : n.count ≡ m.count) (last : n.last ≡ m.last) (summary : n.summary ≡ m.summary) where
+    (start : n.start ≡ to) (end : n.end ≡ to + (m.end - m.start)) (values : n.values ≡ m.values) (count : n.count ≡ m.count) (last : n.last ≡ m.last) (spacing : n.spacing ≡ m.spacing) (summary : n.summary ≡ m.summary) where
   abbrev size : ℕ
   size = m.end - m.start
 
@@ -92,7 +92,7 @@ module _ (bytes new : List ℕ) (m n : BlockHandle) (to : ℕ) (h : IsBlockHandl
       (λ i. take (width i) (drop (at i) (all i))) ∙ ap (take (length text)) (drop-append_seam front (text ++ back)) ∙ take-append_seam text back
 
   moved : IsBlockHandle new n × (block_points_at new n ≡ block_points_at bytes m)
-  moved = let s = h.some in let l = same_length in let f = fits in mark_moved bytes new m n h text_moved (omega arith) (omega arith) values count last summary
+  moved = let s = h.some in let l = same_length in let f = fits in mark_moved bytes new m n h text_moved (omega arith) (omega arith) values count last spacing summary
 
   before : take to new ≡ take to bytes
   before = front_same new (take to bytes) (take size (drop m.start bytes)) (drop (to + size) bytes) (length-take-le to bytes low_size) is
@@ -110,7 +110,7 @@ module _ (bytes new : List ℕ) (m n : BlockHandle) (to : ℕ) (h : IsBlockHandl
   stays_there k b p =
       ⊎_elim {C = IsBlockHandle new k × (block_points_at new k ≡ block_points_at bytes k)}
       (λ (l : k.end ≤ to). let both = blocks_before bytes new to (k ∷ []) low_size before (l, tt) (b, tt) in (both.0.0, ap (first (block_points_at bytes k)) both.1))
-      (λ (l : m.end ≤ k.start). mark_moved bytes new k k b (ap (take (k.end - k.start)) (behind k.start l)) b.some (let w = b.within in let e = same_length in omega arith) refl refl refl refl) p
+      (λ (l : m.end ≤ k.start). mark_moved bytes new k k b (ap (take (k.end - k.start)) (behind k.start l)) b.some (let w = b.within in let e = same_length in omega arith) refl refl refl refl refl) p
     where
       first : List (ℤ × ℤ) → List (List (ℤ × ℤ)) → List (ℤ × ℤ)
       first d [] = d
@@ -261,8 +261,8 @@ sliding_first bytes ms b a = record { marked = b; apart = a; blocks = refl; part
     none_moved (m ∷ ms) = (0, none_moved ms, inr refl)
 
 pub sliding_next : (old : List ℕ) (was : List BlockHandle) (bytes new : List ℕ) (ms : List BlockHandle) (to from at : ℕ) (m n : BlockHandle) → AreSliding old was bytes ms to from → IsNextBlock from ms at → m ≡ get_or ms at m → new ≡ copy_within bytes m.start m.end to
-    → n.start ≡ to → n.end ≡ to + (m.end - m.start) → n.values ≡ m.values → n.count ≡ m.count → n.last ≡ m.last → n.summary ≡ m.summary → AreSliding old was new (set ms at n) (to + (m.end - m.start)) m.end
-sliding_next old was bytes new ms to from at m n s next there is start end values count last summary =
+    → n.start ≡ to → n.end ≡ to + (m.end - m.start) → n.values ≡ m.values → n.count ≡ m.count → n.last ≡ m.last → n.spacing ≡ m.spacing → n.summary ≡ m.summary → AreSliding old was new (set ms at n) (to + (m.end - m.start)) m.end
+sliding_next old was bytes new ms to from at m n s next there is start end values count last spacing summary =
     let within = next.0 in
     let first : from ≤ m.start = subst (λ (x : BlockHandle). from ≤ x.start) (sym there) (next.1 m).0 in
     let none : NoneStartBetween from m.start ms = subst (λ (x : BlockHandle). NoneStartBetween from x.start ms) (sym there) (next.1 m).1 in
@@ -270,15 +270,15 @@ sliding_next old was bytes new ms to from at m n s next there is start end value
     let low : to ≤ m.start = let l = s.low in omega arith in
     let beside : AllBut (LieApart m) at ms = subst (λ (x : BlockHandle). AllBut (LieApart x) at ms) (sym there) (apart_beside m ms at within s.apart) in
     let parted : AllBut (Parted to m.end) at ms = others_later m to from first bytes ms at s.marked s.parted none beside in
-    let both = all_moved bytes new m n to h low is start end values count last summary m ms at within (sym there) s.marked parted in
+    let both = all_moved bytes new m n to h low is start end values count last spacing summary m ms at within (sym there) s.marked parted in
     record {
       marked = both.0;
-      apart = set_apart bytes new m n to h low is start end values count last summary ms at s.apart parted;
+      apart = set_apart bytes new m n to h low is start end values count last spacing summary ms at s.apart parted;
       blocks = both.1 ∙ s.blocks;
-      parted = set_parted bytes new m n to h low is start end values count last summary ms at parted;
+      parted = set_parted bytes new m n to h low is start end values count last spacing summary ms at parted;
       low = let x = h.some in omega arith;
-      within = let x = h.within in let y = same_length bytes new m n to h low is start end values count last summary in omega arith;
-      are_moved = set_moved bytes new m n to h low is start end values count last summary m ms at to within (sym there) s.are_moved;
+      within = let x = h.within in let y = same_length bytes new m n to h low is start end values count last spacing summary in omega arith;
+      are_moved = set_moved bytes new m n to h low is start end values count last spacing summary m ms at to within (sym there) s.are_moved;
     }
 
 -- all blocks are moved

@@ -1,5 +1,7 @@
 //! Appends points to coded blocks.
-ghost use Rattle.std.specs.Prelude.{◌≡◌, ◌↔◌, ◌+◌, ◌<◌, ◌≤◌, ◌<ℤ◌, ℕ, [], ◌∷◌, ◌++◌, length, take, vec_len, vec_capacity, IsTrue, false, None};
+ghost use Rattle.std.specs.Prelude.{◌≡◌, ◌↔◌, ◌+◌, ◌<◌, ◌≤◌, ◌<ℤ◌, ℕ, ℤ, List, [], ◌∷◌, ◌++◌, length, take, vec_len, vec_capacity, IsTrue, false, None};
+ghost use Rattle.ts_block.specs.Appending.{last_time};
+ghost use Rattle.ts_block.specs.Decoding.{AreApartBy};
 ghost use Rattle.ts_raw.specs.CodedPoints.{IsCoded, AreOrdered, AllEndBefore, IsBlockHandle, LastGrows, AreApart, IsLastBefore, CutFits, block_points_at, coded_points, blocks_at};
 ghost use Rattle.ts_raw.specs.CodedBlocks.{HasRoom, HasSpare, AreSoundBlocks, IsStaged, KeepsCounts, points_of_blocks};
 ghost use Rattle.ts_raw.specs.Rewriting.{IsEncoded};
@@ -46,6 +48,18 @@ pub(crate) fn can_grow(handles: &[BlockHandle], size: usize) -> bool
     }
 }
 
+/// Returns the nanoseconds from each time of a block to the next if a later time is appended, or 0 if they differ.
+fn spacing_after(handle: &BlockHandle, time: Time) -> u64
+    requires { handle.now.last <ℤ time }
+    ensures { (points : List (ℤ × ℤ)) (value : ℤ) → handle.now.count ≡ length points → handle.now.last ≡ last_time points → AreApartBy handle.now.spacing points → AreApartBy result (points ++ (time, value) ∷ []) }
+{
+    let distance = time.nanos().abs_diff(handle.last.nanos());
+    if handle.count > 1 && handle.spacing != distance {
+        return 0;
+    }
+    distance
+}
+
 /// Appends a point to the block that ends the bytes, in place. There must be capacity.
 fn push_last<A: Allocator>(bytes: &mut Vec<u8, A>, handle: &mut BlockHandle, point: &(Time, i64))
     requires marked { IsBlockHandle bytes.old.items handle.old }
@@ -56,6 +70,7 @@ fn push_last<A: Allocator>(bytes: &mut Vec<u8, A>, handle: &mut BlockHandle, poi
     ensures kept { take handle.old.start bytes.new.items ≡ take handle.old.start bytes.old.items }
     ensures block { IsEncoded handle.old.start bytes.new.items handle.new (block_points_at bytes.old.items handle.old ++ point.now ∷ []) }
 {
+    let spacing = spacing_after(handle, point.0);
     let values = append(
         bytes,
         handle.start,
@@ -67,6 +82,7 @@ fn push_last<A: Allocator>(bytes: &mut Vec<u8, A>, handle: &mut BlockHandle, poi
     handle.end = bytes.len();
     handle.count += 1;
     handle.last = point.0;
+    handle.spacing = spacing;
     handle.summary = handle.summary.merge(Agg::single(point.0, point.1));
 }
 
@@ -93,6 +109,7 @@ impl<A: Allocator> CodedBlocks<A> {
             end: self.bytes.len(),
             count: 1,
             last: point.0,
+            spacing: 0,
             summary: Agg::single(point.0, point.1),
         };
         self.handles.push_reserved(handle);

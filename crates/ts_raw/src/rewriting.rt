@@ -15,7 +15,7 @@ use crate::coded::count_of;
 use crate::coded_blocks::CodedBlocks;
 use crate::walk::text_of;
 use std::alloc::{AllocError, Allocator};
-use ts_block::{Decoder, first_points, last_points, with_point};
+use ts_block::{Decoder, first_points, last_points, spacing_of, with_point};
 use ts_core::{Agg, Partial, Time, reserve_eighth};
 
 /// Number of points above which a block is halved when a point is inserted or replaced. Late points mostly come near
@@ -74,12 +74,14 @@ fn push_text<A: Allocator>(
     reserve_eighth(bytes, text.len())?;
     let start = bytes.len();
     bytes.extend_from_slice(text).unwrap();
+    let spacing = spacing_of(text, values);
     Ok(BlockHandle {
         start,
         values,
         end: bytes.len(),
         count,
         last,
+        spacing,
         summary,
     })
 }

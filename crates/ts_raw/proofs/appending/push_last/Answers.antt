@@ -55,5 +55,6 @@ returns-clause-block g c =
     let index : c.append-values.result ≡ m.start + (c.append-values.result - m.start) = let v = block.values_at in omega arith in
     let fits : SFits w64 c.args.point.now.1 = search rules in
     let one = c.single.ensures ∙ ap (aggregate_of_one c.args.point.now.0) (to_z-of_z fits) in
-    let n : BlockHandle = record m { values = c.append-values.result - m.start; end = c.len-handle.result; count = m.count + 1; last = c.args.point.now.0; summary = c.merge-handle.result } in
-    grown_block bytes new m n c.args.point.now c.requires.marked (subst (λ v. EndsInBlock new m.start v c.args.point.now.0 (block_points_at bytes m ++ c.args.point.now ∷ [])) index block) refl end refl refl (c.merge-handle.ensures ∙ ap (merged m.summary) one)
+    let spaced = c.spacing_after-spacing.ensures (block_points_at bytes m) c.args.point.now.1 c.requires.marked.count_is c.requires.marked.last_is c.requires.marked.spaced in
+    let n : BlockHandle = record m { values = c.append-values.result - m.start; end = c.len-handle.result; count = m.count + 1; last = c.args.point.now.0; spacing = c.spacing_after-spacing.result; summary = c.merge-handle.result } in
+    grown_block bytes new m n c.args.point.now c.requires.marked (subst (λ v. EndsInBlock new m.start v c.args.point.now.0 (block_points_at bytes m ++ c.args.point.now ∷ [])) index block) refl end refl refl spaced (c.merge-handle.ensures ∙ ap (merged m.summary) one)

@@ -24,7 +24,7 @@ loop-handle-preserved g c =
     let is : new ≡ old ++ block_text_at src m = c.in_ok-extend_from_slice.ensures.items ∙ ap (λ (x : List ℕ). old ++ x) c.text_of.ensures in
     let items : c.push.new.self.items ≡ ms ++ (n ∷ []) = c.in_ok-push.ensures.items in
     let there = c.handle-item.is in
-    let both = copied_more src old new all ms c.loop-handle.handle-index n m c.requires l c.loop-handle.invariant.marked c.loop-handle.invariant.blocks (is ∙ ap (λ x. old ++ block_text_at src x) there) start end (ap (λ (x : BlockHandle). x.values) there) (ap (λ (x : BlockHandle). x.count) there) (ap (λ (x : BlockHandle). x.last) there) (ap (λ (x : BlockHandle). x.summary) there) in
+    let both = copied_more src old new all ms c.loop-handle.handle-index n m c.requires l c.loop-handle.invariant.marked c.loop-handle.invariant.blocks (is ∙ ap (λ x. old ++ block_text_at src x) there) start end (ap (λ (x : BlockHandle). x.values) there) (ap (λ (x : BlockHandle). x.count) there) (ap (λ (x : BlockHandle). x.last) there) (ap (λ (x : BlockHandle). x.spacing) there) (ap (λ (x : BlockHandle). x.summary) there) in
     record {
       marked = subst (AreBlocks new) (sym items) both.0;
       apart = subst AreApart (sym items) (apart_push (length old) ms n c.loop-handle.invariant.apart (all_within old ms c.loop-handle.invariant.marked) (omega arith));

@@ -16,6 +16,6 @@ returns-clause-block g c = λ points b.
     c.extend_from_slice.ensures.items ∙ ap (λ r. if is_ok r then c.reserve_eighth.new.list.items ++ text else c.reserve_eighth.new.list.items) c.unwrap.ensures
     ∙ ap (λ (x : List ℕ). x ++ text) c.reserve_eighth.ensures.items in
     let same = one_reading text c.requires.0 points c.requires.1 b in
-    let m : BlockHandle = record { start = c.len-start.result; values = c.args.values; end = c.len.result; count = c.args.count; last = c.args.last; summary = c.args.summary } in
+    let m : BlockHandle = record { start = c.len-start.result; values = c.args.values; end = c.len.result; count = c.args.count; last = c.args.last; spacing = c.spacing_of-spacing.result; summary = c.args.summary } in
     subst (λ n. IsEncoded n new m points) (let n : length old ≡ vec_len c.args.bytes.now = omega (arith, c.args.bytes.now.ok.0) in n) (subst (λ (x : List (ℤ × ℤ)). IsEncoded (length old) new m x) same
-    (block_at_end old text new c.requires.0 m c.requires.1 is start end c.requires.2 c.requires.3 c.requires.4 c.requires.5))
+    (block_at_end old text new c.requires.0 m c.requires.1 is start end c.requires.2 c.requires.3 c.requires.4 (c.spacing_of-spacing.ensures c.requires.0 c.requires.1) c.requires.5))

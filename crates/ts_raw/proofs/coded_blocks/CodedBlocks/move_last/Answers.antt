@@ -69,10 +69,10 @@ returns g c =
     record {
       same = record {
         laid = record {
-          marked = subst (AreBlocks new) (sym (marks_are g at)) (moved_marked old new ms m (moved g at) was (bytes_are g at) (start_is g at) (end_is g at) refl refl refl refl);
-          apart = subst AreApart (sym (marks_are g at)) (moved_apart old new ms m (moved g at) was (bytes_are g at) (start_is g at) (end_is g at) refl refl refl refl (subst AreApart (items g a.After-unwrap-handle) c.requires.laid.apart));
+          marked = subst (AreBlocks new) (sym (marks_are g at)) (moved_marked old new ms m (moved g at) was (bytes_are g at) (start_is g at) (end_is g at) refl refl refl refl refl);
+          apart = subst AreApart (sym (marks_are g at)) (moved_apart old new ms m (moved g at) was (bytes_are g at) (start_is g at) (end_is g at) refl refl refl refl refl (subst AreApart (items g a.After-unwrap-handle) c.requires.laid.apart));
         };
         counts = (refl, refl);
-        blocks = ap (blocks_at new) (marks_are g at) ∙ moved_blocks old new ms m (moved g at) was (bytes_are g at) (start_is g at) (end_is g at) refl refl refl refl ∙ ap (blocks_at old) (sym (items g a.After-unwrap-handle));
+        blocks = ap (blocks_at new) (marks_are g at) ∙ moved_blocks old new ms m (moved g at) was (bytes_are g at) (start_is g at) (end_is g at) refl refl refl refl refl ∙ ap (blocks_at old) (sym (items g a.After-unwrap-handle));
       };
     }

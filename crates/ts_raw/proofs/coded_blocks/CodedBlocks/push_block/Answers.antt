@@ -18,6 +18,7 @@ handle g c = record {
   end = c.len.result;
   count = 1;
   last = c.args.point.now.0;
+  spacing = 0;
   summary = c.single.result;
 }
 
@@ -33,7 +34,7 @@ encoded g c =
     subst (λ n. EndsInBlock new n (n + 9) c.args.point.now.0 (c.args.point.now ∷ [])) (let n : vec_len c.args.self.now.bytes ≡ c.len-start.result = omega (arith, c.len-start.ensures) in n) c.begin.ensures.ends in
     let fits : SFits w64 c.args.point.now.1 = search rules in
     let one = c.single.ensures ∙ ap (aggregate_of_one c.args.point.now.0) (to_z-of_z fits) in
-    let both = new_mark new (handle g c) (c.args.point.now ∷ []) block end refl (one ∙ summary_of_one c.args.point.now) in
+    let both = new_mark new (handle g c) (c.args.point.now ∷ []) block end refl tt (one ∙ summary_of_one c.args.point.now) in
     record { starts = omega arith; handle = both.0; points_are = both.1 }
 
 items : (g : Over) (c : After-push_reserved g) → c.push_reserved.new.self.items ≡ c.args.self.now.handles.items ++ handle g c ∷ []

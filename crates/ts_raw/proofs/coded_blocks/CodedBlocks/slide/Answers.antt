@@ -28,7 +28,7 @@ loop-at-preserved g c =
     let size = ap length c.as_mut_slice.ensures.value in
     let back = whole copied bytes c.loop-at.self.bytes.len (omega (arith, size, c.copy_within.ensures.len)) (omega (arith, size, c.copy_within.ensures.len, c.loop-at.self.bytes.ok.0)) in
     record {
-      sliding = sliding_next c.args.self.now.bytes.items c.args.self.now.handles.items bytes _ ms c.loop-at.to c.loop-at.from c.in-Some.at m n c.loop-at.invariant.sliding next c.index-handle.ensures (back ∙ is) refl refl refl refl refl refl;
+      sliding = sliding_next c.args.self.now.bytes.items c.args.self.now.handles.items bytes _ ms c.loop-at.to c.loop-at.from c.in-Some.at m n c.loop-at.invariant.sliding next c.index-handle.ensures (back ∙ is) refl refl refl refl refl refl refl;
       counts = c.loop-at.invariant.counts;
     }
   where

@@ -1,10 +1,10 @@
-use Rattle.std.proofs.Common.{rules, ◌≡◌, ◌==◌, length, take, drop, ◌-◌, ap, sym, ◌∙◌, subst, true≢false}
+use Rattle.std.proofs.Common.{rules, ◌≡◌, ◌==◌, length, take, drop, ◌+◌, ◌-◌, ap, sym, ◌∙◌, subst, true≢false}
 use Rattle.std.proofs.lemmas.List.{length-take-le}
-use Rattle.ts_block.specs.Decoding.{AreSpaced}
+use Rattle.ts_block.specs.Decoding.{AreApartBy}
 use Rattle.ts_block.proofs.DecodingLemmas.{values_inside, one_reading}
-use Rattle.ts_block.proofs.SpacedLemmas.{head_before, step_can, rest_within, spaced_points_are}
-use Rattle.ts_block.proofs.decoder.common_step.Goals.{Else-is_empty}
-use Rattle.ts_block.proofs.decoder.common_step.Goals as goal
+use Rattle.ts_block.proofs.SpacedLemmas.{head_before, step_can, rest_within, distance_fits, spaced_points_are, apart_by}
+use Rattle.ts_block.proofs.spacing.spacing_of.Goals.{Else-is_empty}
+use Rattle.ts_block.proofs.spacing.spacing_of.Goals as goal
 
 pub slice_bounds-steps-end : goal.slice_bounds-steps-end
 slice_bounds-steps-end c = let h = values_inside c.args.block.now c.requires.0 c.requires.1 c.args.values c.requires.2 in let k = head_before c.args.block.now c.args.values c.requires.0 c.requires.1 c.requires.2 in search rules
@@ -22,7 +22,13 @@ slice_bounds-eq-end c =
     let within = rest_within c.args.block.now c.args.values c.requires.0 c.requires.1 c.requires.2 (some at) c.decode_number-step.result.0 c.decode_number-step.result.1.now c.decode_number-step.ensures in
     sym (length-take-le _ _ within)
 
+pub overflow_add-result : goal.overflow_add-result
+overflow_add-result c =
+    let at = (goal.at.overflow_add-result c).Else-is_empty in
+    let fits = distance_fits c.args.block.now c.args.values c.requires.0 c.requires.1 c.requires.2 (some at) c.decode_number-step.result.0 c.decode_number-step.result.1.now c.decode_number-step.ensures in
+    search rules
+
 pub returns-then-eq : goal.returns-then-eq
 returns-then-eq c = λ points b.
-    subst (AreSpaced c.decode_number-step.result.0) (one_reading c.args.block.now c.requires.0 points c.requires.1 b)
-    (spaced_points_are c.args.block.now c.args.values c.requires.0 c.requires.1 c.requires.2 c.decode_number-step.result.0 c.decode_number-step.result.1.now c.decode_number-step.ensures (search rules))
+    let is = spaced_points_are c.args.block.now c.args.values c.requires.0 c.requires.1 c.requires.2 c.decode_number-step.result.0 c.decode_number-step.result.1.now c.decode_number-step.ensures (search rules) in
+    subst (AreApartBy (c.decode_number-step.result.0 + 1)) (one_reading c.args.block.now c.requires.0 points c.requires.1 b) (apart_by c.decode_number-step.result.0 c.requires.0 is)
