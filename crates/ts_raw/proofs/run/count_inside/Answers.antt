@@ -1,4 +1,4 @@
-use Rattle.std.proofs.Common.{rules, ◌≡◌, ℕ, ◌+◌, ℤ, pos, ◌+ℤ◌, SFits, w64, to_z-of_z, subst, sym, ap, ◌∙◌}
+use Rattle.std.proofs.Common.{rules, ◌≡◌, pos, ◌+ℤ◌, SFits, w64, to_z-of_z, subst, sym, ap, ◌∙◌}
 use Rattle.std.specs.Int.{div_ceil}
 use Rattle.ts_block.specs.Decoding.{AreSpaced, AreSpacedIf}
 use Rattle.ts_raw.proofs.RunLemmas.{IsDivided, divided, far}

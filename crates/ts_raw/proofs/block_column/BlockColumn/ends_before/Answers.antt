@@ -1,4 +1,4 @@
-use Rattle.std.proofs.Common.{◌≡◌, ◌<ℤ◌, ℤ, List, sym, ap, subst, ◌∙◌, int_cmp}
+use Rattle.std.proofs.Common.{◌<ℤ◌, ℤ, sym, ap, subst, ◌∙◌, int_cmp}
 use Rattle.std.specs.FinMap as map
 use Rattle.std.specs.FinMap.{entries-from_sorted}
 use Rattle.std.specs.List.{AllByRecursion}

@@ -1,4 +1,4 @@
-use Rattle.std.proofs.Common.{ℤ, List, length, ◌≤◌, subst, sym, drop}
+use Rattle.std.proofs.Common.{ℤ, List, length, ◌≤◌, subst, sym}
 use Rattle.std.proofs.lemmas.List.Sums.{prefix_len-le-length}
 use Rattle.ts_block.specs.Decoding.{AreSpacedIf}
 use Rattle.ts_raw.specs.PlainColumns.{IsRising}

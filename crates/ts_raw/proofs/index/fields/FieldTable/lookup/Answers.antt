@@ -1,4 +1,4 @@
-use Rattle.std.proofs.Common.{rules, ◌≡◌, ℕ, List, IfNone, get_or, subst}
+use Rattle.std.proofs.Common.{rules, ◌≡◌, List, IfNone, get_or, subst}
 use Rattle.std.proofs.lemmas.Option.{get_or_from_slice_get}
 use Rattle.ts_core.specs.lists.Members.{Among}
 use Rattle.ts_core.proofs.lists.TableLemmas.{sought_in_vain}
