@@ -1,5 +1,5 @@
 -- Steps that are all the same: their bytes repeat the first step.
-use Rattle.std.proofs.Common.{◌≡◌, ℕ, zero, suc, ◌+◌, ◌-◌, ◌^◌, ◌<◌, ◌≤◌, ℤ, ◌-ℤ◌, ◌<ℤ◌, unsigned_abs, List, [], ◌∷◌, ◌++◌, length, IsOk, Ok, ◌⊎◌, ⊎_elim, take, drop, append_assoc, length-append, refl, sym, ◌∙◌, ap, subst, arith}
+use Rattle.std.proofs.Common.{◌≡◌, ℕ, zero, suc, ◌+◌, ◌-◌, ◌^◌, ◌<◌, ◌≤◌, ℤ, ◌-ℤ◌, ◌<ℤ◌, unsigned_abs, List, [], ◌∷◌, ◌++◌, length, IsOk, Ok, ◌⊎◌, ⊎_elim, take, drop, append_assoc, append-nil, length-append, refl, sym, ◌∙◌, ap, subst, arith}
 use Rattle.std.proofs.lemmas.Int.{ints}
 use Rattle.std.proofs.lemmas.List.{take-append-drop}
 use Rattle.std.proofs.Math.Seq.{drop-append_seam, take-append_seam}
@@ -9,10 +9,11 @@ use Rattle.ts_block.specs.Varints.{number_text}
 use Rattle.ts_block.specs.NumbersRead.{number_at}
 use Rattle.ts_block.specs.Blocks.{times_of, values_of, head_text, step_between, steps_text, values_text, block_text, AreLater, last_of, IsBlockOf}
 use Rattle.ts_block.specs.BlocksRead.{step_from}
-use Rattle.ts_block.specs.Decoding.{FollowBy, AreSpaced, AreApartBy}
+use Rattle.ts_block.specs.Decoding.{FollowBy, AreSpaced, AreApartBy, IsSpacing}
+use Rattle.ts_block.proofs.AppendingLemmas.{digits_some}
 use Rattle.ts_block.proofs.Choices.{ok_is}
 use Rattle.ts_block.proofs.NumberLaws.{number_again}
-use Rattle.ts_block.proofs.PartLaws.{step_back, step_fits}
+use Rattle.ts_block.proofs.PartLaws.{step_is, step_back, step_fits}
 
 -- the first step is read from the bytes of the steps
 pub first_step : (t u : ℤ) (us : List ℤ) (more : List ℕ) → IsTime t → AreLater t (u ∷ us) → number_at (steps_text t (u ∷ us) ++ more) ≡ Ok (step_between t u, steps_text u us ++ more)
@@ -43,6 +44,23 @@ follow_from t u (w ∷ ws) is later r =
     let step : step_between t u ≡ step_between u w = ap (λ (x : ℕ × List ℕ). x.0) same in
     let front : rest ≡ take (length rest) others = sym (take-append_seam rest more) ∙ ap (take (length rest)) (sym (ap (λ (x : ℕ × List ℕ). x.1) same)) in
     (sym (step_back t u later.0), subst (λ n. FollowBy n u (w ∷ ws)) (sym step) (follow_from u w ws later.1 later.2 front))
+
+-- equal steps: their text may begin with one of them or end with it
+same_texts : (step : ℕ) (t : ℤ) (us : List ℤ) → FollowBy step t us → steps_text t us ++ number_text step ≡ number_text step ++ steps_text t us
+unfolding steps_text
+same_texts step t [] f = sym (append-nil (number_text step))
+same_texts step t (u ∷ us) f =
+    let n : List ℕ = number_text step in
+    let rest : List ℕ = steps_text u us in
+    let text : steps_text t (u ∷ us) ≡ n ++ rest = ap (λ k. number_text k ++ rest) (ap (step_between t) f.0 ∙ step_is t step) in
+    ap (λ (x : List ℕ). x ++ n) text ∙ append_assoc n rest n ∙ ap (λ (x : List ℕ). n ++ x) (same_texts step u us f.1 ∙ sym text)
+
+repeats_by : (step : ℕ) (t u : ℤ) (us : List ℤ) → FollowBy step t (u ∷ us) → Repeats t u us
+unfolding steps_text
+repeats_by step t u us f =
+    let rest : List ℕ = steps_text u us in
+    let text : steps_text t (u ∷ us) ≡ rest ++ number_text step = ap (λ k. number_text k ++ rest) (ap (step_between t) f.0 ∙ step_is t step) ∙ sym (same_texts step u us f.1) in
+    sym (ap (take (length rest)) text ∙ take-append_seam rest (number_text step))
 
 one_more_fits : (t u : ℤ) → IsTime t → IsTime u → t <ℤ u → step_between t u + 1 < 2 ^ 64
 one_more_fits t u a b h = let p = a.not_before in let q = b.not_after in omega (arith, ints)
@@ -106,9 +124,38 @@ module _ (block : List ℕ) (values : ℕ) where
       (follow_from p.0 q.0 (times_of qs) b.points_are.1 b.points_are.2
       ((λ i. (ap (λ (x : ℕ × List ℕ). x.1) (sym first)) i) ∙ same ∙ (λ i. take (length ((ap (λ (x : ℕ × List ℕ). x.1) first) i)) (steps i))))
 
--- the distance is the step and 1
-pub apart_by : (step : ℕ) (ps : List (ℤ × ℤ)) → AreSpaced step ps → AreApartBy (step + 1) ps
-apart_by step ps h = subst (λ n. AreApartBy n ps) (let e : suc step ≡ step + 1 = omega arith in e) h
+  pub is_spacing : (points : List (ℤ × ℤ)) → IsBlockOf block points → values ≡ values_start points → (length (take (values - 9) (drop 9 block)) ≡ 0 → ⊥) → (n : ℕ) (rest : List ℕ) → Ok (n, rest) ≡ number_at (take (values - 9) (drop 9 block))
+      → rest ≡ take (length rest) (take (values - 9) (drop 9 block)) → IsSpacing (n + 1) points
+  unfolding steps_text
+  is_spacing [] b v some n rest e same = absurd b.points_are
+  is_spacing (p ∷ []) b v some n rest e same = absurd (some (ap length (steps_of_block p [] b v)))
+  is_spacing (p ∷ q ∷ qs) b v some n rest e same = subst (λ k. IsSpacing k (p ∷ q ∷ qs)) (let k : suc n ≡ n + 1 = omega arith in k) (omega arith, spaced_points_are (p ∷ q ∷ qs) b v n rest e same)
+
+  -- there are no steps
+  pub none_spaced : (points : List (ℤ × ℤ)) → IsBlockOf block points → values ≡ values_start points → length (take (values - 9) (drop 9 block)) ≡ 0 → IsSpacing 0 points
+  unfolding steps_text
+  none_spaced [] b v e = λ step l a. omega arith
+  none_spaced (p ∷ []) b v e = λ step l a. omega arith
+  none_spaced (p ∷ q ∷ qs) b v e = λ step l a.
+      let size = ap length (steps_of_block p (q ∷ qs) b v) in
+      let parts = length-append (number_text (step_between p.0 q.0)) (steps_text q.0 (times_of qs)) in
+      let some = digits_some 9 (step_between p.0 q.0) in
+      omega arith
+
+  -- the bytes differ
+  pub not_spaced : (points : List (ℤ × ℤ)) → IsBlockOf block points → values ≡ values_start points → (n : ℕ) (rest : List ℕ) → Ok (n, rest) ≡ number_at (take (values - 9) (drop 9 block))
+      → (rest ≡ take (length rest) (take (values - 9) (drop 9 block)) → ⊥) → IsSpacing 0 points
+  not_spaced [] b v n rest e differ = λ step l a. omega arith
+  not_spaced (p ∷ []) b v n rest e differ = λ step l a. omega arith
+  not_spaced (p ∷ q ∷ qs) b v n rest e differ = λ step l a.
+      let steps = steps_of_block p (q ∷ qs) b v in
+      let first = ok_is (n, rest) (step_between p.0 q.0, steps_text q.0 (times_of qs)) (e ∙ ap number_at steps ∙ first_alone p.0 q.0 (times_of qs) b.points_are.1 b.points_are.2) in
+      let same : rest ≡ steps_text q.0 (times_of qs) = ap (λ (x : ℕ × List ℕ). x.1) first in
+      differ (same ∙ repeats_by step p.0 q.0 (times_of qs) a ∙ (λ i. take (length (sym same i)) (sym steps i)))
+
+pub apart_of : (n : ℕ) (ps : List (ℤ × ℤ)) → IsSpacing n ps → AreApartBy n ps
+apart_of zero ps h = tt
+apart_of (suc step) ps h = h.1
 
 -- ---- a point more
 

@@ -2,7 +2,7 @@
 ghost use Rattle.std.specs.Prelude.{◌≡◌, ℤ, List};
 ghost use Rattle.ts_block.specs.Appending.{values_start};
 ghost use Rattle.ts_block.specs.Blocks.{IsBlockOf};
-ghost use Rattle.ts_block.specs.Decoding.{AreApartBy};
+ghost use Rattle.ts_block.specs.Decoding.{IsSpacing};
 
 use crate::number::decode_number;
 
@@ -13,7 +13,7 @@ const HEAD_BYTES: usize = 9;
 /// offset of the values. If all steps are one number, their bytes repeat those of the first step.
 pub fn spacing_of(block: &[u8], values: usize) -> u64
     requires { (points : List (ℤ × ℤ)) × IsBlockOf block.now points × (values ≡ values_start points) }
-    ensures { (points : List (ℤ × ℤ)) → IsBlockOf block.now points → AreApartBy result points }
+    ensures { (points : List (ℤ × ℤ)) → IsBlockOf block.now points → IsSpacing result points }
 {
     let steps = &block[HEAD_BYTES..values];
     if steps.is_empty() {
