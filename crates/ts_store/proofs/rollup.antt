@@ -11,3 +11,5 @@ pub mod LivesFilled
 pub mod RulesFilled
 -- ChangedLists
 pub mod ChangedListsLemmas
+-- BucketsTaken
+pub mod BucketsTakenLemmas

@@ -4,3 +4,4 @@ pub mod ColumnLists
 pub mod Rollups
 pub mod LivePoints
 pub mod ChangedLists
+pub mod BucketsTaken

@@ -22,6 +22,7 @@ use ts_cells::{Cells, Parts, RollupSeriesId, Walk};
 use ts_core::{Agg, Key, Rule, reserve_eighth};
 use ts_raw::ColumnId;
 
+pub(crate) mod bucket_points;
 pub(crate) mod cells_filled;
 pub(crate) mod live_parts;
 mod series_columns;

@@ -1,8 +1,9 @@
 -- The created cells of points: exactly the missing ones from the low index on.
 use Rattle.std.proofs.Common.{◌≡◌, ◌⊎◌, ◌≤ℤ◌, ◌<ℤ◌, ◌<◌, ◌&&◌, ℕ, ℤ, true, false, cond, List, [], ◌∷◌, ◌++◌, length, get_or, Option, Some, None, refl, sym, ◌∙◌, ap, subst, inl, inr, ⊎_elim, true≢false, arith}
 use Rattle.std.specs.FinMap as finmap
-use Rattle.std.specs.List.{zip}
+use Rattle.std.specs.List.{zip, AllByRecursion}
 use Rattle.std.proofs.lemmas.Int.{ints}
+use Rattle.std.proofs.lemmas.List.{map-append}
 use Rattle.std.proofs.lemmas.Option.{get_or_from_slice_get, slice_get-get_or, slice_get_within, none-some, same_Some}
 use Rattle.ts_core.specs.lists.Members.{Among}
 use Rattle.ts_core.specs.lists.Numbered.{IsAt}
@@ -14,7 +15,7 @@ use Rattle.ts_core.specs.store.Cells.{Cell, cell_of, is_rolled, same_cell}
 use Rattle.ts_core.specs.lists.Changes.{or_else}
 use Rattle.ts_core.specs.store.StoreStates.{CellParts, fact_at, facts_at}
 use Rattle.ts_core.specs.store.StoreData.{CellMap, no_parts}
-use Rattle.ts_core.proofs.lists.MembersLemmas.{Among-append, Among-left, Among-right}
+use Rattle.ts_core.proofs.lists.MembersLemmas.{Among-append, Among-left, Among-right, Among-map}
 use Rattle.ts_core.proofs.moves.MovesStand.{key_there, key_not}
 use Rattle.ts_core.proofs.plans.PieceCells.{same_cell-eq, same_cell-refl}
 use Rattle.ts_cells.specs.CellChanges.{inserted_if_absent}
@@ -57,89 +58,52 @@ missing m n stays k none =
       | Some p ↦ λ e. absurd (none-some p (sym none ∙ stays k p e))
     ] refl
 
--- ---- facts one after another
+-- ---- points of one bucket
 
--- the rule has the fact's cell, if it is rolled up and not below the low index
-abbrev pub HasCellOf : Fact → Rule → ℤ → CellMap → Type 0
-HasCellOf f r low m = is_rolled r f ≡ true → low ≤ℤ (cell_of r f).index → finmap.get m (cell_of r f) ≡ None → ⊥
+-- their facts are of one cell
+cell_in_bucket : (r : Rule) (c : Column) (index : ℤ) (ps : List (ℤ × ℤ)) → AllByRecursion (λ (p : ℤ × ℤ). index_of r p.0 ≡ index) ps → (f : Fact) → Among f (facts_at c ps) → cell_of r f ≡ cell_at index (rollup_series_under r c)
+cell_in_bucket r c index [] each f a = absurd a
+cell_in_bucket r c index (p ∷ ps) each f a =
+    ⊎_elim {C = cell_of r f ≡ cell_at index (rollup_series_under r c)} (λ e. ap (cell_of r) e ∙ ap (λ i. cell_at i (rollup_series_under r c)) each.0)
+    (λ z. cell_in_bucket r c index ps each.1 f z) a
 
--- the cells of these facts were created, but for those that are left
-pub record IsMadeBut (left facts : List Fact) (r : Rule) (low : ℤ) (m n : CellMap) : Type 0 where
-  pub within : (f : Fact) → Among f left → Among f facts
-  pub gains : GainsCells facts r low m n
-  pub there : (f : Fact) → Among f facts → Among f left ⊎ HasCellOf f r low n
-  pub possible : HasPossibleCells r m → HasPossibleCells r n
-
-pub made-none : (facts : List Fact) (r : Rule) (low : ℤ) (m : CellMap) → IsMadeBut facts facts r low m m
-made-none facts r low m = record { within = λ f a. a; gains = gains_nothing facts r low m; there = λ f a. inl a; possible = λ h. h }
-
-pub made-as : (left left' facts : List Fact) (r : Rule) (low : ℤ) (m n n' : CellMap) → left' ≡ left → n' ≡ n → IsMadeBut left facts r low m n → IsMadeBut left' facts r low m n'
-made-as left left' facts r low m n n' d e h = subst (λ (xs : List Fact). IsMadeBut xs facts r low m n') (sym d) (subst (IsMadeBut left facts r low m) (sym e) h)
-
-pub made-skip : (f : Fact) (left facts : List Fact) (r : Rule) (low : ℤ) (m n : CellMap) → HasCellOf f r low n → IsMadeBut (f ∷ left) facts r low m n → IsMadeBut left facts r low m n
-made-skip f left facts r low m n has h = record {
-  within = λ g a. h.within g (inr a);
-  gains = h.gains;
-  there = λ g a.
-      ⊎_elim {C = Among g left ⊎ HasCellOf g r low n} (λ q. ⊎_elim {C = Among g left ⊎ HasCellOf g r low n} (λ e. inr (subst (λ (x : Fact). HasCellOf x r low n) (sym e) has)) (λ z. inl z) q) (λ z. inr z) (h.there g a);
-  possible = h.possible;
+-- below the low index they need no cell
+pub bucket_below : (r : Rule) (c : Column) (index : ℤ) (ps : List (ℤ × ℤ)) (low : ℤ) (m : CellMap) → AllByRecursion (λ (p : ℤ × ℤ). index_of r p.0 ≡ index) ps → index <ℤ low → MakesCells (facts_at c ps) r low m m
+bucket_below r c index ps low m each below = record {
+  gains = gains_nothing (facts_at c ps) r low m;
+  there = λ f a rolled above none.
+      let at : (cell_of r f).index ≡ index = ap (λ (k : Cell). k.index) (cell_in_bucket r c index ps each f a) in
+      omega (arith, ints, below, at, above);
+  possible = λ h. h;
 }
 
-pub made-more : (f : Fact) (left facts : List Fact) (r : Rule) (low : ℤ) (m n : CellMap) → IsTime f.time → is_rolled r f ≡ true → low ≤ℤ (cell_of r f).index
-    → IsMadeBut (f ∷ left) facts r low m n → IsMadeBut left facts r low m (inserted_if_absent n (cell_of r f) no_parts)
-made-more f left facts r low m n valid rolled above h =
-    let q : Cell = cell_of r f in
-    let o : CellMap = inserted_if_absent n q no_parts in
-    let of_facts : IsOfFacts facts r q = (f, h.within f (inl refl), ap (λ b. b && same_cell q q) rolled ∙ same_cell-refl q) in
+-- else the cell is created
+pub bucket_made : (r : Rule) (c : Column) (index : ℤ) (ps : List (ℤ × ℤ)) (low : ℤ) (m : CellMap) → AllByRecursion (λ (p : ℤ × ℤ). index_of r p.0 ≡ index) ps → (p : ℤ × ℤ) × Among p ps × IsTime p.0 → same_text c.series.measurement r.measurement ≡ true → low ≤ℤ index
+    → MakesCells (facts_at c ps) r low m (inserted_if_absent m (cell_at index (rollup_series_under r c)) no_parts)
+bucket_made r c index ps low m each valid rolled above =
+    let q : Cell = cell_at index (rollup_series_under r c) in
+    let o : CellMap = inserted_if_absent m q no_parts in
+    let f : Fact = fact_at c valid.0 in
+    let among : Among f (facts_at c ps) = Among-map (fact_at c) valid.0 ps valid.1 in
+    let its : cell_of r f ≡ q = cell_in_bucket r c index ps each f among in
+    let of_facts : IsOfFacts (facts_at c ps) r q = (f, among, ap (λ b. b && same_cell (cell_of r f) q) rolled ∙ ap (λ k. same_cell k q) its ∙ same_cell-refl q) in
     record {
-      within = λ g a. h.within g (inr a);
       gains = record {
-        stays = λ k p e. capacity-stays n q k p (h.gains.stays k p e);
-        created = λ k p none some. elim (finmap.get n k) as (λ x. finmap.get n k ≡ x → (p ≡ no_parts) × (low ≤ℤ k.index) × IsOfFacts facts r k) [
-          | None ↦ λ e.
-              let new = capacity-new n q k p e some in
-              (new.0, subst (λ (z : Cell). low ≤ℤ z.index) (sym new.1) above, subst (IsOfFacts facts r) (sym new.1) of_facts)
-          | Some x ↦ λ e.
-              let old = h.gains.created k x none e in
-              (same_Some p x (sym some ∙ capacity-stays n q k x e) ∙ old.0, old.1, old.2)
-        ] refl;
+        stays = capacity-stays m q;
+        created = λ k x none some.
+            let new = capacity-new m q k x none some in
+            (new.0, subst (λ (z : Cell). low ≤ℤ z.index) (sym new.1) above, subst (IsOfFacts (facts_at c ps) r) (sym new.1) of_facts);
       };
-      there = λ g a.
-          ⊎_elim {C = Among g left ⊎ HasCellOf g r low o}
-          (λ z. ⊎_elim {C = Among g left ⊎ HasCellOf g r low o} (λ e. inr (λ rl ab none. roomy_there n q (ap (λ (x : Fact). finmap.get o (cell_of r x)) (sym e) ∙ none))) (λ y. inl y) z)
-          (λ has. inr (λ rl ab none. has rl ab (missing n o (capacity-stays n q) (cell_of r g) none))) (h.there g a);
+      there = λ g a is high none. roomy_there m q (ap (finmap.get o) (sym (cell_in_bucket r c index ps each g a)) ∙ none);
       possible = λ before k a.
-          elim (finmap.get n k) as (λ x. finmap.get n k ≡ x → IsPossibleCell r k) [
+          elim (finmap.get m k) as (λ x. finmap.get m k ≡ x → IsPossibleCell r k) [
             | None ↦ λ e. elim (finmap.get o k) as (λ x. finmap.get o k ≡ x → IsPossibleCell r k) [
               | None ↦ λ none. absurd (key_not o k a none)
-              | Some p ↦ λ some. subst (IsPossibleCell r) (sym (capacity-new n q k p e some).1) (cell_possible r f valid)
+              | Some x ↦ λ some. subst (IsPossibleCell r) (its ∙ sym (capacity-new m q k x e some).1) (cell_possible r f valid.2)
             ] refl
-            | Some x ↦ λ e. h.possible before k (key_there n k (λ none. none-some x (sym none ∙ e)))
+            | Some x ↦ λ e. before k (key_there m k (λ none. none-some x (sym none ∙ e)))
           ] refl;
     }
-
--- the cell of the last bucket is there
-abbrev pub IsLastThere : Rule → Column → Option ℤ → CellMap → Type 0
-IsLastThere r c last m = (i : ℤ) → last ≡ Some i → finmap.get m (cell_at i (rollup_series_under r c)) ≡ None → ⊥
-
-pub last-none : (r : Rule) (c : Column) (last : Option ℤ) (m : CellMap) → last ≡ None → IsLastThere r c last m
-last-none r c last m none = λ i some. absurd (none-some i (sym none ∙ some))
-
-pub last-made : (r : Rule) (c : Column) (i : ℤ) (n : CellMap) → IsLastThere r c (Some i) (inserted_if_absent n (cell_at i (rollup_series_under r c)) no_parts)
-last-made r c i n = λ j some none. roomy_there n (cell_at i (rollup_series_under r c)) (ap (λ (z : ℤ). finmap.get (inserted_if_absent n (cell_at i (rollup_series_under r c)) no_parts) (cell_at z (rollup_series_under r c))) (same_Some i j some) ∙ none)
-
--- a point below the low index, or of the last bucket, needs no other cell
-pub skipped : (r : Rule) (c : Column) (p : ℤ × ℤ) (low index : ℤ) (last : Option ℤ) (n : CellMap) → index ≡ index_of r p.0 → (index <ℤ low) ⊎ (last ≡ Some index) → IsLastThere r c last n → HasCellOf (fact_at c p) r low n
-skipped r c p low index last n is spared there = λ rolled above none.
-    ⊎_elim {C = ⊥} (λ (below : index <ℤ low). omega (arith, ints, below, is, above))
-    (λ e. there index e (ap (λ (i : ℤ). finmap.get n (cell_at i (rollup_series_under r c))) is ∙ none)) spared
-
-pub made-all : (facts : List Fact) (r : Rule) (low : ℤ) (m n : CellMap) → IsMadeBut [] facts r low m n → MakesCells facts r low m n
-made-all facts r low m n h = record {
-  gains = h.gains;
-  there = λ f a. ⊎_elim {C = HasCellOf f r low n} (λ z. absurd z) (λ has. has) (h.there f a);
-  possible = h.possible;
-}
 
 -- points of another measurement need none
 pub made-apart : (c : Column) (ps : List (ℤ × ℤ)) (r : Rule) (low : ℤ) (m : CellMap) → same_text c.series.measurement r.measurement ≡ false → MakesCells (facts_at c ps) r low m m
@@ -153,7 +117,7 @@ made-apart c ps r low m apart = record {
 
 -- ---- more facts
 
-makes-nothing : (r : Rule) (low : ℤ) (m : CellMap) → MakesCells [] r low m m
+pub makes-nothing : (r : Rule) (low : ℤ) (m : CellMap) → MakesCells [] r low m m
 makes-nothing r low m = record { gains = gains_nothing [] r low m; there = λ f a. absurd a; possible = λ h. h }
 
 of_left : (fs gs : List Fact) (r : Rule) (k : Cell) → IsOfFacts fs r k → IsOfFacts (fs ++ gs) r k
@@ -175,6 +139,11 @@ makes-then fs gs r low m n o a b = record {
       ⊎_elim {C = ⊥} (λ x. a.there f x rolled above (missing n o b.gains.stays (cell_of r f) none)) (λ x. b.there f x rolled above none) (Among-append f fs gs h);
   possible = λ h. b.possible (a.possible h);
 }
+
+-- the cells of points from the front, and then of those that are left
+pub parts_made : (c : Column) (r : Rule) (low : ℤ) (all taken left : List (ℤ × ℤ)) (m n o : CellMap) → all ≡ taken ++ left → MakesCells (facts_at c taken) r low m n → MakesCells (facts_at c left) r low n o → MakesCells (facts_at c all) r low m o
+parts_made c r low all taken left m n o e a b =
+    subst (λ (fs : List Fact). MakesCells fs r low m o) (sym (ap (facts_at c) e ∙ map-append (fact_at c) taken left)) (makes-then (facts_at c taken) (facts_at c left) r low m n o a b)
 
 pub all-made-none : (rs : List Rule) (lows : List ℤ) (ms : List CellMap) → OfEachRule (MakesCells []) rs lows ms ms
 all-made-none = each_same (MakesCells []) makes-nothing

@@ -1,14 +1,17 @@
 -- Points that are added to the live parts of their cells, those of one bucket at once.
-use Rattle.std.proofs.Common.{◌≡◌, ◌+◌, ◌≤◌, ◌^◌, ◌&&◌, ℕ, ℤ, Bool, true, false, cond, List, [], ◌∷◌, ◌++◌, length, filter, get_or, Some, None, option_map, refl, sym, ◌∙◌, ap, subst, arith}
+use Rattle.std.proofs.Common.{◌≡◌, ◌+◌, ◌≤◌, ◌^◌, ◌&&◌, ℕ, ℤ, Bool, true, false, cond, List, [], ◌∷◌, ◌++◌, length, filter, get_or, Some, None, option_map, refl, sym, ◌∙◌, ap, subst, append_assoc, arith}
 use Rattle.std.proofs.lemmas.Option.{get_or_from_slice_get, none-some, same_Some}
 use Rattle.ts_core.proofs.lists.ListSteps.{length-filter}
 use Rattle.std.specs.FinMap as finmap
+use Rattle.std.specs.List.{AllByRecursion}
+use Rattle.std.proofs.lemmas.List.{map-append}
 use Rattle.ts_core.specs.facts.Facts.{Column, Fact, same_text}
 use Rattle.ts_core.specs.settings.Settings.{Rule}
-use Rattle.ts_core.specs.aggregates.Aggregates.{Aggregate, empty_aggregate, merged, aggregate_of, merged_within}
+use Rattle.ts_core.specs.aggregates.Aggregates.{Aggregate, empty_aggregate, merged, aggregate_of, aggregate_of_points, merged_within}
 use Rattle.ts_core.specs.aggregates.MergeLaws.{aggregate_laws}
 use Rattle.ts_core.specs.store.Cells.{Cell, same_cell, cell_of, is_rolled, is_in_cell, total_of}
 use Rattle.ts_core.specs.lists.Changes.{changed}
+use Rattle.ts_core.specs.store.Marks.{index_of}
 use Rattle.ts_core.specs.store.StoreStates.{CellParts, fact_at, facts_at}
 use Rattle.ts_core.specs.store.TwoParts.{in_live}
 use Rattle.ts_core.specs.store.StoreData.{CellMap}
@@ -20,21 +23,10 @@ use Rattle.ts_core.proofs.plans.PieceCells.{same_cell-eq, same_cell-refl}
 use Rattle.ts_cells.proofs.GridMoves.{get-changed}
 use Rattle.ts_cells.specs.Grids.{no_rollup_series, cell_at}
 use Rattle.ts_store.specs.image.BuildingParts.{IsFilledBut, KeepsFrozen}
+use Rattle.ts_store.specs.rollup.BucketsTaken.{TakesBucket}
 use Rattle.ts_store.specs.rollup.Rollups.{RollupState, IsRollupSeriesOf, rollup_series_under, with_grid_cells, added_in}
 
 -- ---- merging
-
-empty_behind : (a : Aggregate) → merged a empty_aggregate ≡ a
-empty_behind a = aggregate_laws.comm a empty_aggregate ∙ aggregate_laws.unit a
-
-nothing : (b : Bool) (a : Aggregate) → merged a (cond b empty_aggregate empty_aggregate) ≡ a
-nothing true a = empty_behind a
-nothing false a = empty_behind a
-
--- one fact passes from what is left to what is to be added
-passes : (b : Bool) (x part one t : Aggregate) → merged (merged x (cond b (merged part one) empty_aggregate)) t ≡ merged (merged x (cond b part empty_aggregate)) (merged (cond b one empty_aggregate) t)
-passes true x part one t = ap (λ a. merged a t) (sym (aggregate_laws.assoc x part one)) ∙ aggregate_laws.assoc (merged x part) one t
-passes false x part one t = ap (merged (merged x empty_aggregate)) (sym (aggregate_laws.unit t))
 
 pub total-first : (r : Rule) (k : Cell) (f : Fact) (fs : List Fact) → total_of r k (f ∷ fs) ≡ merged (cond (is_in_cell r k f) (one_fact f) empty_aggregate) (total_of r k fs)
 total-first r k f fs =
@@ -58,35 +50,40 @@ total-apart r k c (p ∷ ps) left apart =
     ∙ aggregate_laws.unit (total_of r k (facts_at c ps ++ left))
     ∙ total-apart r k c ps left apart
 
--- ---- a part that is still to be added to a cell
-
-pub record IsPending (left all : List Fact) (r : Rule) (m : CellMap) (q : Cell) (part : Aggregate) : Type 0 where
-  pub each : (k : Cell) (p : CellParts) → finmap.get m k ≡ Some p → merged (merged p.live (cond (same_cell k q) part empty_aggregate)) (total_of r k left) ≡ total_of r k all
-
-pub pending-as : (left all : List Fact) (r : Rule) (m m' : CellMap) (q q' : Cell) (part part' : Aggregate) → m' ≡ m → q' ≡ q → part' ≡ part → IsPending left all r m q part → IsPending left all r m' q' part'
-pending-as left all r m m' q q' part part' d e f h =
-    subst (λ (x : CellMap). IsPending left all r x q' part') (sym d) (subst (λ (x : Cell). IsPending left all r m x part') (sym e) (subst (IsPending left all r m q) (sym f) h))
-
-pub pending-none : (left all : List Fact) (r : Rule) (m : CellMap) (q : Cell) → IsFilledBut left all r m → IsPending left all r m q empty_aggregate
-pending-none left all r m q h = record { each = λ k p e. ap (λ a. merged a (total_of r k left)) (nothing (same_cell k q) p.live) ∙ h k p e }
+-- ---- points of one bucket
 
 flipped : (q k : Cell) → same_cell q k ≡ same_cell k q
 flipped q k = same_bool (same_cell q k) (same_cell k q) (λ e. ap (λ z. same_cell k z) (same_cell-eq q k e) ∙ same_cell-refl k) (λ e. ap (λ z. same_cell q z) (same_cell-eq k q e) ∙ same_cell-refl q)
 
--- one more fact of the same cell
-pub pending-more : (f : Fact) (left all : List Fact) (r : Rule) (m : CellMap) (q : Cell) (part : Aggregate) → is_rolled r f ≡ true → cell_of r f ≡ q → IsPending (f ∷ left) all r m q part → IsPending left all r m q (merged part (one_fact f))
-pending-more f left all r m q part rolled is h = record {
-  each = λ k p e.
-      let inside : is_in_cell r k f ≡ same_cell k q = ap (λ b. b && same_cell (cell_of r f) k) rolled ∙ ap (λ z. same_cell z k) is ∙ flipped q k in
-      passes (same_cell k q) p.live part (one_fact f) (total_of r k left)
-      ∙ ap (λ b. merged (merged p.live (cond (same_cell k q) part empty_aggregate)) (merged (cond b (one_fact f) empty_aggregate) (total_of r k left))) (sym inside)
-      ∙ ap (merged (merged p.live (cond (same_cell k q) part empty_aggregate))) (sym (total-first r k f left))
-      ∙ h.each k p e;
-}
+none_twice : (b : Bool) (t : Aggregate) → t ≡ merged (cond b empty_aggregate empty_aggregate) t
+none_twice true t = sym (aggregate_laws.unit t)
+none_twice false t = sym (aggregate_laws.unit t)
 
--- the part is added
-pub pending-added : (left all : List Fact) (r : Rule) (m : CellMap) (q : Cell) (part : Aggregate) → length all ≤ 2 ^ 62 → IsPending left all r m q part → IsFilledBut left all r (changed m q (in_live (merged_within part)))
-pending-added left all r m q part few h = λ k x e.
+one_more : (b : Bool) (one part t : Aggregate) → merged (cond b one empty_aggregate) (merged (cond b part empty_aggregate) t) ≡ merged (cond b (merged one part) empty_aggregate) t
+one_more true one part t = sym (aggregate_laws.assoc one part t)
+one_more false one part t = aggregate_laws.unit (merged empty_aggregate t)
+
+-- they count in their cell only
+bucket_total : (r : Rule) (c : Column) (index : ℤ) (ps : List (ℤ × ℤ)) (left : List Fact) (k : Cell) → same_text c.series.measurement r.measurement ≡ true → AllByRecursion (λ (p : ℤ × ℤ). index_of r p.0 ≡ index) ps
+    → total_of r k (facts_at c ps ++ left) ≡ merged (cond (same_cell k (cell_at index (rollup_series_under r c))) (aggregate_of_points ps) empty_aggregate) (total_of r k left)
+bucket_total r c index [] left k rolled each = none_twice (same_cell k (cell_at index (rollup_series_under r c))) (total_of r k left)
+bucket_total r c index (p ∷ ps) left k rolled each =
+    let q : Cell = cell_at index (rollup_series_under r c) in
+    let f : Fact = fact_at c p in
+    let its : cell_of r f ≡ q = ap (λ i. cell_at i (rollup_series_under r c)) each.0 in
+    let inside : is_in_cell r k f ≡ same_cell k q = ap (λ b. b && same_cell (cell_of r f) k) rolled ∙ ap (λ z. same_cell z k) its ∙ flipped q k in
+    total-first r k f (facts_at c ps ++ left)
+    ∙ ap (λ b. merged (cond b (one_fact f) empty_aggregate) (total_of r k (facts_at c ps ++ left))) inside
+    ∙ ap (merged (cond (same_cell k q) (one_fact f) empty_aggregate)) (bucket_total r c index ps left k rolled each.1)
+    ∙ one_more (same_cell k q) (one_fact f) (aggregate_of_points ps) (total_of r k left)
+
+-- they are added to their cell
+bucket_added : (r : Rule) (c : Column) (index : ℤ) (ps : List (ℤ × ℤ)) (left all : List Fact) (m : CellMap) → same_text c.series.measurement r.measurement ≡ true → AllByRecursion (λ (p : ℤ × ℤ). index_of r p.0 ≡ index) ps → length all ≤ 2 ^ 62
+    → IsFilledBut (facts_at c ps ++ left) all r m → IsFilledBut left all r (changed m (cell_at index (rollup_series_under r c)) (in_live (merged_within (aggregate_of_points ps))))
+bucket_added r c index ps left all m rolled each few h = λ k x e.
+    let q : Cell = cell_at index (rollup_series_under r c) in
+    let part : Aggregate = aggregate_of_points ps in
+    let total : total_of r k (facts_at c ps ++ left) ≡ merged (cond (same_cell k q) part empty_aggregate) (total_of r k left) = bucket_total r c index ps left k rolled each in
     elim (same_cell k q) as (λ b. same_cell k q ≡ b → cond b (option_map (in_live (merged_within part)) (finmap.get m q)) (finmap.get m k) ≡ Some x → merged x.live (total_of r k left) ≡ total_of r k all) [
       | true ↦ λ s e'.
           let here : k ≡ q = same_cell-eq k q s in
@@ -94,7 +91,7 @@ pending-added left all r m q part few h = λ k x e.
             | None ↦ λ g n. absurd (none-some x n)
             | Some p ↦ λ g n.
                 let sum : merged (merged p.live part) (total_of r k left) ≡ total_of r k all =
-                ap (λ b. merged (merged p.live (cond b part empty_aggregate)) (total_of r k left)) (sym s) ∙ h.each k p (ap (finmap.get m) here ∙ g) in
+                aggregate_laws.assoc p.live part (total_of r k left) ∙ ap (merged p.live) (sym (total ∙ ap (λ b. merged (cond b part empty_aggregate) (total_of r k left)) s)) ∙ h k p (ap (finmap.get m) here ∙ g) in
                 let counts : p.live.count + part.count + (total_of r k left).count ≡ (total_of r k all).count = ap (λ (a : Aggregate). a.count) sum in
                 let most = total-count r k all in
                 let fits : merged_within part p.live ≡ merged p.live part = merged_within-fits part p.live (omega (arith, counts, most, few)) in
@@ -102,15 +99,17 @@ pending-added left all r m q part few h = λ k x e.
                 ap (λ a. merged a (total_of r k left)) live ∙ sum
           ] refl e'
       | false ↦ λ s e'.
-          ap (λ a. merged a (total_of r k left)) (sym (empty_behind x.live)) ∙ ap (λ b. merged (merged x.live (cond b part empty_aggregate)) (total_of r k left)) (sym s) ∙ h.each k x e'
+          ap (merged x.live) (sym (total ∙ ap (λ b. merged (cond b part empty_aggregate) (total_of r k left)) s ∙ aggregate_laws.unit (total_of r k left))) ∙ h k x e'
     ] refl (sym (get-changed m q (in_live (merged_within part)) k) ∙ e)
 
--- the first fact of another cell
-pub pending-next : (f : Fact) (left all : List Fact) (r : Rule) (m : CellMap) (q : Cell) (part : Aggregate) → length all ≤ 2 ^ 62 → is_rolled r f ≡ true → IsPending (f ∷ left) all r m q part
-    → IsPending left all r (changed m q (in_live (merged_within part))) (cell_of r f) (merged empty_aggregate (one_fact f))
-pending-next f left all r m q part few rolled h =
-    let n : CellMap = changed m q (in_live (merged_within part)) in
-    pending-more f left all r n (cell_of r f) empty_aggregate rolled refl (pending-none (f ∷ left) all r n (cell_of r f) (pending-added (f ∷ left) all r m q part few h))
+pub facts_parted : (c : Column) (all taken left : List (ℤ × ℤ)) (others : List Fact) → all ≡ taken ++ left → facts_at c all ++ others ≡ facts_at c taken ++ (facts_at c left ++ others)
+facts_parted c all taken left others e = ap (λ ps. facts_at c ps ++ others) e ∙ ap (λ fs. fs ++ others) (map-append (fact_at c) taken left) ∙ append_assoc (facts_at c taken) (facts_at c left) others
+
+-- the points of the next bucket are added to their cell
+pub filled_bucket : (r : Rule) (c : Column) (index : ℤ) (taken ps left : List (ℤ × ℤ)) (facts all : List Fact) (m : CellMap) → same_text c.series.measurement r.measurement ≡ true → TakesBucket r index taken ps left → length all ≤ 2 ^ 62
+    → IsFilledBut (facts_at c ps ++ facts) all r m → IsFilledBut (facts_at c left ++ facts) all r (changed m (cell_at index (rollup_series_under r c)) (in_live (merged_within (aggregate_of_points taken))))
+filled_bucket r c index taken ps left facts all m rolled t few h =
+    bucket_added r c index taken (facts_at c left ++ facts) all m rolled t.each few (subst (λ (fs : List Fact). IsFilledBut fs all r m) (facts_parted c ps taken left facts t.points) h)
 
 -- ---- frozen parts stay
 

@@ -1,5 +1,5 @@
 //! Creates the cells of raw points, and adds the points to them.
-ghost use Rattle.std.specs.Prelude.{◌≡◌, ◌⊎◌, ◌≤◌, ◌<◌, ◌<ℤ◌, ◌++◌, ◌^◌, pos, ◌≤ℤ◌, List, length, map, OnOk, true, false, Some};
+ghost use Rattle.std.specs.Prelude.{◌≡◌, ◌≤◌, ◌<◌, ◌++◌, ◌^◌, pos, ◌≤ℤ◌, List, length, map, OnOk, Some};
 ghost use Rattle.std.specs.FinMap as finmap;
 ghost use Rattle.std.specs.List.{AllByRecursion};
 ghost use Rattle.ts_core.specs.facts.Facts.{Column, Fact};
@@ -14,27 +14,33 @@ ghost use Rattle.ts_store.specs.retain.RollupSteps.{with_all_grid_cells};
 ghost use Rattle.ts_store.specs.rollup.Rollups.{AreRollups, IsRollupSeriesOf, cells_of, rollup_series_at, with_grid_cells};
 
 use crate::rollup::Rollup;
+use crate::rollup::bucket_points::{ROOM, take_bucket};
 use crate::store::column_facts::{ColumnFacts, StoredColumn};
 use std::alloc::{AllocError, Allocator};
-use ts_core::{Agg, Partial, Rule, index_of};
-use ts_raw::Points;
+use ts_cells::RollupSeriesId;
+use ts_core::{Rule, Time, aggregate_points};
+use ts_raw::{Points, Run};
 
-/// Returns true if this is the index of the last bucket.
-fn is_last(last: &Option<i128>, index: &i128) -> bool
-    ensures { (result ≡ true) → last.now ≡ Some index.now }
+/// Creates the missing cells of points of a column of a rollup series under a rule, from the low index on.
+fn make_run<A: Allocator + Copy>(
+    rule: &Rule<A>,
+    low: &i128,
+    rollup: &mut Rollup<A>,
+    series: RollupSeriesId,
+    run: Run<'_>,
+) -> Result<(), AllocError>
+    requires interval { pos 1 ≤ℤ rule.now.interval }
+    requires series { series < length rollup.old.grid.rollup_series }
+    ensures kept { rollup.new ≡ with_grid_cells rollup.new.grid.cells rollup.old }
+    ensures cells { (c : Column) → IsRollupSeriesOf rule.now c rollup.old.grid.rollup_series (Some series) → OnOk result (MakesCells (facts_at c run.entry) rule.now low.now rollup.old.grid.cells rollup.new.grid.cells) }
 {
-    match last {
-        Some(bucket) => bucket == index,
-        None => false,
+    let mut run = run;
+    while let Some((index, _)) = take_bucket(rule, &mut run) {
+        if index >= *low {
+            rollup.make_room_in(series, &index)?;
+        }
     }
-}
-
-/// Returns true if a bucket is neither below the low index nor the last one.
-fn is_needed(index: &i128, low: &i128, last: &Option<i128>) -> bool
-    ensures above { (result ≡ true) → low.now ≤ℤ index.now }
-    ensures spared { (result ≡ false) → (index.now <ℤ low.now) ⊎ (last.now ≡ Some index.now) }
-{
-    *index >= *low && !is_last(last, index)
+    Ok(())
 }
 
 /// Creates the missing cells of a column's points under a rule, from the low index on.
@@ -53,15 +59,15 @@ fn make_cells<A: Allocator + Copy>(
     let Some(series) = rollup.rollup_series_of(column) else {
         return Ok(());
     };
-    let mut last = None;
-    for (time, _) in points {
-        let index = index_of(rule, i128::from(time.nanos()));
-        if is_needed(&index, low, &last) {
-            rollup.make_room_in(series, &index)?;
-            last = Some(index);
+    let mut room = [(Time::least(), 0); ROOM];
+    let mut points = points;
+    loop {
+        let run = points.next_run(&mut room);
+        if run.is_empty() {
+            return Ok(());
         }
+        make_run(rule, low, rollup, series, run)?;
     }
-    Ok(())
 }
 
 /// Does the same under each rule.
@@ -105,8 +111,28 @@ pub(crate) fn make_all_cells<A: Allocator + Copy>(
     Ok(())
 }
 
-/// Adds points of a column to the live parts of their cells under a rule. Points of one bucket mostly follow one
-/// another, so it folds them first and adds them at once.
+/// Adds points of a column of a rollup series to the live parts of their cells under a rule. Folds the points of a bucket
+/// first, and adds them at once.
+fn add_run<A: Allocator + Copy>(
+    rule: &Rule<A>,
+    rollup: &mut Rollup<A>,
+    series: RollupSeriesId,
+    run: Run<'_>,
+)
+    requires interval { pos 1 ≤ℤ rule.now.interval }
+    requires series { series < length rollup.old.grid.rollup_series }
+    requires few { length run ≤ 2 ^ 62 }
+    ensures kept { rollup.new ≡ with_grid_cells rollup.new.grid.cells rollup.old }
+    ensures frozen { KeepsFrozen rollup.old.grid.cells rollup.new.grid.cells }
+    ensures live { (c : Column) (left all : List Fact) → IsRollupSeriesOf rule.now c rollup.old.grid.rollup_series (Some series) → length all ≤ 2 ^ 62 → IsFilledBut (facts_at c run.entry ++ left) all rule.now rollup.old.grid.cells → IsFilledBut left all rule.now rollup.new.grid.cells }
+{
+    let mut run = run;
+    while let Some((index, points)) = take_bucket(rule, &mut run) {
+        rollup.add(&index, series, aggregate_points(points));
+    }
+}
+
+/// Adds points of a column to the live parts of their cells under a rule.
 fn add_points<A: Allocator + Copy>(
     rule: &Rule<A>,
     rollup: &mut Rollup<A>,
@@ -123,18 +149,15 @@ fn add_points<A: Allocator + Copy>(
     let Some(series) = rollup.rollup_series_of(column) else {
         return;
     };
-    let mut bucket = 0;
-    let mut folded = Agg::empty();
-    for (time, value) in points {
-        let index = index_of(rule, i128::from(time.nanos()));
-        if index != bucket {
-            rollup.add(&bucket, series, folded);
-            bucket = index;
-            folded = Agg::empty();
+    let mut room = [(Time::least(), 0); ROOM];
+    let mut points = points;
+    loop {
+        let run = points.next_run(&mut room);
+        if run.is_empty() {
+            return;
         }
-        folded = folded.merge(Agg::single(time, value));
+        add_run(rule, rollup, series, run);
     }
-    rollup.add(&bucket, series, folded);
 }
 
 /// Does the same under each rule.
