@@ -1,26 +1,23 @@
 -- Blocks of points in one run: their aggregate merged at once is each point merged.
-use Rattle.std.proofs.Common.{◌≡◌, ℕ, zero, suc, ◌+◌, ◌<◌, ◌≤◌, ◌^◌, ℤ, ◌≤ℤ◌, ◌<ℤ◌, true, List, [], ◌∷◌, ◌++◌, length, length-append, get_or, take, min, append_assoc, refl, sym, ◌∙◌, ap, subst, arith, Option, Some, None}
-use Rattle.std.specs.List.{AllByRecursion}
+use Rattle.std.proofs.Common.{◌≡◌, ℕ, zero, suc, ◌+◌, ◌<◌, ◌≤◌, ◌^◌, ℤ, ◌≤ℤ◌, ◌<ℤ◌, true, false, List, [], ◌∷◌, ◌++◌, length, length-append, get_or, min, append_assoc, refl, sym, ◌∙◌, ap, subst, cond, arith, Option, Some, None}
+use Rattle.std.specs.List.{AllByRecursion, take_while}
 use Rattle.std.proofs.lemmas.Int.{ints}
-use Rattle.std.proofs.lemmas.List.{take_more, length-take-le}
-use Rattle.std.proofs.lemmas.List.Sums.{fold-append}
+use Rattle.std.proofs.lemmas.List.Sums.{fold-append, take_while-cons}
 use Rattle.ts_core.specs.facts.Facts.{is_within}
 use Rattle.ts_core.specs.declared.aggregates.aggregate.Extremes.{Extremes}
 use Rattle.ts_core.specs.aggregates.Aggregates.{Aggregate, empty_aggregate, aggregate_of_one, aggregate_of_points, merged, IsSound}
 use Rattle.ts_core.specs.aggregates.MergeLaws.{aggregate_laws}
 use Rattle.ts_core.specs.aggregates.SoundLaws.{sound_laws}
 use Rattle.ts_core.proofs.aggregates.RemaindersLemmas.{fold-possible}
-use Rattle.ts_core.proofs.lists.ListSteps.{all_append, all_push}
-use Rattle.ts_core.proofs.plans.Covered.{within_true}
+use Rattle.ts_core.proofs.lists.ListSteps.{all_append}
 use Rattle.ts_core.proofs.queries.Boundaries.{within_parts}
 use Rattle.ts_core.proofs.aggregates.AggregatesLemmas.{count_of_fold}
-use Rattle.ts_raw.specs.PlainColumns.{IsRising}
 use Rattle.ts_raw.specs.Summaries.{IsFront}
-use Rattle.ts_raw.proofs.CutLemmas.{less_at, is_rising_behind}
 use Rattle.ts_exec.specs.declared.aggregate_parts.AggregateParts.{AggregateParts}
 use Rattle.ts_exec.specs.declared.aggregate_parts.AggregateParts.TheVariants.{CountAlone, CountAndSum, Bounds, Whole}
 use Rattle.ts_exec.specs.RowParts.{BucketGrid, IsRun, AreMerged, row_index_at, part_of, part_of_point, part_with, with_part, with_point_parts}
-use Rattle.ts_exec.proofs.Runs.{point_count, run-begun, run-first, run-joined, run-point}
+use Rattle.ts_exec.proofs.Folded.{merged_count}
+use Rattle.ts_exec.proofs.Runs.{run-begun, run-first, run-joined, run-point}
 
 -- ---- the aggregate of some points
 
@@ -61,79 +58,10 @@ points_whole parts p (q ∷ ps) = part_more parts p (aggregate_of_points (q ∷ 
 pub merged-none : (parts : AggregateParts) (low high : ℤ) (part : Aggregate) (ps : List (ℤ × ℤ)) → AreMerged parts low high part part ps ps
 merged-none parts low high part ps = record { first = []; points = refl; within = tt; merged = refl }
 
-merged_count : (parts : AggregateParts) (part : Aggregate) (ps : List (ℤ × ℤ)) → (part_with parts part ps).count ≡ part.count + length ps
-merged_count parts part [] = omega arith
-merged_count parts part (p ∷ ps) =
-    let one = point_count parts p.0 p.1 in
-    let rest = merged_count parts (merged part (part_of_point parts p.0 p.1)) ps in
-    omega arith
-
--- ---- points one by one
-
-module _ (parts : AggregateParts) (part : Aggregate) (ps : List (ℤ × ℤ)) (i : ℕ) where
-  pub merged-room : i < length ps → part.count + length ps ≤ 2 ^ 62 → (part_with parts part (take i ps)).count < 2 ^ 62
-  merged-room within few =
-      let count = merged_count parts part (take i ps) in
-      let size : length (take i ps) ≡ i = length-take-le i ps (omega arith) in
-      omega arith
-
-  pub merged-more : (p : ℤ × ℤ) → i < length ps → p ≡ get_or ps i p → merged (part_with parts part (take i ps)) (part_of_point parts p.0 p.1) ≡ part_with parts part (take (i + 1) ps)
-  merged-more p within read =
-      let next : take (i + 1) ps ≡ take i ps ++ p ∷ [] = take_more ps i p within ∙ ap (λ (q : ℤ × ℤ). take i ps ++ q ∷ []) (sym read) in
-      sym (ap (part_with parts part) next ∙ fold-append (λ (b : Aggregate) (q : ℤ × ℤ). merged b (part_of_point parts q.0 q.1)) part (take i ps) (p ∷ []))
-
--- points in the order of time, from one at or after low to one before high, are all within
-pub rising-within : (low high : ℤ) (ps : List (ℤ × ℤ)) (i : ℕ) (d e : ℤ × ℤ) → IsRising ps → i < length ps → low ≤ℤ (get_or ps 0 d).0 → (get_or ps i e).0 <ℤ high
-    → AllByRecursion (λ (q : ℤ × ℤ). is_within low high q.0 ≡ true) (take (suc i) ps)
-rising-within low high [] i d e s w l h = absurd (omega arith)
-rising-within low high (p ∷ ps) zero d e s w l h = (within_true low high p.0 l h, tt)
-rising-within low high (p ∷ []) (suc i) d e s w l h = absurd (omega arith)
-rising-within low high (p ∷ q ∷ ps) (suc i) d e s w l h =
-    let last = less_at p (q ∷ ps) s i e (omega arith) in
-    let next = less_at p (q ∷ ps) s 0 q (omega arith) in (
-      within_true low high p.0 l (omega (arith, ints)),
-      rising-within low high (q ∷ ps) i q e (is_rising_behind 1 (p ∷ q ∷ ps) s) (omega arith) (omega (arith, ints)) h,
-    )
-
 -- a range that some points lie in isn't empty
 range-some : (low high : ℤ) (ps : List (ℤ × ℤ)) → 0 < length ps → AllByRecursion (λ (p : ℤ × ℤ). is_within low high p.0 ≡ true) ps → low <ℤ high
 range-some low high [] some inside = absurd (omega arith)
 range-some low high (p ∷ ps) some inside = let here = within_parts low high p.0 inside.0 in let l = here.0 in let h = here.1 in omega (arith, ints)
-
--- ---- more points
-
-module _ (low high : ℤ) (parts : AggregateParts) (part next : Aggregate) (all before front left : List (ℤ × ℤ)) (m : AreMerged parts low high part next all before) (split : before ≡ front ++ left)
-    (inside : AllByRecursion (λ (p : ℤ × ℤ). is_within low high p.0 ≡ true) front) where
-  pub points-few : 0 < length front → (low <ℤ high → part.count + length all ≤ 2 ^ 62) → next.count + length front ≤ 2 ^ 62
-  points-few some few =
-      let fits = few (range-some low high front some inside) in
-      let own : next.count ≡ part.count + length m.first = ap (λ (x : Aggregate). x.count) m.merged ∙ merged_count parts part m.first in
-      let long : length all ≡ length m.first + length before = ap (λ (ps : List (ℤ × ℤ)). length ps) m.points ∙ length-append m.first before in
-      let rest : length before ≡ length front + length left = ap (λ (ps : List (ℤ × ℤ)). length ps) split ∙ length-append front left in
-      omega arith
-
-  pub points-merged : AreMerged parts low high part (part_with parts next front) all left
-  points-merged = record {
-    first = m.first ++ front;
-    points = m.points ∙ ap (λ (ps : List (ℤ × ℤ)). m.first ++ ps) split ∙ sym (append_assoc m.first front left);
-    within = all_append (λ (p : ℤ × ℤ). is_within low high p.0 ≡ true) m.first front m.within inside;
-    merged = ap (λ (x : Aggregate). part_with parts x front) m.merged
-        ∙ sym (fold-append (λ (b : Aggregate) (p : ℤ × ℤ). merged b (part_of_point parts p.0 p.1)) part m.first front);
-  }
-
--- ---- points merged in two parts
-
-module _ (low high : ℤ) (parts : AggregateParts) (part next : Aggregate) (all before : List (ℤ × ℤ)) (m : AreMerged parts low high part next all before) where
-  pub room-left : (low <ℤ high → part.count + length all ≤ 2 ^ 62) → low <ℤ high → next.count + length before ≤ 2 ^ 62
-  room-left few l =
-      let fits = few l in
-      let own : next.count ≡ part.count + length m.first = ap (λ (x : Aggregate). x.count) m.merged ∙ merged_count parts part m.first in
-      let long : length all ≡ length m.first + length before = ap (λ (ps : List (ℤ × ℤ)). length ps) m.points ∙ length-append m.first before in
-      omega arith
-
-  pub merged-then : (last : Aggregate) (left : List (ℤ × ℤ)) → AreMerged parts low high next last before left → AreMerged parts low high part last all left
-  merged-then last left n =
-      subst (λ (x : Aggregate). AreMerged parts low high part x all left) (sym n.merged) (points-merged low high parts part next all before n.first left m n.points n.within)
 
 -- ---- one more block
 
@@ -187,6 +115,30 @@ points_of_run parts g rows low high row_index (p ∷ ps) left others part short 
       rest.0 ∙ ap (λ (r : List Aggregate). with_point_parts parts g (ps ++ left) r) (run-point parts p.0 p.1 g rows count low high row_index part short all here.0 here.1),
       rest.1,
     )
+
+-- points that lie within a run can be merged into its part
+pub run-room : (g : BucketGrid) (rows : List Aggregate) (left : ℕ) (low high : ℤ) (row_index : ℕ) (part : Aggregate) (ps : List (ℤ × ℤ))
+    → IsRun g rows left low high row_index part → AllByRecursion (λ (p : ℤ × ℤ). is_within low high p.0 ≡ true) ps → length ps ≤ left → part.count + length ps ≤ 2 ^ 62
+run-room g rows left low high row_index part [] run inside few = let fits = run.few in omega arith
+run-room g rows left low high row_index part (p ∷ ps) run inside few = let fits = run.bounded (range-some low high (p ∷ ps) (omega arith) inside) in omega arith
+
+taken_within : (low high : ℤ) (ps : List (ℤ × ℤ)) → AllByRecursion (λ (p : ℤ × ℤ). is_within low high p.0 ≡ true) (take_while (λ (p : ℤ × ℤ). is_within low high p.0) ps)
+taken_within low high [] = tt
+taken_within low high (p ∷ ps) =
+    let inside : (ℤ × ℤ) → Type 0 = λ q. is_within low high q.0 ≡ true in
+    let rest : List (ℤ × ℤ) = take_while (λ (q : ℤ × ℤ). is_within low high q.0) ps in
+    subst (AllByRecursion inside) (sym (take_while-cons (λ (q : ℤ × ℤ). is_within low high q.0) p ps))
+    (elim (is_within low high p.0) as (λ b. is_within low high p.0 ≡ b → AllByRecursion inside (cond b (p ∷ rest) [])) [
+      | true ↦ λ e. (e, taken_within low high ps)
+      | false ↦ λ e. tt
+    ] refl)
+
+-- points that are taken while they lie within
+pub taken-inside : (low high low' high' : ℤ) (xs ps : List (ℤ × ℤ)) → low' ≡ low → high' ≡ high → xs ≡ take_while (λ (p : ℤ × ℤ). is_within low' high' p.0) ps → AllByRecursion (λ (p : ℤ × ℤ). is_within low high p.0 ≡ true) xs
+taken-inside low high low' high' xs ps l h is =
+    subst (λ x. AllByRecursion (λ (p : ℤ × ℤ). is_within x high p.0 ≡ true) xs) l
+    (subst (λ x. AllByRecursion (λ (p : ℤ × ℤ). is_within low' x p.0 ≡ true) xs) h
+    (subst (AllByRecursion (λ (p : ℤ × ℤ). is_within low' high' p.0 ≡ true)) (sym is) (taken_within low' high' ps)))
 
 -- points merged into a run's part, which is then merged into its row, are points merged into their rows
 pub run-merged : (parts : AggregateParts) (g : BucketGrid) (rows : List Aggregate) (low high : ℤ) (row_index : ℕ) (part next : Aggregate) (all left : List (ℤ × ℤ)) (others : ℕ)

@@ -6,8 +6,8 @@ use Rattle.ts_core.specs.aggregates.Aggregates.{Aggregate, empty_aggregate, merg
 use Rattle.ts_core.specs.aggregates.MergeLaws.{aggregate_laws}
 use Rattle.ts_core.proofs.aggregates.AggregatesLemmas.{merged_within-fits}
 use Rattle.ts_exec.specs.declared.aggregate_parts.AggregateParts.{AggregateParts}
-use Rattle.ts_exec.specs.declared.aggregate_parts.AggregateParts.TheVariants.{CountAlone, CountAndSum, Bounds, Whole}
 use Rattle.ts_exec.specs.RowParts.{BucketGrid, IsRun, row_index_at, part_of_point, with_part}
+use Rattle.ts_exec.proofs.Folded.{point_count}
 use Rattle.ts_exec.proofs.Shares.{part-saturated}
 
 -- where both fit, they may be merged first
@@ -23,12 +23,6 @@ part-joined i a b [] h = refl
 part-joined zero a b (x ∷ rows) h = ap (λ (y : Aggregate). y ∷ rows) (merged_first x a b h)
 part-joined (suc i) a b (x ∷ rows) h = ap (λ (ys : List Aggregate). x ∷ ys) (part-joined i a b rows h)
 
-pub point_count : (parts : AggregateParts) (t v : ℤ) → (part_of_point parts t v).count ≡ 1
-point_count CountAlone t v = refl
-point_count CountAndSum t v = refl
-point_count Bounds t v = refl
-point_count Whole t v = refl
-
 -- a run of one point
 pub run-begun : (parts : AggregateParts) (t v : ℤ) (g : BucketGrid) (rows : List Aggregate) (left : ℕ) (low high : ℤ) (row_index : ℕ) (part : Aggregate) (can_grow : Bool)
     → ((u : ℤ) → low ≤ℤ u → u <ℤ high → row_index ≡ min (row_index_at g u) 18446744073709551615)
@@ -36,8 +30,10 @@ pub run-begun : (parts : AggregateParts) (t v : ℤ) (g : BucketGrid) (rows : Li
 run-begun parts t v g rows left low high row_index part true within bounded is =
     let one : part.count ≡ 1 = ap (λ (a : Aggregate). a.count) is ∙ point_count parts t v in
     let fits = bounded refl in
-    record { within = within; bounded = λ l. omega arith }
-run-begun parts t v g rows left low high row_index part false within bounded is = record { within = λ u a b. absurd (omega (arith, ints)); bounded = λ l. absurd (omega (arith, ints)) }
+    record { within = within; bounded = λ l. omega arith; few = omega arith }
+run-begun parts t v g rows left low high row_index part false within bounded is =
+    let one : part.count ≡ 1 = ap (λ (a : Aggregate). a.count) is ∙ point_count parts t v in
+    record { within = λ u a b. absurd (omega (arith, ints)); bounded = λ l. absurd (omega (arith, ints)); few = omega arith }
 
 -- one more point of a run
 pub run-joined : (parts : AggregateParts) (t v : ℤ) (g : BucketGrid) (rows : List Aggregate) (left : ℕ) (low high : ℤ) (row_index : ℕ) (part : Aggregate)
@@ -45,7 +41,7 @@ pub run-joined : (parts : AggregateParts) (t v : ℤ) (g : BucketGrid) (rows : L
 run-joined parts t v g rows left low high row_index part run a b =
     let one : (part_of_point parts t v).count ≡ 1 = point_count parts t v in
     let fits = run.bounded (omega (arith, ints)) in
-    record { within = run.within; bounded = λ l. omega arith }
+    record { within = run.within; bounded = λ l. omega arith; few = omega arith }
 
 pub run-first : (parts : AggregateParts) (t v : ℤ) (g : BucketGrid) (rows : List Aggregate) (row_index : ℕ) (part : Aggregate)
     → length rows ≤ 18446744073709551615 → row_index ≡ min (row_index_at g t) 18446744073709551615 → part ≡ part_of_point parts t v → with_part row_index part rows ≡ with_part (row_index_at g t) (part_of_point parts t v) rows

@@ -1,9 +1,9 @@
 //! Folds of points that keep parts of an aggregate.
-ghost use Rattle.std.specs.Prelude.{◌≡◌, ◌+◌, ◌^◌, ◌<◌, ◌≤◌};
+ghost use Rattle.std.specs.Prelude.{◌≡◌, ◌+◌, ◌^◌, ◌<◌, ◌≤◌, length};
 ghost use Rattle.ts_core.specs.aggregates.Aggregates.{Aggregate, merged, IsSound, IsSpread};
 ghost use Rattle.ts_exec.specs.declared.aggregate_parts.AggregateParts.{AggregateParts};
 ghost use Rattle.ts_exec.specs.declared.aggregate_parts.AggregateParts.TheVariants.{CountAlone, CountAndSum, Bounds, Whole};
-ghost use Rattle.ts_exec.specs.RowParts.{bounds, count_part, part_of, part_of_point, wide_extremes};
+ghost use Rattle.ts_exec.specs.RowParts.{bounds, count_part, part_of, part_of_point, part_with, wide_extremes};
 
 use std::marker::Model;
 use ts_core::{Agg, Extremes, Partial, Time};
@@ -22,6 +22,19 @@ pub(crate) trait Fold: Copy {
     fn with(self, time: Time, value: i64) -> Self
         requires { (folded self).count < 2 ^ 62 }
         ensures { folded result ≡ merged (folded self) (part_of_point parts time value) };
+
+    /// Adds points.
+    #[inline]
+    fn with_all(self, points: &[(Time, i64)]) -> Self
+        requires { (folded self).count + length points.now ≤ 2 ^ 62 }
+        ensures { folded result ≡ part_with parts (folded self) points.now }
+    {
+        let mut fold = self;
+        for point in points {
+            fold = fold.with(point.0, point.1);
+        }
+        fold
+    }
 
     /// Returns the fold of some points by their aggregate.
     fn from_agg(part: Agg) -> Self
@@ -108,6 +121,12 @@ impl Fold for Counted {
     fn with(self, _time: Time, _value: i64) -> Counted {
         Counted {
             count: self.count + 1,
+        }
+    }
+
+    fn with_all(self, points: &[(Time, i64)]) -> Counted {
+        Counted {
+            count: self.count + points.len() as u64,
         }
     }
 

@@ -1,15 +1,12 @@
 //! Adds points and parts to the rows of a group.
-ghost use Rattle.std.specs.Prelude.{◌≡◌, ◌+◌, ◌^◌, ◌≤◌, ◌<◌, ◌<ℤ◌, ℤ, true, [], length, take, IfSome, IfNone, get_or, min, if◌then◌else◌};
-ghost use Rattle.std.specs.List.{AllByRecursion};
+ghost use Rattle.std.specs.Prelude.{◌≡◌, ◌+◌, ◌^◌, ◌≤◌, ◌<◌, ◌<ℤ◌, true, [], length, IfSome, IfNone, get_or, min, if◌then◌else◌};
 ghost use Rattle.ts_core.specs.aggregates.Aggregates.{empty_aggregate};
-ghost use Rattle.ts_core.specs.facts.Facts.{is_within};
-ghost use Rattle.ts_raw.specs.PlainColumns.{IsRising};
-ghost use Rattle.ts_exec.specs.RowParts.{AreMerged, IsRun, part_of_point, part_with, row_index_at, with_part, with_point_parts};
+ghost use Rattle.ts_exec.specs.RowParts.{AreMerged, IsRun, part_of_point, row_index_at, with_part, with_point_parts};
 
 use crate::buckets::{BucketCursor, BucketSpan};
 use crate::fold::Fold;
 use ts_core::{Agg, MAX_COUNT, Partial, Time, merge_within};
-use ts_raw::Points;
+use ts_raw::{Points, Run};
 
 /// Number of points that are decoded at once.
 const ROOM: usize = 64;
@@ -138,84 +135,18 @@ fn with_blocks<F: Fold>(fold: F, low: i64, high: i64, points: &mut Points<'_>) -
     fold
 }
 
-/// Returns true if there are `count` points, at least one, and the first `count` lie from `low`, inclusive, to `high`,
-/// exclusive. They must be in the order of time, so the first and the last of them tell.
-#[inline]
-fn are_within(points: &[(Time, i64)], count: usize, low: i64, high: i64) -> bool
-    requires { IsRising points.now }
-    ensures { result ≡ true → (0 < count) × (count ≤ length points.now) × AllByRecursion (λ (p : ℤ × ℤ). is_within low high p.0 ≡ true) (take count points.now) }
-{
-    if count == 0 || count > points.len() {
-        return false;
-    }
-    low <= points[0].0.nanos() && points[count - 1].0.nanos() < high
-}
-
-/// Adds points to a fold.
-#[inline]
-fn with_all<F: Fold>(fold: F, points: &[(Time, i64)]) -> F
-    requires { (F.folded fold).count + length points.now ≤ 2 ^ 62 }
-    ensures { F.folded result ≡ part_with F.parts (F.folded fold) points.now }
-{
-    let mut fold = fold;
-    for point in points {
-        fold = fold.with(point.0, point.1);
-    }
-    fold
-}
-
-/// Merges the next points, which must be in the order of time, into a fold, `count` at a time, while they lie from `low`,
-/// inclusive, to `high`, exclusive.
-#[inline]
-fn with_groups<F: Fold>(
-    fold: F,
-    low: i64,
-    high: i64,
-    count: usize,
-    points: &mut &[(Time, i64)],
-) -> F
-    requires few { low <ℤ high → (F.folded fold).count + length points.old.now ≤ 2 ^ 62 }
-    requires rising { IsRising points.old.now }
-    ensures merged { AreMerged F.parts low high (F.folded fold) (F.folded result) points.old.now points.new.now }
-    ensures rising { IsRising points.new.now }
-{
-    let mut fold = fold;
-    while are_within(points, count, low, high) {
-        let (group, others) = points.split_at(count);
-        fold = with_all(fold, group);
-        *points = others;
-    }
-    fold
-}
-
-/// Merges the next points, which must be in the order of time, into a fold, up to the first that isn't from `low`,
-/// inclusive, to `high`, exclusive: all at once if they can be, else four at a time.
-#[inline]
-fn with_points<F: Fold>(fold: F, low: i64, high: i64, points: &mut &[(Time, i64)]) -> F
-    requires few { low <ℤ high → (F.folded fold).count + length points.old.now ≤ 2 ^ 62 }
-    requires rising { IsRising points.old.now }
-    ensures merged { AreMerged F.parts low high (F.folded fold) (F.folded result) points.old.now points.new.now }
-    ensures rising { IsRising points.new.now }
-{
-    let all = points.len();
-    let whole = with_groups(fold, low, high, all, points);
-    let fours = with_groups(whole, low, high, 4, points);
-    with_groups(fours, low, high, 1, points)
-}
-
-/// Adds points, which must be in the order of time, to a run and to the runs after it, and merges each run but the last
-/// into its row. At most `others` points are to come. Returns the last run.
+/// Adds points to a run and to the runs after it, and merges each run but the last into its row. At most `others` points
+/// are to come. Returns the last run.
 fn extend_runs<F: Fold>(
     rows: &mut [Agg],
     buckets: &mut BucketCursor,
     run: BucketRun<F>,
-    points: &[(Time, i64)],
+    points: Run<'_>,
     others: u64,
 ) -> BucketRun<F>
-    requires few { length points.now + others < 2 ^ 64 }
-    requires rising { IsRising points.now }
-    requires run { IsRun buckets.old rows.old (length points.now + others) run.low run.high run.row_index (F.folded run.fold) }
-    ensures value { with_part result.row_index (F.folded result.fold) rows.new ≡ with_point_parts F.parts buckets.old points.now (with_part run.row_index (F.folded run.fold) rows.old) }
+    requires few { length points + others < 2 ^ 64 }
+    requires run { IsRun buckets.old rows.old (length points + others) run.low run.high run.row_index (F.folded run.fold) }
+    ensures value { with_part result.row_index (F.folded result.fold) rows.new ≡ with_point_parts F.parts buckets.old points.entry (with_part run.row_index (F.folded run.fold) rows.old) }
     ensures run { IsRun buckets.old rows.new others result.low result.high result.row_index (F.folded result.fold) }
     ensures rows { length rows.new ≡ length rows.old }
     ensures same { buckets.new ≡ buckets.old }
@@ -225,13 +156,19 @@ fn extend_runs<F: Fold>(
     let mut run = run;
     let mut points = points;
     loop {
-        run.fold = with_points(run.fold, run.low, run.high, &mut points);
-        let Some((point, after)) = points.split_first() else {
+        let within = points.take_within(run.low, run.high);
+        run.fold = run.fold.with_all(within);
+        let Some(point) = points.take_first() else {
             return run;
         };
         add_part(rows, run.row_index, run.fold.part());
-        run = begin_run(rows, buckets, point.0, point.1, after.len() as u64 + others);
-        points = after;
+        run = begin_run(
+            rows,
+            buckets,
+            point.0,
+            point.1,
+            points.len() as u64 + others,
+        );
     }
 }
 
@@ -259,7 +196,8 @@ fn continue_run<F: Fold>(
         if next.is_empty() {
             break;
         }
-        run = extend_runs(rows, buckets, run, next, (all - next.len()) as u64);
+        let others = (all - next.len()) as u64;
+        run = extend_runs(rows, buckets, run, next, others);
     }
     add_part(rows, run.row_index, run.fold.part());
 }

@@ -41,14 +41,15 @@ blocks g c =
     run-merged parts grid rows low high row_index part next all left 0 short m (subst (λ n. IsRun grid rows n low high row_index part) none c.loop-points.invariant.run)
 
 -- the number of points that are left
-sizes : (g : Over) (c : After-next_run-next g) → c.len-all.result ≡ length c.next_run-next.result.now + length c.next_run-next.new.self
-sizes g c = c.len-all.ensures ∙ ap (λ (ps : List (ℤ × ℤ)). length ps) c.next_run-next.ensures.points ∙ length-append c.next_run-next.result.now c.next_run-next.new.self
+sizes : (g : Over) (c : After-next_run-next g) → c.len-all.result ≡ length c.next_run-next.result + length c.next_run-next.new.self
+sizes g c = c.len-all.ensures ∙ ap (λ (ps : List (ℤ × ℤ)). length ps) c.next_run-next.ensures.points ∙ length-append c.next_run-next.result c.next_run-next.new.self
 
 pub extend_runs-run-requires-clause-run : goal.extend_runs-run-requires-clause-run
 extend_runs-run-requires-clause-run g c =
     let s = sizes g (goal.at.extend_runs-run-requires-clause-run g c).After-next_run-next in
     let all = c.len-all.ensures in
-    let count : length c.with_blocks-run.new.points + 0 ≡ length c.next_run-next.result.now + (c.len-all.result - length c.next_run-next.result.now) = omega arith in
+    let size = c.len.ensures in
+    let count : length c.with_blocks-run.new.points + 0 ≡ length c.next_run-next.result + (c.len-all.result - c.len.result) = omega arith in
     subst (λ n. IsRun c.loop-points.buckets c.loop-points.rows n c.loop-points.run.low c.loop-points.run.high c.loop-points.run.row_index (g.F.Fold.folded c.with_blocks-run.result)) count
     (blocks g (goal.at.extend_runs-run-requires-clause-run g c).After-with_blocks-run).1
 
@@ -56,7 +57,8 @@ pub loop-points-smaller : goal.loop-points-smaller
 loop-points-smaller g c =
     let s = sizes g (goal.at.loop-points-smaller g c).After-next_run-next in
     let all = c.len-all.ensures in
-    let some : length c.next_run-next.result.now ≡ 0 → ⊥ = λ e. true≢false (sym (ap (λ n. n == 0) e) ∙ sym c.if-is_empty.ensures) in
+    let empty : c.next_run-next.result ≡ [] → ⊥ = search rules in
+    let some : length c.next_run-next.result ≡ 0 → ⊥ = λ e. empty (nil_from_length _ e) in
     let m = c.with_blocks-run.ensures in
     let front = ap (λ (ps : List (ℤ × ℤ)). length ps) m.points in
     let parts = length-append m.first c.with_blocks-run.new.points in
@@ -67,7 +69,7 @@ loop-points-preserved g c =
     let parts : AggregateParts = g.F.Fold.parts in
     let grid : BucketGrid = c.loop-points.buckets in
     let left : List (ℤ × ℤ) = c.with_blocks-run.new.points in
-    let next : List (ℤ × ℤ) = c.next_run-next.result.now in
+    let next : List (ℤ × ℤ) = c.next_run-next.result in
     let rest : List (ℤ × ℤ) = c.next_run-next.new.self in
     let old : List Aggregate = with_part c.loop-points.run.row_index (g.F.Fold.folded c.with_blocks-run.result) c.loop-points.rows in
     let is : left ≡ next ++ rest = c.next_run-next.ensures.points in
@@ -77,7 +79,8 @@ loop-points-preserved g c =
     let same : c.extend_runs-run.new.buckets ≡ grid = c.extend_runs-run.ensures.same in
     let put : with_part row_index' part' rows' ≡ with_point_parts parts grid next old = c.extend_runs-run.ensures.value in
     let s = sizes g (goal.at.loop-points-preserved g c).After-next_run-next in
-    let count : c.len-all.result - length next ≡ length rest = omega arith in
+    let size = c.len.ensures in
+    let count : c.len-all.result - c.len.result ≡ length rest = omega arith in
     let run : BucketGrid → ℕ → Type 0 = λ b n. IsRun b rows' n c.extend_runs-run.result.low c.extend_runs-run.result.high row_index' part' in
     record {
       value = ap (λ (b : BucketGrid). with_point_parts parts b rest (with_part row_index' part' rows')) same
@@ -94,8 +97,8 @@ returns-clause-value g c =
     let row_index : ℕ = c.loop-points.run.row_index in
     let rows : List Aggregate = c.loop-points.rows in
     let next : Aggregate = g.F.Fold.folded c.with_blocks-run.result in
-    let empty : length c.next_run-next.result.now ≡ 0 = search rules in
-    let none : c.with_blocks-run.new.points ≡ [] = c.next_run-next.ensures.some (nil_from_length _ empty) in
+    let empty : c.next_run-next.result ≡ [] = search rules in
+    let none : c.with_blocks-run.new.points ≡ [] = c.next_run-next.ensures.some empty in
     c.add_part.ensures ∙ ap (λ (a : Aggregate). with_part row_index a rows) c.part.ensures
     ∙ sym (ap (λ (ps : List (ℤ × ℤ)). with_point_parts g.F.Fold.parts c.loop-points.buckets ps (with_part row_index next rows)) none)
     ∙ (blocks g (goal.at.returns-clause-value g c).After-with_blocks-run).0 ∙ c.loop-points.invariant.value

@@ -1,5 +1,4 @@
 use Rattle.std.proofs.Common.{◌≡◌, ◌+◌, ◌^◌, ◌<◌, length}
-use Rattle.ts_raw.specs.PlainColumns.{IsRising}
 use Rattle.ts_exec.specs.RowParts.{IsRun, with_part, with_point_parts}
 use Rattle.ts_exec.proofs.rows.extend_runs.Given as goal
 
@@ -10,7 +9,6 @@ invariant-loop-point g l =
       value : with_point_parts g.F.Fold.parts l.buckets l.points (with_part l.run.row_index part l.rows) ≡ with_point_parts g.F.Fold.parts l.fn.buckets l.fn.points (with_part l.fn.run.row_index (g.F.Fold.folded l.fn.run.fold) l.fn.rows);
       same : l.buckets ≡ l.fn.buckets;
       few : length l.points + l.fn.others < 2 ^ 64;
-      rising : IsRising l.points;
       run : IsRun l.buckets l.rows (length l.points + l.fn.others) l.run.low l.run.high l.run.row_index part;
     }
 
