@@ -1,4 +1,4 @@
-use Rattle.std.proofs.Common.{rules, ◌≡◌, ◌==◌, ◌≤◌, ◌<ℤ◌, ◌+◌, ◌-◌, ℕ, ℤ, List, [], ◌++◌, length, length-append, refl, true≢false, ◌∙◌, ap, sym, subst, arith, SFits, to_z-of_z, w64}
+use Rattle.std.proofs.Common.{rules, ◌≡◌, ◌≤◌, ◌<ℤ◌, ◌+◌, ◌-◌, ℕ, ℤ, List, [], ◌++◌, length, length-append, refl, ◌∙◌, ap, sym, subst, arith, SFits, to_z-of_z, w64}
 use Rattle.std.proofs.lemmas.List.{nil_from_length}
 use Rattle.ts_core.specs.aggregates.Aggregates.{Aggregate}
 use Rattle.ts_exec.specs.declared.aggregate_parts.AggregateParts.{AggregateParts}

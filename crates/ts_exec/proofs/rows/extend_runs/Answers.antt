@@ -2,7 +2,7 @@ use Rattle.std.proofs.Common.{rules, ◌≡◌, ◌≤◌, ◌+◌, ℕ, ℤ, Li
 use Rattle.std.proofs.lemmas.List.{length-set}
 use Rattle.ts_core.specs.aggregates.Aggregates.{Aggregate}
 use Rattle.ts_exec.specs.declared.aggregate_parts.AggregateParts.{AggregateParts}
-use Rattle.ts_exec.specs.RowParts.{BucketGrid, IsRun, AreMerged, row_index_at, part_of_point, with_part, with_point_parts}
+use Rattle.ts_exec.specs.RowParts.{BucketGrid, IsRun, AreMerged, part_of_point, with_part, with_point_parts}
 use Rattle.ts_exec.proofs.Runs.{run-first}
 use Rattle.ts_exec.proofs.Blocks.{taken-inside, run-room, run-merged}
 use Rattle.ts_exec.proofs.rows.extend_runs.Given.{Over}
