@@ -55,9 +55,6 @@ points_whole : (parts : AggregateParts) (p : ℤ × ℤ) (ps : List (ℤ × ℤ)
 points_whole parts p [] = part_one parts p
 points_whole parts p (q ∷ ps) = part_more parts p (aggregate_of_points (q ∷ ps)) ∙ points-at_once parts (part_of_point parts p.0 p.1) (q ∷ ps) (omega arith)
 
-pub merged-none : (parts : AggregateParts) (low high : ℤ) (part : Aggregate) (ps : List (ℤ × ℤ)) → AreMerged parts low high part part ps ps
-merged-none parts low high part ps = record { first = []; points = refl; within = tt; merged = refl }
-
 -- a range that some points lie in isn't empty
 range-some : (low high : ℤ) (ps : List (ℤ × ℤ)) → 0 < length ps → AllByRecursion (λ (p : ℤ × ℤ). is_within low high p.0 ≡ true) ps → low <ℤ high
 range-some low high [] some inside = absurd (omega arith)
