@@ -1,5 +1,5 @@
 -- The created cells of points: exactly the missing ones from the low index on.
-use Rattle.std.proofs.Common.{◌≡◌, ◌⊎◌, ◌≤ℤ◌, ◌<ℤ◌, ◌<◌, ◌&&◌, ℕ, ℤ, true, false, cond, List, [], ◌∷◌, ◌++◌, length, get_or, Option, Some, None, refl, sym, ◌∙◌, ap, subst, inl, inr, ⊎_elim, true≢false, arith}
+use Rattle.std.proofs.Common.{◌≡◌, ◌≤ℤ◌, ◌<ℤ◌, ◌<◌, ◌&&◌, ℕ, ℤ, true, false, cond, List, [], ◌∷◌, ◌++◌, length, get_or, Some, None, refl, sym, ◌∙◌, ap, subst, ⊎_elim, true≢false, arith}
 use Rattle.std.specs.FinMap as finmap
 use Rattle.std.specs.List.{zip, AllByRecursion}
 use Rattle.std.proofs.lemmas.Int.{ints}
@@ -11,7 +11,7 @@ use Rattle.ts_core.specs.facts.Facts.{Column, Fact, same_text}
 use Rattle.ts_core.specs.facts.Times.{IsTime}
 use Rattle.ts_core.specs.settings.Settings.{Rule}
 use Rattle.ts_core.specs.store.Marks.{index_of}
-use Rattle.ts_core.specs.store.Cells.{Cell, cell_of, is_rolled, same_cell}
+use Rattle.ts_core.specs.store.Cells.{Cell, cell_of, same_cell}
 use Rattle.ts_core.specs.lists.Changes.{or_else}
 use Rattle.ts_core.specs.store.StoreStates.{CellParts, fact_at, facts_at}
 use Rattle.ts_core.specs.store.StoreData.{CellMap, no_parts}
@@ -22,8 +22,8 @@ use Rattle.ts_cells.specs.CellChanges.{inserted_if_absent}
 use Rattle.ts_cells.specs.Grids.{no_rollup_series, cell_at}
 use Rattle.ts_cells.proofs.GridMoves.{get-inserted_if_absent}
 use Rattle.ts_store.specs.image.BuildingParts.{MakesCells}
-use Rattle.ts_store.specs.store.PossibleCells.{IsPossibleCell, HasPossibleCells}
-use Rattle.ts_store.specs.write.LinesPut.{OfEachRule, IsOfFacts, GainsCells}
+use Rattle.ts_store.specs.store.PossibleCells.{IsPossibleCell}
+use Rattle.ts_store.specs.write.LinesPut.{OfEachRule, IsOfFacts}
 use Rattle.ts_store.specs.rollup.Rollups.{RollupState, AreRollups, IsRollupSeriesOf, rollup_series_at, rollup_series_under, cells_of, with_grid_cells, cell_created_in}
 use Rattle.ts_store.specs.rollup.ChangedLists.{ChangesBeside}
 use Rattle.ts_store.proofs.write.CellsMade.{each_same, each_more, gains_nothing}

@@ -9,7 +9,7 @@ use Rattle.ts_core.specs.facts.Facts.{Column, Fact, same_text}
 use Rattle.ts_core.specs.settings.Settings.{Rule}
 use Rattle.ts_core.specs.aggregates.Aggregates.{Aggregate, empty_aggregate, merged, aggregate_of, aggregate_of_points, merged_within}
 use Rattle.ts_core.specs.aggregates.MergeLaws.{aggregate_laws}
-use Rattle.ts_core.specs.store.Cells.{Cell, same_cell, cell_of, is_rolled, is_in_cell, total_of}
+use Rattle.ts_core.specs.store.Cells.{Cell, same_cell, cell_of, is_in_cell, total_of}
 use Rattle.ts_core.specs.lists.Changes.{changed}
 use Rattle.ts_core.specs.store.Marks.{index_of}
 use Rattle.ts_core.specs.store.StoreStates.{CellParts, fact_at, facts_at}

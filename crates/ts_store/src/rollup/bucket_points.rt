@@ -10,8 +10,8 @@ use ts_raw::Run;
 /// Number of points that are decoded at once.
 pub(crate) const ROOM: usize = 64;
 
-/// Returns the index of the rule's bucket that contains a time, and an end in nanoseconds: the later times before it are
-/// in that bucket too.
+/// Returns the index of the rule's bucket that contains a time, and an end in nanoseconds: later times before it are in
+/// that bucket too.
 fn bucket_until<A: Allocator>(rule: &Rule<A>, time: Time) -> (i128, i64)
     requires { pos 1 ≤ℤ rule.now.interval }
     ensures index { result.0 ≡ index_of rule.now time }
@@ -25,8 +25,8 @@ fn bucket_until<A: Allocator>(rule: &Rule<A>, time: Time) -> (i128, i64)
     (bucket.index, bucket.end as i64)
 }
 
-/// Removes the first points of a run, those of one bucket of a rule, and returns the bucket's index and them; or `None` if
-/// no points are left. Divides once.
+/// Removes the first points of a run, which are in one bucket of a rule, and returns the bucket's index and them. Returns
+/// `None` if no points are left.
 pub(crate) fn take_bucket<'a, A: Allocator>(
     rule: &Rule<A>,
     run: &mut Run<'a>,

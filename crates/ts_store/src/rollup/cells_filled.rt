@@ -111,8 +111,8 @@ pub(crate) fn make_all_cells<A: Allocator + Copy>(
     Ok(())
 }
 
-/// Adds points of a column of a rollup series to the live parts of their cells under a rule. Folds the points of a bucket
-/// first, and adds them at once.
+/// Adds points of a column of a rollup series to the live parts of their cells under a rule. Folds the points of a
+/// bucket first, and adds them at once.
 fn add_run<A: Allocator + Copy>(
     rule: &Rule<A>,
     rollup: &mut Rollup<A>,
