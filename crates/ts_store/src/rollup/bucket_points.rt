@@ -25,8 +25,8 @@ fn bucket_until<A: Allocator>(rule: &Rule<A>, time: Time) -> (i128, i64)
     (bucket.index, bucket.end as i64)
 }
 
-/// Removes the first points of a run, which are in one bucket of a rule, and returns the bucket's index and them. Returns
-/// `None` if no points are left.
+/// Removes the first points of a run, which are in one bucket of a rule, and returns the bucket's index and them.
+/// Returns `None` if no points are left.
 pub(crate) fn take_bucket<'a, A: Allocator>(
     rule: &Rule<A>,
     run: &mut Run<'a>,
