@@ -13,7 +13,7 @@ use Rattle.ts_block.specs.Blocks.{times_of}
 use Rattle.ts_block.specs.Decoding.{FollowBy, AreSpaced, AreSpacedIf}
 use Rattle.ts_raw.specs.CodedPoints.{before_first}
 use Rattle.ts_raw.specs.PlainColumns.{IsRising, IsStartOf}
-use Rattle.ts_raw.specs.Runs.{IsInside}
+use Rattle.ts_raw.specs.PointRuns.{IsInside}
 use Rattle.ts_raw.proofs.CutLemmas.{first_bound, first_parts, less_at}
 
 before_too : (x t : ℤ) → x <ℤ t → int_lt x t ≡ true

@@ -5,7 +5,7 @@ ghost use Rattle.std.specs.List.{prefix_len, take_while};
 ghost use Rattle.ts_block.specs.Decoding.{AreSpacedIf};
 ghost use Rattle.ts_core.specs.facts.Facts.{is_within};
 ghost use Rattle.ts_raw.specs.PlainColumns.{IsRising, IsStartOf};
-ghost use Rattle.ts_raw.specs.Runs.{IsInside};
+ghost use Rattle.ts_raw.specs.PointRuns.{IsInside};
 
 use crate::plain_column::count_before;
 use std::marker::Model;

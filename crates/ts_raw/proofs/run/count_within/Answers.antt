@@ -1,6 +1,6 @@
 use Rattle.std.proofs.Common.{rules, ◌≤ℤ◌, ◌<ℤ◌, SFits, w64, to_z-of_z, sym, subst}
 use Rattle.ts_core.proofs.lists.Comparisons.{lt_from, lt_not}
-use Rattle.ts_raw.specs.Runs.{IsInside}
+use Rattle.ts_raw.specs.PointRuns.{IsInside}
 use Rattle.ts_raw.proofs.RunLemmas.{is_inside, less_not, prefix_from, prefix_is_all}
 use Rattle.ts_raw.proofs.run.count_within.Goals as goal
 
