@@ -24,6 +24,7 @@ mod Widths
 -- RowParts: buckets of a row, runs of points in one
 mod Spans
 mod NextBuckets
+mod Halves
 mod Folded
 mod Runs
 mod Blocks

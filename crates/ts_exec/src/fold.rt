@@ -1,6 +1,6 @@
 //! Folds of points that keep parts of an aggregate.
 ghost use Rattle.std.specs.Prelude.{◌≡◌, ◌+◌, ◌^◌, ◌<◌, ◌≤◌, length};
-ghost use Rattle.ts_core.specs.aggregates.Aggregates.{Aggregate, merged, IsSound, IsSpread};
+ghost use Rattle.ts_core.specs.aggregates.Aggregates.{Aggregate, merged, sum_of_points, IsSound, IsSpread};
 ghost use Rattle.ts_exec.specs.declared.aggregate_parts.AggregateParts.{AggregateParts};
 ghost use Rattle.ts_exec.specs.declared.aggregate_parts.AggregateParts.TheVariants.{CountAlone, CountAndSum, Bounds, Whole};
 ghost use Rattle.ts_exec.specs.RowParts.{bounds, count_part, part_of, part_of_point, part_with, wide_extremes};
@@ -26,6 +26,15 @@ pub(crate) trait Fold: Copy {
     /// Adds points.
     #[inline]
     fn with_all(self, points: &[(Time, i64)]) -> Self
+        requires { (folded self).count + length points.now ≤ 2 ^ 62 }
+        ensures { folded result ≡ part_with parts (folded self) points.now }
+    {
+        self.with_each(points)
+    }
+
+    /// Adds points, one by one.
+    #[inline]
+    fn with_each(self, points: &[(Time, i64)]) -> Self
         requires { (folded self).count + length points.now ≤ 2 ^ 62 }
         ensures { folded result ≡ part_with parts (folded self) points.now }
     {
@@ -181,6 +190,24 @@ fn sum_of(part: &Agg) -> i128
     }
 }
 
+/// Returns the sum of the values of at most 2^31 points. A point costs two additions of 64 bits: of its value, whose
+/// sum may wrap around, and of its high half, whose sum can't. The low halves add up to less than 2^63.
+fn sum_of_values(points: &[(Time, i64)]) -> i128
+    requires some { 0 < length points.now }
+    requires few { length points.now ≤ 2 ^ 31 }
+    ensures value { result ≡ sum_of_points points.now }
+    ensures spread { IsSpread (length points.now) (sum_of_points points.now) wide_extremes }
+{
+    let mut wrapped = 0i64;
+    let mut high = 0i64;
+    for point in points {
+        wrapped = wrapped.wrapping_add(point.1);
+        high += point.1 >> 32;
+    }
+    let low = wrapped.wrapping_sub(high.wrapping_mul(1 << 32));
+    i128::from(high) * (1 << 32) + i128::from(low)
+}
+
 impl Fold for Summed {
     ghost parts = { CountAndSum };
 
@@ -197,6 +224,18 @@ impl Fold for Summed {
         Summed {
             count: self.count + 1,
             sum: self.sum + i128::from(value),
+        }
+    }
+
+    // few points are added one by one: to join the halves costs more than it saves
+    fn with_all(self, points: &[(Time, i64)]) -> Summed {
+        let length = points.len();
+        match length {
+            16..=0x8000_0000 => Summed {
+                count: self.count + length as u64,
+                sum: self.sum + sum_of_values(points),
+            },
+            _ => self.with_each(points),
         }
     }
 

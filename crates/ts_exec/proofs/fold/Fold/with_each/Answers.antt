@@ -2,7 +2,7 @@ use Rattle.std.proofs.Common.{rules, ◌<◌, ◌^◌, ap, sym, subst, ◌∙◌
 use Rattle.ts_core.specs.aggregates.Aggregates.{Aggregate, merged}
 use Rattle.ts_exec.specs.RowParts.{part_of_point}
 use Rattle.ts_exec.proofs.Folded.{merged-room, merged-more}
-use Rattle.ts_exec.proofs.fold.Fold.with_all.Goals as goal
+use Rattle.ts_exec.proofs.fold.Fold.with_each.Goals as goal
 
 pub with-fold-requires : goal.with-fold-requires
 with-fold-requires g c =
