@@ -4,8 +4,7 @@ use Rattle.std.specs.Int.{w128, int_shr, int_wrap}
 use Rattle.std.proofs.lemmas.Int.{ints, fits_signed_from_abs, int_wrap_fits, int_wrap-add_left, int_wrap-sub_right}
 use Rattle.std.proofs.lemmas.Nat.{div-add-mod'}
 use Rattle.std.proofs.lemmas.List.{take_more}
-use Rattle.ts_core.specs.aggregates.Aggregates.{IsSpread, sum_of_points}
-use Rattle.ts_exec.specs.RowParts.{wide_extremes}
+use Rattle.ts_core.specs.aggregates.Aggregates.{sum_of_points}
 
 -- the sum of n values of 64 bits, and the sum of their high halves
 pub record AreHalved (n : ℕ) (sum high : ℤ) : Type 0 where
@@ -13,9 +12,6 @@ pub record AreHalved (n : ℕ) (sum high : ℤ) : Type 0 where
   pub at_most : sum ≤ℤ (high *ℤ pos 4294967296 +ℤ pos (n * 4294967295))
   pub least : neg_ℤ (pos (n * 2147483648)) ≤ℤ high
   pub most : high ≤ℤ pos (n * 2147483647)
-
-pub halved-none : AreHalved 0 (pos 0) (pos 0)
-halved-none = record { at_least = omega (arith, ints); at_most = omega (arith, ints); least = omega (arith, ints); most = omega (arith, ints) }
 
 halved-one : (v : ℤ) → neg_ℤ (pos 9223372036854775808) ≤ℤ v → v <ℤ pos 9223372036854775808 → AreHalved 1 v (int_shr v 32)
 halved-one (pos a) low high =
@@ -38,6 +34,7 @@ halved-more n s h v all fits =
     let i = one.most in
     record { at_least = omega (arith, ints); at_most = omega (arith, ints); least = omega (arith, ints); most = omega (arith, ints) }
 
+-- for at most 2^31 values, the sum of their high halves fits 64 bits, and so does that of their low halves
 module _ (n : ℕ) (s h : ℤ) (all : AreHalved n s h) where
   pub halved-fits : n ≤ 2 ^ 31 → FitsSigned w64 h
   halved-fits few =
@@ -45,20 +42,13 @@ module _ (n : ℕ) (s h : ℤ) (all : AreHalved n s h) where
       let most = all.most in
       fits_signed_from_abs w64 h (omega (arith, ints))
 
-  pub halved-spread : 0 < n → IsSpread n s wide_extremes
-  halved-spread some =
-      let low = all.at_least in
-      let high = all.at_most in
-      let least = all.least in
-      let most = all.most in
-      record { some = some; at_least = omega (arith, ints); at_most = omega (arith, ints) }
-
   pub low-half : n ≤ 2 ^ 31 → FitsSigned w64 (s -ℤ h *ℤ pos 4294967296)
   low-half few =
       let low = all.at_least in
       let high = all.at_most in
       fits_signed_from_abs w64 (s -ℤ h *ℤ pos 4294967296) (omega (arith, ints))
 
+-- the wrapped sum is enough for the sum of the low halves
 pub low-wrapped : (s k : ℤ) → FitsSigned w64 (s -ℤ k) → int_wrap w64 (int_wrap w64 s -ℤ int_wrap w64 k) ≡ s -ℤ k
 low-wrapped s k fits = int_wrap-sub_right w64 (int_wrap w64 s) k ∙ int_wrap-add_left w64 s (neg_ℤ k) ∙ int_wrap_fits w64 (s -ℤ k) fits
 
