@@ -94,16 +94,6 @@ module _ {P : Type 0} where
   pub cells_missing : (rows : List (RowOf P)) (i : ℤ) (at : ℕ) → at ≤ length rows → IsPartitionPoint (λ (r : RowOf P). int_cmp r.0 i ≡ Less) (λ (r : RowOf P). int_cmp r.0 i ≡ Greater) rows at → cells_of_bucket rows i ≡ []
   cells_missing rows i at h p = ap (or_else []) (missing int_cmp_total rows i at h p)
 
-  -- one put after another in the same row
-  pub row_again : (rows between after : List (RowOf P)) (i : ℤ) (cs ds : List (Option P)) → RowPut rows between i cs → RowPut between after i ds → RowPut rows after i ds
-  row_again rows between after i cs ds a b = record {
-    rising = b.rising;
-    cells = λ q. b.cells q ∙ elim (eq_by_cmp int_cmp q i) as (λ x. eq_by_cmp int_cmp q i ≡ x → cond x ds (cells_of_bucket between q) ≡ cond x ds (cells_of_bucket rows q)) [
-      | true ↦ λ e. refl
-      | false ↦ λ e. a.cells q ∙ ap (λ x. cond x cs (cells_of_bucket rows q)) e
-    ] refl;
-  }
-
 -- ---- cells of different buckets or rollup series differ
 
 distinct_at : (ls : List RollupSeries) (j k : ℕ) → AllDistinct ls → j < length ls → k < length ls → get_or ls j no_rollup_series ≡ get_or ls k no_rollup_series → j ≡ k

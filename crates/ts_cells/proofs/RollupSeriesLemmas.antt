@@ -1,7 +1,6 @@
 -- Rollup series after one more, which leaves the cells as they are; one more text, owned or hashed.
 use Rattle.std.proofs.Common.{◌≡◌, ℕ, ℤ, ◌<◌, ◌≤◌, ◌+◌, List, [], ◌∷◌, ◌++◌, length, length-append, get_or, take, map, String, string_bytes, Bor, refl, sym, ◌∙◌, ap, ap₂, subst, Option, Some, None, inl, inr, arith}
 use Rattle.std.specs.List.{AllByRecursion}
-use Rattle.std.proofs.Common.{Result, Ok, Err, OnOk}
 use Rattle.ts_core.specs.lists.Members.{Among}
 use Rattle.ts_core.proofs.lists.NumberedLemmas.{once_more}
 use Rattle.std.proofs.lemmas.List.{take_more}
@@ -35,10 +34,6 @@ module _ {P : Type 0} where
     rising = g.rising;
     narrow = narrower (length ls) (length (ls ++ l ∷ [])) rows (let e = length-append ls (l ∷ []) in omega arith) g.narrow;
   }
-
-pub on_any_ok : {T E Q : Type 0} (r : Result T E) → Q → OnOk r Q
-on_any_ok (Ok x) q = q
-on_any_ok (Err e) q = tt
 
 -- a rollup series that is there, or one more
 pub gained_grid : {P : Type 0} (ls after : List RollupSeries) (l : RollupSeries) (rows : List (RowOf P)) → IsGrid ls rows → Gains ls after l → IsGrid after rows

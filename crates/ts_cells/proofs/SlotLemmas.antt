@@ -56,12 +56,6 @@ slot_here es k at d s h e = ap (or_else no_slot) (found_at nat_cmp_total es s k 
 pub slot_missing : (es : List (ℕ × ℕ)) (k at : ℕ) → at ≤ length es → IsPartitionPoint (λ (e : ℕ × ℕ). nat_cmp e.0 k ≡ Less) (λ (e : ℕ × ℕ). nat_cmp e.0 k ≡ Greater) es at → slot_of es k ≡ no_slot
 slot_missing es k at h p = ap (or_else no_slot) (missing nat_cmp_total es k at h p)
 
--- an entry of a rollup series among the others doesn't widen them
-width_at : (es : List (ℕ × ℕ)) (at : ℕ) (d : ℕ × ℕ) → at < length es → (get_or es at d).0 + 1 ≤ slots_width es
-width_at [] at d h = absurd (omega arith)
-width_at (e ∷ es) zero d h = omega arith
-width_at (e ∷ es) (suc at) d h = let ih = width_at es at d (omega arith) in omega arith
-
 width_set : (es : List (ℕ × ℕ)) (at v : ℕ) (d : ℕ × ℕ) → slots_width (set es at ((get_or es at d).0, v)) ≡ slots_width es
 width_set [] at v d = refl
 width_set (e ∷ es) zero v d = refl

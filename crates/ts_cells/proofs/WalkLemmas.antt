@@ -247,13 +247,6 @@ module _ {P : Type 0} (ls : List RollupSeries) (i : ℤ) (cs : List (Option P)) 
   skip_one (n ∷ ns) zero h e = sym (ap (λ (o : Option P). with_entry o n (cell_in ls i n) (row_left ls i cs ns)) e)
   skip_one (n ∷ ns) (suc at) h e = skip_one ns at (omega arith) e
 
-  -- a cell
-  pub take_one : (order : List ℕ) (at : ℕ) (p : P) → at < length order → held cs (get_or order at 0) ≡ Some p
-      → row_left ls i cs (drop at order) ≡ record { series = get_or order at 0; cell = cell_in ls i (get_or order at 0); part = p } ∷ row_left ls i cs (drop (suc at) order)
-  take_one [] at p h e = absurd (omega arith)
-  take_one (n ∷ ns) zero p h e = ap (λ (o : Option P). with_entry o n (cell_in ls i n) (row_left ls i cs ns)) e
-  take_one (n ∷ ns) (suc at) p h e = take_one ns at p (omega arith) e
-
   skip_many : (order : List ℕ) (at k : ℕ) → at + k ≤ length order → ((p : ℕ) → at ≤ p → p < at + k → held cs (get_or order p 0) ≡ None) → row_left ls i cs (drop (at + k) order) ≡ row_left ls i cs (drop at order)
   skip_many order at zero h f = ap (λ n. row_left ls i cs (drop n order)) (omega arith)
   skip_many order at (suc k) h f =

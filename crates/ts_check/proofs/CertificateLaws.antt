@@ -212,9 +212,6 @@ behind_last text front rest b e = record { each = b.each; spelled = b.spelled �
 pub behind_stop : (text : Text) (front : List Piece) (rest at : Text) (n : ℕ) → IsBehind text front rest → Stops rest at → n + length at ≡ length text → IsFirstBadLine text n
 behind_stop text front rest at n b s len = stops_first text rest at front n b.each b.spelled s len
 
-pub stop_fits : (text : Text) (front : List Piece) (rest at : Text) → IsBehind text front rest → Stops rest at → length at ≤ length text
-stop_fits text front rest at b s = omega (arith, stop_within rest at s, ap length b.spelled, length-append (codes "plan 1\n") (lines front ++ rest), length-append (lines front) rest)
-
 -- ---- answers
 
 pub reading : (text : Text) (r : Result (List Piece) ReadCertificateError) → (ps : List Piece) × IsCertificate text ps → IsReadingIfMemory text r → IsReadingOf text r

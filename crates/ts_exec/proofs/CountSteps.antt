@@ -35,15 +35,6 @@ counted-column_ref q cs a b s ss n new met e =
     let own : points_of_shares (column_ref_shares q cs a b s) ≡ length (points_at cs s.number a b) = column_ref-points q cs a b s ∙ ap (λ z. cond z (length (points_at cs s.number a b)) 0) met in
     counted-more n new (column_ref_shares q cs a b s) (column_refs_shares q cs a b ss) (e ∙ ap (λ k. min (n + k) 18446744073709551615) (sym own))
 
--- a column that doesn't
-pub counted-other_column_ref : (q : Query) (cs : List ColumnPoints) (a b : ℤ) (s : ColumnRef) (ss : List ColumnRef) (n : ℕ)
-    → list_all (meets s.series) q.conditions ≡ false → counted n (column_refs_shares q cs a b ss) ≡ counted n (column_refs_shares q cs a b (s ∷ ss))
-counted-other_column_ref q cs a b s ss n not_met =
-    let own : points_of_shares (column_ref_shares q cs a b s) ≡ 0 = column_ref-points q cs a b s ∙ ap (λ z. cond z (length (points_at cs s.number a b)) 0) not_met in
-    let all = points-append (column_ref_shares q cs a b s) (column_refs_shares q cs a b ss) in
-    let same : points_of_shares (column_refs_shares q cs a b ss) ≡ points_of_shares (column_refs_shares q cs a b (s ∷ ss)) = omega arith in
-    ap (λ k. min (k + n) 18446744073709551615) same
-
 -- a cell
 abbrev pub taken_shares : Query → Rule → ℤ → ℤ → List SeenCell → List Share
 taken_shares q r a b cs = map (cell_share q r) (filter (is_cell_taken q r a b) cs)

@@ -1,5 +1,5 @@
 -- Points of which the count alone is kept: they may be added in any order, and those of one bucket as one part.
-use Rattle.std.proofs.Common.{◌≡◌, ℕ, zero, suc, ◌+◌, ◌<◌, ◌≤◌, ◌^◌, ℤ, ◌≤ℤ◌, ◌<ℤ◌, Bool, true, false, List, [], ◌∷◌, length, get_or, min, refl, sym, ◌∙◌, ap, cond, arith}
+use Rattle.std.proofs.Common.{◌≡◌, ℕ, zero, suc, ◌+◌, ◌≤◌, ◌^◌, ℤ, ◌≤ℤ◌, ◌<ℤ◌, Bool, true, false, List, [], ◌∷◌, length, get_or, min, refl, sym, ◌∙◌, ap, cond, arith}
 use Rattle.std.proofs.lemmas.Int.{ints}
 use Rattle.std.proofs.lemmas.List.{length-set}
 use Rattle.ts_core.specs.facts.Facts.{is_within}
@@ -15,11 +15,6 @@ use Rattle.ts_exec.proofs.Runs.{part-joined}
 
 abbrev one : Aggregate
 one = count_part 1
-
--- some points are one part
-pub counted-some : (i n : ℕ) (rows : List Aggregate) → 0 < n → with_counted i n rows ≡ with_part i (count_part n) rows
-counted-some i zero rows h = absurd (omega arith)
-counted-some i (suc n) rows h = refl
 
 -- no point is in an empty range
 pub counted-none : (a b : ℤ) (ps : List (ℤ × ℤ)) → b ≤ℤ a → points_between a b ps ≡ []

@@ -55,12 +55,6 @@ rows-filled NoneFill fs rows = some_shown fs None (filter has_data rows)
 rows-filled PreviousFill fs rows = all_repeated fs None rows
 rows-filled (NumberFill n) fs rows = all_numbered fs n None rows
 
-pub all-shown : (fill : Fill) (rows : List Row) → (fill ≡ NoneFill → ⊥) → content_rows fill rows ≡ rows
-all-shown NullFill rows other = refl
-all-shown NoneFill rows other = absurd (other refl)
-all-shown PreviousFill rows other = refl
-all-shown (NumberFill n) rows other = refl
-
 -- ---- where rows begin
 
 times_low : (n : ℕ) (i : ℤ) → pos 0 ≤ℤ i → pos 0 ≤ℤ (pos n *ℤ i)

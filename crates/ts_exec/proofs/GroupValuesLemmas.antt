@@ -1,7 +1,7 @@
 -- GroupValues: values without the empty ones are those of a series' own tags, and compare as all values.
 use Rattle.std.proofs.Common.{◌≡◌, ℕ, zero, suc, ◌+◌, ◌<◌, ◌==◌, true, false, Bool, if◌then◌else◌, T, refl, sym, ◌∙◌}
 use Rattle.std.proofs.Common.{ap, ap₂, subst, subst₂, ◌⊎◌, inl, inr}
-use Rattle.std.proofs.Common.{List, [], ◌∷◌, ◌++◌, length, get_or, map, zip}
+use Rattle.std.proofs.Common.{List, [], ◌∷◌, length, get_or, map, zip}
 use Rattle.std.proofs.Common.{Option, Some, None, Result, Ok, Err, Ordering, Less, Equal, Greater, is_eq, is_lt}
 use Rattle.std.proofs.Common.{arith, add-one, eq-eqb, ne_eqb, eqb-true, lt-ltb, le-ltb}
 use borrow.Author.Tests.{eqb-false}
@@ -283,22 +283,6 @@ all-set i (t ∷ tags) f =
     ] refl
 
 -- ---- one more own tag, after the others
-
-with_set-append : (o : Option ℕ) (v : Text) (us vs : List SetValue) → with_set o v (us ++ vs) ≡ with_set o v us ++ vs
-with_set-append None v us vs = refl
-with_set-append (Some i) v us vs =
-    elim (length v == 0) as (λ b. (if b then us ++ vs else (i, v) ∷ us ++ vs)
-    ≡ (if b then us else (i, v) ∷ us) ++ vs) [
-      | true ↦ refl
-      | false ↦ refl
-    ]
-
-pub own_values-snoc : (tags : List Text) (xs : List (Text × Text)) (t : Text × Text)
-    → own_values tags (xs ++ t ∷ []) ≡ own_values tags xs ++ with_set (tag_index 0 tags t.0) t.1 []
-own_values-snoc tags [] t = refl
-own_values-snoc tags (x ∷ xs) t =
-    ap (with_set (tag_index 0 tags x.0) x.1) (own_values-snoc tags xs t)
-    ∙ with_set-append (tag_index 0 tags x.0) x.1 _ _
 
 -- ---- the index of a tag, by a search
 

@@ -37,4 +37,3 @@ mod SetSteps
 -- Fillings
 pub mod FillSteps
 -- Lent
-pub mod BorrowedLemmas

@@ -1,5 +1,5 @@
 -- Series tested by their own tags: a search among sorted pairs, and one more condition.
-use Rattle.std.proofs.Common.{◌≡◌, ℕ, zero, suc, ◌+◌, ◌<◌, ◌≤◌, Bool, true, false, not, cond, ◌&&◌, ◌||◌, T, List, [], ◌∷◌, ◌++◌, length, get_or, drop, map, zip, refl, sym, ◌∙◌, ap, subst, inl, inr, ⊎_elim, true≢false, Result, Ok, Err, Ordering, Less, Equal, Greater, is_eq, Bor, arith}
+use Rattle.std.proofs.Common.{◌≡◌, ℕ, zero, suc, ◌<◌, ◌≤◌, Bool, true, false, not, cond, ◌&&◌, ◌||◌, T, List, [], ◌∷◌, ◌++◌, length, get_or, drop, map, zip, refl, sym, ◌∙◌, ap, subst, inl, inr, ⊎_elim, true≢false, Result, Ok, Err, Ordering, Less, Equal, Greater, is_eq, Bor, arith}
 use Rattle.std.specs.Ordering.{ordering_then, ordering_reverse}
 use Rattle.std.specs.List.{list_all, list_any}
 use Rattle.std.specs.List.Sorted.{IsPermutation, IsBinarySearchResult, IsSearchInRange}
@@ -7,7 +7,7 @@ use Rattle.std.specs.FinMap.Entries.{below_all}
 use Rattle.std.specs.Result.{is_ok}
 use Rattle.std.proofs.lemmas.Bool.{cases_lt, ne_eqb, or_from, or_left, or_right}
 use Rattle.std.proofs.lemmas.Cmp.{nat_list_cmp_total}
-use Rattle.std.proofs.lemmas.List.{drop_more, drop_all}
+use Rattle.std.proofs.lemmas.List.{drop_all}
 use Rattle.std.proofs.lemmas.List.Sorted.{searchable_from_sorted, list_any-IsPermutation}
 use Rattle.std.proofs.lemmas.Map.Text.{is_eq-slice_cmp}
 use Rattle.ts_core.specs.facts.Facts.{Text, text_cmp, same_text, tag_cmp, Series}
@@ -225,12 +225,6 @@ all_more p [] c = sym (and_true (p c.now))
     and_true false = refl
 all_more p (x ∷ cs) c = and_assoc (p x.now) (list_all p (borrowed cs)) (p c.now) ∙ ap (λ b. p x.now && b) (all_more p cs c)
 
-pub needed_more : (cs : List (Bor Condition)) (c : Bor Condition) (refused : List (Text × Text)) (s : Series)
-    → (meets_tests (borrowed cs) refused s && meets s c.now) ≡ meets_tests (borrowed (cs ++ c ∷ [])) refused s
-needed_more cs c refused s =
-    let kept : Bool = list_all (λ t. not (is_refused refused t)) s.tags in
-    and_assoc kept (list_all (meets s) (borrowed cs)) (meets s c.now) ∙ ap (λ b. kept && b) (all_more (meets s) cs c)
-
 -- ---- all conditions
 
 none_refused : (ts : List (Text × Text)) → list_all (λ t. not (is_refused [] t)) ts ≡ true
@@ -244,13 +238,6 @@ allowed-none (x ∷ xs) e ts = absurd (omega (arith, e))
 
 pub tests-none : (s : Series) (b : Bool) → (meets_tests [] [] s && b) ≡ b
 tests-none s b = ap (λ k. (k && true) && b) (none_refused s.tags)
-
-pub tests-next : (old new : Bool) (items : List (Bor Condition)) (i : ℕ) (c : Bor Condition) (s : Series) → i < length items → c ≡ get_or items i c → (old && meets s c.now) ≡ new
-    → (old && meets_all (borrowed (drop i items)) s) ≡ meets_all (borrowed items) s → (new && meets_all (borrowed (drop (i + 1) items)) s) ≡ meets_all (borrowed items) s
-tests-next old new items i c s below at e h =
-    let rest : Bool = meets_all (borrowed (drop (i + 1) items)) s in
-    let next : drop i items ≡ c ∷ drop (i + 1) items = drop_more items i c below ∙ ap (λ x. x ∷ drop (i + 1) items) (sym at) in
-    ap (λ b. b && rest) (sym e) ∙ and_assoc old (meets s c.now) rest ∙ ap (λ (cs : List (Bor Condition)). old && meets_all (borrowed cs) s) (sym next) ∙ h
 
 pub tests-all : (tests : Bool) (items : List (Bor Condition)) (i : ℕ) (s : Series) → length items ≤ i → (tests && meets_all (borrowed (drop i items)) s) ≡ meets_all (borrowed items) s → tests ≡ meets_all (borrowed items) s
 tests-all tests items i s long h = sym (and_true tests) ∙ ap (λ (cs : List (Bor Condition)). tests && meets_all (borrowed cs) s) (sym (drop_all i items long)) ∙ h

@@ -23,12 +23,6 @@ use Rattle.ts_store.proofs.store.WholeStatesKept.{Steps, last_step}
 
 -- ---- the run begins if none is open
 
-pub run_goes_on : (now : ℤ) (k : StoreData) → k.running ≡ true → run_opened now k ≡ k
-run_goes_on now k e = ap (λ b. cond b k (run_begun now k)) e
-
-pub run_begins_now : (now : ℤ) (k : StoreData) → k.running ≡ false → run_opened now k ≡ run_begun now k
-run_begins_now now k e = ap (λ b. cond b k (run_begun now k)) e
-
 opens_by : (now : ℤ) (s : WholeState) (k : StoreData) (b : Bool) → k.running ≡ b → (k.running ≡ false → GoesOn k (Begin now) (run_begun now k)) → IsWholeStateOf s k
     → (opened : WholeState) × OpensRun now s opened × IsWholeStateOf opened (cond b k (run_begun now k))
 opens_by now s k true e begins i = (s, OpensRun.goes_on (i.store.stands.running.0 e), i)

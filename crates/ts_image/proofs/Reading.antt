@@ -6,16 +6,16 @@ use Rattle.std.specs.Str.{IsUtf8, is_utf8}
 use Rattle.std.proofs.lemmas.Str.{IsUtf8-from_is_utf8, is_utf8-from_IsUtf8}
 use Rattle.ts_core.specs.facts.Facts.{Text}
 use Rattle.std.proofs.lemmas.Bool.{lt-ltb, le-ltb}
-use Rattle.std.proofs.lemmas.List.{append-nil, take_at, drop_at}
-use Rattle.std.specs.Io.KnownBytes.{Consumes, Keeps, IsAtEnd}
+use Rattle.std.proofs.lemmas.List.{take_at, drop_at}
+use Rattle.std.specs.Io.KnownBytes.{Consumes}
 use Rattle.ts_core.specs.io.Devices.{Input}
 use Rattle.ts_core.specs.io.ReadingAhead.{Ahead, EndIsEnd}
 use Rattle.ts_core.proofs.io.ReadCounts.{no_read_counts, reads_count_on}
 use Rattle.ts_image.specs.declared.field_fault.FieldFault.{FieldFault}
 use Rattle.ts_image.specs.declared.field_fault.FieldFault.TheVariants.{Misshapen, Device, TooManyReads, OutOfMemory}
 use Rattle.ts_core.specs.text.Steps.{◌>>=◌}
-use Rattle.ts_image.specs.Formats.{Cursor, Read, read_number, number, signed_number, read_text, text}
-use Rattle.ts_image.specs.FieldReading.{FieldsRead, bytes_to_come, known_bytes, cursor_of, IsKnown, one_if_failed, CallsSource, UsesBytes, FindsEnd, FillsBuffer, IsShaped, GivesReading, ReadsField}
+use Rattle.ts_image.specs.Formats.{Cursor, read_number, number, signed_number, read_text, text}
+use Rattle.ts_image.specs.FieldReading.{FieldsRead, bytes_to_come, known_bytes, cursor_of, IsKnown, one_if_failed, CallsSource, UsesBytes, ReadsField}
 use Rattle.ts_image.proofs.Fields.{done, failed}
 
 consumes_more : (a b c : Option (List ℕ)) (xs ys : List ℕ) → Consumes a b xs → Consumes b c ys → Consumes a c (xs ++ ys)
@@ -36,16 +36,6 @@ consumes_none (Some x) = refl
 
 pub uses_none : (a : FieldsRead) (s : Input) → UsesBytes a s [] a s
 uses_none a s = record { used = consumes_none (bytes_to_come a s); at = let e : a.at ≡ a.at + 0 = omega arith in e }
-
--- where bytes that were used are all that there is
-all_used : (a b c : Option (List ℕ)) (xs : List ℕ) → Consumes a b xs → Keeps b c → IsAtEnd c → IsSome a → known_bytes a ≡ xs
-all_used None b c xs p q e k = absurd cc
-all_used (Some x) None c xs p q e k = absurd p
-all_used (Some x) (Some y) None xs p q e k = absurd q
-all_used (Some x) (Some y) (Some z) xs p q e k = p ∙ ap (λ (t : List ℕ). xs ++ t) (sym q ∙ e) ∙ append-nil xs
-
-pub ends_short : (a b c : FieldsRead) (s t u : Input) (xs : List ℕ) → UsesBytes a s xs b t → FindsEnd b t c u → IsKnown a s → (cursor_of a s).rest ≡ xs
-ends_short a b c s t u xs p q k = all_used (bytes_to_come a s) (bytes_to_come b t) (bytes_to_come c u) xs p.used q.bytes q.end k
 
 -- known bytes stay known
 known_after : (a b : Option (List ℕ)) (xs : List ℕ) → Consumes a b xs → IsSome a → IsSome b
@@ -151,31 +141,8 @@ number_short w p buffer n len e short =
     let less : ltb (length p.rest) (byte_len w) ≡ true = lt-ltb _ _ (omega (arith, short, len)) in
     rw less (ap (λ (m : ℕ). failed m) (sym e))
 
--- a number as its format says
-pub number_reads : (w : Width) (a b : FieldsRead) (s t : Input) (bytes : List ℕ) → length bytes ≡ byte_len w → UsesBytes a s bytes b t → CallsSource a.ahead s nothing_yet b.ahead t → ReadsField (number w) (λ (n : ℕ). n) a s (fine (from_be_bytes w bytes)) b t
-number_reads w a b s t bytes len u q = record { stays = λ k. stays_known a b s t bytes u k; value = λ k. number_read w a b s t bytes len u k; calls = calls_ok a.ahead b.ahead s t tt (from_be_bytes w bytes) q }
-
 pub signed_reads : (w : Width) (a b : FieldsRead) (s t : Input) (bytes : List ℕ) → length bytes ≡ byte_len w → UsesBytes a s bytes b t → CallsSource a.ahead s nothing_yet b.ahead t → ReadsField (signed_number w) (λ (z : ℤ). z) a s (fine (cast_signed w (from_be_bytes w bytes))) b t
 signed_reads w a b s t bytes len u q = record { stays = λ k. stays_known a b s t bytes u k; value = λ k. ap (λ r. r >>= λ n. done (cast_signed w n.0, n.1)) (number_read w a b s t bytes len u k); calls = calls_ok a.ahead b.ahead s t tt (cast_signed w (from_be_bytes w bytes)) q }
-
--- or the input ends before
-number_gives : (w : Width) (e : FieldFault) (a b : FieldsRead) (s t : Input) (buffer : List ℕ) → length buffer ≡ byte_len w → FillsBuffer a s (Err e) buffer b t → IsKnown a s → GivesReading (λ (n : ℕ). n) (faulty ℕ e) (cursor_of b t) (read_number w (cursor_of a s))
-number_gives w (Misshapen n) a b s t buffer len f k = number_short w (cursor_of a s) buffer n len f.0 (f.1 k)
-number_gives w Device a b s t buffer len f k = tt
-number_gives w TooManyReads a b s t buffer len f k = tt
-number_gives w OutOfMemory a b s t buffer len f k = tt
-
-signed_gives : (w : Width) (e : FieldFault) (a b : FieldsRead) (s t : Input) (buffer : List ℕ) → length buffer ≡ byte_len w → FillsBuffer a s (Err e) buffer b t → IsKnown a s → GivesReading (λ (z : ℤ). z) (faulty ℤ e) (cursor_of b t) ((signed_number w).read (cursor_of a s))
-signed_gives w (Misshapen n) a b s t buffer len f k = ap (λ r. r >>= λ m. done (cast_signed w m.0, m.1)) (number_short w (cursor_of a s) buffer n len f.0 (f.1 k))
-signed_gives w Device a b s t buffer len f k = tt
-signed_gives w TooManyReads a b s t buffer len f k = tt
-signed_gives w OutOfMemory a b s t buffer len f k = tt
-
-pub number_cut : (w : Width) (e : FieldFault) (a b : FieldsRead) (s t : Input) (buffer : List ℕ) → length buffer ≡ byte_len w → FillsBuffer a s (Err e) buffer b t → CallsSource a.ahead s (faulty (Unit {0}) e) b.ahead t → ReadsField (number w) (λ (n : ℕ). n) a s (faulty ℕ e) b t
-number_cut w e a b s t buffer len f q = record { stays = λ k. tt; value = number_gives w e a b s t buffer len f; calls = calls_on (Unit {0}) ℕ a.ahead b.ahead s t e q }
-
-pub signed_cut : (w : Width) (e : FieldFault) (a b : FieldsRead) (s t : Input) (buffer : List ℕ) → length buffer ≡ byte_len w → FillsBuffer a s (Err e) buffer b t → CallsSource a.ahead s (faulty (Unit {0}) e) b.ahead t → ReadsField (signed_number w) (λ (z : ℤ). z) a s (faulty ℤ e) b t
-signed_cut w e a b s t buffer len f q = record { stays = λ k. tt; value = signed_gives w e a b s t buffer len f; calls = calls_on (Unit {0}) ℤ a.ahead b.ahead s t e q }
 
 -- ---- texts
 
@@ -215,33 +182,3 @@ module _ {X : Type 0} (view : X → Text) (a b c : FieldsRead) (s t u : Input) (
     value = λ k. text_bad (cursor_of a s) (cursor_of b t) (cursor_of c u) n bytes (first.value k) (front_of b c t u bytes uses (first.stays k)) len not_text ∙ ap (λ (m : ℕ). failed m) (sym same);
     calls = calls_more a.ahead b.ahead c.ahead s t u n (faulty X (Misshapen at)) first.calls (calls_as X b.ahead c.ahead t u true at q);
   }
-
-  pub text_ends : (IsKnown b t → length (cursor_of b t).rest < n) → CallsSource b.ahead t (fine false) c.ahead u → (at : ℕ) → at ≡ a.at → ReadsField text view a s (faulty X (Misshapen at)) c u
-  text_ends short q at same = record {
-    stays = λ k. tt;
-    value = λ k. text_cut (cursor_of a s) (cursor_of b t) n (first.value k) (short (first.stays k)) ∙ ap (λ (m : ℕ). failed m) (sym same);
-    calls = calls_more a.ahead b.ahead c.ahead s t u n (faulty X (Misshapen at)) first.calls (calls_as X b.ahead c.ahead t u false at q);
-  }
-
-  unshaped : (e : FieldFault) → IsShaped (faulty Bool e) → (r : Read Text) → GivesReading view (faulty X e) (cursor_of c u) r
-  unshaped (Misshapen m) k r = absurd k
-  unshaped Device k r = tt
-  unshaped TooManyReads k r = tt
-  unshaped OutOfMemory k r = tt
-
-  pub text_fails : (e : FieldFault) → IsShaped (faulty Bool e) → CallsSource b.ahead t (faulty Bool e) c.ahead u → ReadsField text view a s (faulty X e) c u
-  text_fails e k q = record {
-    stays = λ z. tt;
-    value = λ z. unshaped e k (text.read (cursor_of a s));
-    calls = calls_more a.ahead b.ahead c.ahead s t u n (faulty X e) first.calls (calls_on Bool X b.ahead c.ahead t u e q);
-  }
-
--- its length can't be read
-length_gives : {X : Type 0} (view : X → Text) (a b : FieldsRead) (s t : Input) (e : FieldFault) → GivesReading (λ (m : ℕ). m) (faulty ℕ e) (cursor_of b t) (read_number w64 (cursor_of a s)) → GivesReading view (faulty X e) (cursor_of b t) (text.read (cursor_of a s))
-length_gives view a b s t (Misshapen n) g = ap (λ r. r >>= read_text (cursor_of a s)) g
-length_gives view a b s t Device g = tt
-length_gives view a b s t TooManyReads g = tt
-length_gives view a b s t OutOfMemory g = tt
-
-pub text_starts_not : {X : Type 0} (view : X → Text) (a b : FieldsRead) (s t : Input) (e : FieldFault) → ReadsField (number w64) (λ (m : ℕ). m) a s (faulty ℕ e) b t → ReadsField text view a s (faulty X e) b t
-text_starts_not {X} view a b s t e r = record { stays = λ k. tt; value = λ k. length_gives view a b s t e (r.value k); calls = calls_on ℕ X a.ahead b.ahead s t e r.calls }

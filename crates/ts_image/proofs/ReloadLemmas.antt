@@ -9,18 +9,16 @@ use Rattle.ts_core.specs.settings.Settings.{Rule, Settings}
 use Rattle.ts_core.specs.store.History.{History, accepted, raw_mark}
 use Rattle.ts_core.specs.facts.Latest.{latest_of}
 use Rattle.ts_core.specs.aggregates.Aggregates.{Aggregate, empty_aggregate, aggregate_of}
-use Rattle.ts_core.specs.aggregates.MergeLaws.{aggregate_laws}
 use Rattle.ts_core.specs.store.RawFacts.{is_waiting, earlier_mark, kept_from, is_kept}
-use Rattle.ts_core.specs.store.Cells.{Cell, cell_of, is_rolled, is_in_cell, same_cell, total_of, frozen_of, live_of}
+use Rattle.ts_core.specs.store.Cells.{Cell, cell_of, is_rolled, is_in_cell, same_cell, frozen_of, live_of}
 use Rattle.ts_core.specs.lists.Changes.{or_else}
 use Rattle.ts_core.specs.store.StoreStates.{ColumnPoints, CellParts, StandsFor, HasCells, column_of, rule_of, lowest_of, facts_at, facts_of, RuleCells}
 use Rattle.ts_core.specs.store.StoreData.{CellMap, StoreData, no_parts, rules_of, state_of, IsLive, AreLive, rule_cells}
-use Rattle.ts_core.proofs.aggregates.Folds.{fold-same}
 use Rattle.ts_core.proofs.facts.Latests.{latest-distinct}
 use Rattle.ts_core.proofs.plans.PieceCells.{same_cell-eq, same_cell-refl}
 use Rattle.std.proofs.lemmas.Bool.{and_parts}
-use Rattle.ts_core.proofs.lists.MembersLemmas.{no_members, Among-append, AllDistinct-append, AllDistinct-filter, Among-filter_was, Among-filter_passes, Among-filter_stays, map_back}
-use Rattle.ts_core.proofs.store.Cuts.{one_fact, aggregate_where, Holds, CutsAgree, Holds-agree, frozen_of-agree, live_of-held}
+use Rattle.ts_core.proofs.lists.MembersLemmas.{no_members, Among-append, AllDistinct-append, Among-filter_was, Among-filter_passes, Among-filter_stays, map_back}
+use Rattle.ts_core.proofs.store.Cuts.{aggregate_where, Holds, CutsAgree, Holds-agree, frozen_of-agree, live_of-held}
 use Rattle.ts_core.proofs.store.StateLemmas.{is_waiting-there, is_waiting-not, Holds-raw_of, StandsFor-Holds}
 use Rattle.ts_core.proofs.moves.MovesStand.{keys_once, key_there, rules_same}
 use Rattle.ts_core.proofs.store.ColumnFacts.{facts_of-there, column_there, facts_at-column, facts_at-distinct}
@@ -51,13 +49,6 @@ facts_once (c ∷ cs) d h =
 
 columns_same : (cs ds : List ColumnPoints) → SameMembers cs ds → SameMembers (map column_of cs) (map column_of ds)
 columns_same cs ds h c a = let s = map_back column_of cs c a in subst (λ x. Among x (map column_of ds)) s.2 (column_there ds s.0 (h s.0 s.1))
-
-total_same : (fs gs : List Fact) → AllDistinct fs → AllDistinct gs → SameMembers fs gs → SameMembers gs fs → (r : Rule) (k : Cell) → total_of r k fs ≡ total_of r k gs
-total_same fs gs d e h j r k =
-    fold-same aggregate_laws one_fact (filter (is_in_cell r k) fs) (filter (is_in_cell r k) gs)
-    (AllDistinct-filter (is_in_cell r k) fs d) (AllDistinct-filter (is_in_cell r k) gs e)
-    (λ f a. Among-filter_stays (is_in_cell r k) f gs (h f (Among-filter_was (is_in_cell r k) f fs a)) (Among-filter_passes (is_in_cell r k) f fs a))
-    (λ f a. Among-filter_stays (is_in_cell r k) f fs (j f (Among-filter_was (is_in_cell r k) f gs a)) (Among-filter_passes (is_in_cell r k) f gs a))
 
 -- ---- waiting columns in another order
 

@@ -1,6 +1,5 @@
 -- Slots of a filter over names.
-use Rattle.std.proofs.Common.{◌≡◌, ℕ, ℤ, zero, suc, ◌+◌, ◌<◌, Bool, true, false, List, [], ◌∷◌, ◌++◌, length, get_or, set, replicate, bytes_eq, None, refl, sym, ap, ◌∙◌, slice_index_or}
-use Rattle.std.proofs.lemmas.List.{get_or-set_same}
+use Rattle.std.proofs.Common.{◌≡◌, ℕ, ℤ, zero, suc, ◌+◌, ◌<◌, Bool, true, false, List, [], ◌∷◌, ◌++◌, get_or, set, replicate, bytes_eq, None, refl, sym, ap, ◌∙◌, slice_index_or}
 use Rattle.std.proofs.lemmas.Slice.Eq.{bytes_eq-Decides}
 use Rattle.ts_core.specs.facts.Facts.{Text}
 use Rattle.ts_line.specs.Parts.{LinePart}
@@ -50,13 +49,6 @@ pub none_set : (n i : ℕ) → get_or (replicate n false) i false ≡ false
 none_set zero i = refl
 none_set (suc n) zero = refl
 none_set (suc n) (suc i) = none_set n i
-
--- a slot that was set stays so
-pub slot_kept : (slots : List Bool) (slot : ℕ) (other : Text) → is_set slots other ≡ true → is_set (set slots slot true) other ≡ true
-slot_kept slots slot other h = kept slots slot (filter_slot other) h
-
-pub slot_set : (slots : List Bool) (name : Text) → filter_slot name < length slots → is_set (set slots (filter_slot name) true) name ≡ true
-slot_set slots name lt = get_or-set_same slots (filter_slot name) true false lt
 
 pub fields_kept : (slots slots' : List Bool) (fields : List (LinePart × ℤ)) → ((other : Text) → is_set slots other ≡ true → is_set slots' other ≡ true) → AreInFilter slots fields → AreInFilter slots' fields
 fields_kept slots slots' [] stays all = tt

@@ -2,7 +2,7 @@
 use Rattle.std.proofs.Common.{◌≡◌, ℕ, ◌+◌, ◌-◌, ◌<◌, ◌≤◌, Bool, true, false, cond, ◌&&◌, [], ◌∷◌, ◌++◌, length, get_or, drop, slice_range, bytes_eq, eqb, refl, sym, ap, ◌∙◌, arith, append_assoc, append-nil, length-drop, ⊎_elim}
 use Rattle.std.specs.List.{list_any}
 use Rattle.std.proofs.Math.Bool.{and-false}
-use Rattle.std.proofs.lemmas.Bool.{or_parts, and_parts, ne_eqb, cases_lt}
+use Rattle.std.proofs.lemmas.Bool.{or_parts, and_parts, cases_lt}
 use Rattle.std.proofs.lemmas.List.{at_drop_more, at_drop_all}
 use Rattle.std.proofs.lemmas.Bool.Decides.{nat_tests}
 use Rattle.ts_core.specs.facts.Facts.{Text}
@@ -80,29 +80,6 @@ text_some stops (b ∷ bs) some = unescaped_by stops b bs (is_backslash b && beg
 -- the texts of what is left of two parts
 abbrev pub same_from : Stops → Text → ℕ → Text → ℕ → Bool
 same_from stops xs i ys j = bytes_eq (unescaped stops (drop i xs)) (unescaped stops (drop j ys))
-
-pub left_passed : (stops : Stops) (xs ys : Text) (i j : ℕ) → i < length xs → is_escape_at stops xs i ≡ true → same_from stops xs (i + 1) ys j ≡ same_from stops xs i ys j
-left_passed stops xs ys i j lt e = ap (λ (t : Text). bytes_eq t (unescaped stops (drop j ys))) (sym (escape_passed stops xs i lt e))
-
-pub right_passed : (stops : Stops) (xs ys : Text) (i j : ℕ) → j < length ys → is_escape_at stops ys j ≡ true → same_from stops xs i ys (j + 1) ≡ same_from stops xs i ys j
-right_passed stops xs ys i j lt e = ap (λ (t : Text). bytes_eq (unescaped stops (drop i xs)) t) (sym (escape_passed stops ys j lt e))
-
-byte_first : (stops : Stops) (xs : Text) (i : ℕ) → i < length xs → is_escape_at stops xs i ≡ false → unescaped stops (drop i xs) ≡ get_or xs i 0 ∷ unescaped stops (drop (i + 1) xs)
-byte_first stops xs i lt e = unescaped_step stops xs i lt ∙ rw e refl
-
-two_bytes : (stops : Stops) (xs ys : Text) (i j : ℕ) → i < length xs → j < length ys → is_escape_at stops xs i ≡ false → is_escape_at stops ys j ≡ false
-    → same_from stops xs i ys j ≡ (eqb (get_or xs i 0) (get_or ys j 0) && same_from stops xs (i + 1) ys (j + 1))
-two_bytes stops xs ys i j lt lt' e e' = rw (byte_first stops xs i lt e, byte_first stops ys j lt' e') refl
-
-pub both_passed : (stops : Stops) (xs ys : Text) (i j : ℕ) → i < length xs → j < length ys → is_escape_at stops xs i ≡ false → is_escape_at stops ys j ≡ false
-    → get_or xs i 0 ≡ get_or ys j 0 → same_from stops xs (i + 1) ys (j + 1) ≡ same_from stops xs i ys j
-both_passed stops xs ys i j lt lt' e e' same =
-    let yes : eqb (get_or xs i 0) (get_or ys j 0) ≡ true = grind (arith, nat_tests) in
-    sym (two_bytes stops xs ys i j lt lt' e e' ∙ rw yes refl)
-
-pub bytes_differ : (stops : Stops) (xs ys : Text) (i j : ℕ) → i < length xs → j < length ys → is_escape_at stops xs i ≡ false → is_escape_at stops ys j ≡ false
-    → (get_or xs i 0 ≡ get_or ys j 0 → ⊥) → same_from stops xs i ys j ≡ false
-bytes_differ stops xs ys i j lt lt' e e' other = two_bytes stops xs ys i j lt lt' e e' ∙ rw (ne_eqb _ _ other) refl
 
 none_and_some : (xs ys : Text) → xs ≡ [] → 1 ≤ length ys → (bytes_eq xs ys ≡ false) × (bytes_eq ys xs ≡ false)
 none_and_some xs [] e some = absurd (omega arith)

@@ -3,7 +3,7 @@ use Rattle.std.proofs.Common.{◌≡◌, ℕ, ◌+◌, ◌-◌, ◌*◌, ◌^◌
 use Rattle.std.specs.Char.{is_ascii_digit, digit_value}
 use Rattle.std.specs.List.{list_all}
 use Rattle.std.specs.Str.Parse.{digits_value, signed_digits_value}
-use Rattle.std.proofs.lemmas.Bool.{and_parts, and_from, cond-true}
+use Rattle.std.proofs.lemmas.Bool.{and_parts, and_from}
 use Rattle.std.proofs.lemmas.Bool.Decides.{nat_tests}
 use Rattle.std.proofs.lemmas.Int.{ints, to_z-of_z}
 use Rattle.std.proofs.lemmas.Int.Digits.{digits_value-lt, digits_value_push}
@@ -12,9 +12,9 @@ use Rattle.std.proofs.lemmas.List.Folds.{list_all-append}
 use Rattle.std.proofs.Math.Nat.{pow-le-pow_right}
 use Rattle.ts_core.specs.facts.Facts.{Text}
 use Rattle.ts_line.specs.declared.scan.Stops.TheVariants.{Plain}
-use Rattle.ts_core.specs.text.Numbers.{is_number, are_digits, is_from_to, whole_of}
+use Rattle.ts_core.specs.text.Numbers.{is_number, are_digits}
 use Rattle.ts_line.specs.Values.{value_begun_at, is_value_end}
-use Rattle.ts_core.proofs.text.NumberLemmas.{all_digits, digit_not_plus, fits_within}
+use Rattle.ts_core.proofs.text.NumberLemmas.{all_digits, digit_not_plus}
 use Rattle.ts_core.proofs.lists.ListSteps.{slice_step}
 use Rattle.ts_line.proofs.Suffixes.{At, is_end}
 use Rattle.ts_line.proofs.FieldsSpelled.{value_read}
@@ -82,9 +82,6 @@ digits_signed (c ∷ cs) e =
     let p = and_parts (is_ascii_digit c) (list_all is_ascii_digit cs) e in
     rw (digit_not_minus c p.0, digit_not_plus c p.0) refl
 
-minus_signed : (ds : Text) → signed_digits_value 10 (45 ∷ ds) ≡ neg_ℤ (pos (digits_value 10 ds))
-minus_signed ds = refl
-
 fits_plain : (n : ℕ) → n < 9223372036854775808 → FitsSigned w64 (pos n)
 fits_plain n lt = grind (arith, ints)
 
@@ -142,16 +139,6 @@ plain_number line start end some last digits =
     let le : start ≤ end = omega arith in
     let len : start + length (slice_range line start end) ≡ end = slice_len_is line start end le (omega arith) in
     ap (λ n. is_number (slice_range line start n)) (sym last) ∙ digits_number (slice_range line start end) (omega (arith, len)) digits
-
-pub plain_whole : (line : Text) (start end : ℕ) → end ≡ length line → list_all is_ascii_digit (slice_range line start end) ≡ true
-    → digits_value 10 (slice_range line start end) < 9223372036854775808 → Some (pos (digits_value 10 (slice_range line start end))) ≡ whole_of (slice_range line start (length line))
-plain_whole line start end last digits short =
-    let ds = slice_range line start end in
-    let signed : signed_digits_value 10 ds ≡ pos (digits_value 10 ds) = digits_signed ds digits in
-    let fits : FitsSigned w64 (signed_digits_value 10 ds) = rw signed (fits_plain (digits_value 10 ds) short) in
-    ap (λ (n : ℤ). Some n) (sym signed)
-    ∙ sym (cond-true (is_from_to (neg_ℤ (pos 9223372036854775808)) (pos 9223372036854775807) (signed_digits_value 10 ds)) (Some (signed_digits_value 10 ds)) None (fits_within (signed_digits_value 10 ds) fits))
-    ∙ ap (λ n. whole_of (slice_range line start n)) last
 
 pub if_some : {X : Type 0} {P : Type 0} (o : Option X) → P → IfSome o (λ _. P)
 if_some None p = tt

@@ -96,9 +96,6 @@ scan_more t n r p (Some u) old ss new s g c m nx e k =
 pub scan_stop : (t : QueryContext) (n : ℕ) (r : MarkedRule) (p : ℤ) (old new : List Step) → t.mark ≤ℤ p → Scanned t n r (Some p) old new → Adds t n old new
 scan_stop t n r p old new m k = record { sound = k.sound; complete = λ x i y. let b = i.below in k.complete x i y (omega (arith, ints)); before = k.before }
 
-pub scan_end : (t : QueryContext) (n : ℕ) (r : MarkedRule) (old new : List Step) → Scanned t n r None old new → Adds t n old new
-scan_end t n r old new k = record { sound = k.sound; complete = k.complete; before = k.before }
-
 scan_start : (t : QueryContext) (n : ℕ) (r : MarkedRule) (next : Option ℤ) (ss : List Step) → slice_get t.rules n ≡ Some r → IsPlannable t
     → IsFirstStart r.rule t.query.from t.query.to next
     → Scanned t n r next ss ss
@@ -138,14 +135,6 @@ adds_none t n r ss g w = record {
   before = λ x h. h;
 }
 
--- nor has a number without a rule
-pub adds_past : (t : QueryContext) (n : ℕ) (ss : List Step) → slice_get t.rules n ≡ None → Adds t n ss ss
-adds_past t n ss g = record {
-  sound = λ a. a;
-  complete = λ x i e. absurd (let q : Some i.rule ≡ None = sym i.there ∙ ap (slice_get t.rules) e ∙ g in cc);
-  before = λ x h. h;
-}
-
 -- the steps of the rules before n are in, and steps alone
 pub record AllUpTo (t : QueryContext) (n : ℕ) (ss : List Step) : Type 0 where
   pub sound : AllByRecursion (IsStep t) ss
@@ -153,9 +142,6 @@ pub record AllUpTo (t : QueryContext) (n : ℕ) (ss : List Step) : Type 0 where
 
 by_next : {P : Type 0} (k n : ℕ) → k < n + 1 → (k < n → P) → (k ≡ n → P) → P
 by_next k n l f g = by_lt_z (pos k) (pos n) (λ a. f (omega (arith, ints))) (λ a. g (omega (arith, ints)))
-
-pub up_start : (t : QueryContext) → AllUpTo t 0 []
-up_start t = record { sound = tt; complete = λ x i l. absurd (omega arith) }
 
 pub up_more : (t : QueryContext) (n : ℕ) (old new : List Step) → AllUpTo t n old → Adds t n old new → AllUpTo t (n + 1) new
 up_more t n old new u a = record {

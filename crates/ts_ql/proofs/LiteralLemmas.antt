@@ -140,10 +140,3 @@ alike text other =
     same_from_decides (bytes_eq (encode_utf8_all cs) (encode_utf8_all ds)) (bytes_eq cs ds)
     (Decides-like (bytes_eq (encode_utf8_all cs) (encode_utf8_all ds)) (encodes_same cs ds) (ap encode_utf8_all) (bytes_eq-Decides (encode_utf8_all cs) (encode_utf8_all ds)))
     (bytes_eq-Decides cs ds)
-
--- one more equal character
-pub alike_more : (cs ds xs ys : List ℕ) (c d : ℕ) → cs ≡ c ∷ xs → ds ≡ d ∷ ys → d ≡ c → bytes_eq cs ds ≡ bytes_eq xs ys
-alike_more cs ds xs ys c d e f same = rw (e, f, same, eq-eqb c c refl) refl
-
-pub alike_not : (cs ds xs ys : List ℕ) (c d : ℕ) → cs ≡ c ∷ xs → ds ≡ d ∷ ys → (d ≡ c → ⊥) → bytes_eq cs ds ≡ false
-alike_not cs ds xs ys c d e f other = rw (e, f, ne_eqb c d (λ same. other (sym same))) refl

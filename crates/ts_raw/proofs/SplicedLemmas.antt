@@ -6,7 +6,7 @@ use Rattle.ts_core.proofs.aggregates.Folds.{fold-middle}
 use Rattle.ts_core.proofs.aggregates.AggregatesLemmas.{count_of_fold}
 use Rattle.std.proofs.Math.ListN.{drop_of_length-le}
 use Rattle.std.specs.FinMap.{put}
-use Rattle.std.proofs.Common.{int_cmp, append-nil, length-drop, get_or}
+use Rattle.std.proofs.Common.{int_cmp, append-nil, get_or}
 use Rattle.std.proofs.lemmas.List.{take-append-drop, length-take-le}
 use Rattle.ts_block.specs.Blocks.{ArePoints}
 use Rattle.ts_block.specs.Appending.{last_time}
@@ -65,22 +65,6 @@ last_of_encoded bytes m ps h = h.handle.last_is ∙ ap last_time h.points_are
 module _ {from : ℕ} (bytes : List ℕ) (m n : BlockHandle) (points : List (ℤ × ℤ)) (h : AreHalves from bytes m n points) (t v : ℤ) where
   pub second_last : n.last ≡ last_time points
   second_last = last_of_encoded bytes n (drop h.half points) h.second_is ∙ last_after_drop h.half points h.less
-
-  pub first_few : m.count < 256
-  first_few =
-      let a = h.first_is.handle.count_is in
-      let b = ap length h.first_is.points_are in
-      let c = length-take-le h.half points (let l = h.less in omega arith) in
-      let d = h.less in let e = h.few in
-      omega arith
-
-  pub second_few : n.count < 256
-  second_few =
-      let a = h.second_is.handle.count_is in
-      let b = ap length h.second_is.points_are in
-      let c = length-drop h.half points in
-      let d = h.some in let e = h.few in let f = h.less in
-      omega arith
 
   module _ (new : List ℕ) (front : take (length bytes) new ≡ bytes) (k : BlockHandle) where
     -- the new block is behind both halves

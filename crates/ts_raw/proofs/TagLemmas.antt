@@ -1,5 +1,5 @@
 -- Series by their tags: a walk along the chain of a hash, and one more series.
-use Rattle.std.proofs.Common.{◌≡◌, ℕ, zero, suc, ◌+◌, ◌<◌, nat_lt, nat_eq, true, false, cond, List, [], ◌∷◌, ◌++◌, length, get_or, Option, Some, None, unwrap_or, refl, sym, ◌∙◌, ap, subst, inl, inr, ⊎_elim, arith, eq-eqb, length-append, lt-ltb, eqb-true, ltb-true, ◌⊎◌, Result, Ok, Err, IfOk}
+use Rattle.std.proofs.Common.{◌≡◌, ℕ, zero, suc, ◌+◌, ◌<◌, nat_lt, nat_eq, true, false, cond, List, [], ◌∷◌, ◌++◌, length, get_or, Option, Some, None, unwrap_or, refl, sym, ◌∙◌, ap, subst, inl, inr, ⊎_elim, arith, eq-eqb, lt-ltb, eqb-true, ltb-true, ◌⊎◌, Result, Ok, Err, IfOk}
 use Rattle.std.proofs.lemmas.Option.{slice_get-get_or, same_Some}
 use Rattle.std.specs.declared.hash.RandomState.{RandomState}
 use Rattle.ts_core.specs.lists.Members.{Among}
@@ -105,14 +105,6 @@ module _ (newest newest' : List (ℕ × ℕ)) (links : List TagLink) (hash serie
 
   at_end : get_or more (length links) no_link ≡ record { series = series; older = older; count = count }
   at_end = get_or_end links (record { series = series; older = older; count = count }) no_link
-
-  pub pushed_within : AreHeadsWithin (record { newest = newest'; links = more })
-  pushed_within q i e =
-      let longer : length more ≡ length links + 1 = length-append links (record { series = series; older = older; count = count } ∷ []) in
-      elim (nat_eq hash q) as (λ v. cond v (Some (length links)) (head_of newest q) ≡ Some i → i < length more) [
-        | true ↦ λ s. let same = same_Some (length links) i s in omega (arith, longer, same)
-        | false ↦ λ s. let below : i < length links = heads q i s in omega (arith, longer, below)
-      ] (sym (moved q) ∙ e)
 
   pub pushed_leads : LeadsTo (record { newest = newest'; links = more }) hash series
   unfolding Leads

@@ -6,7 +6,7 @@ use Rattle.ts_core.specs.facts.Facts.{Text, Series}
 use Rattle.ts_core.specs.lists.Numbered.{IsAt}
 use Rattle.ts_core.proofs.lists.MembersLemmas.{Among-append}
 use Rattle.ts_core.proofs.lists.NumberedLemmas.{at_within, same_place}
-use Rattle.ts_raw.specs.Tagged.{IsTaggedAt, AreTaggedAt}
+use Rattle.ts_raw.specs.Tagged.{IsTaggedAt}
 use Rattle.ts_raw.proofs.TagLemmas.{among_end, among_before}
 
 -- one index is of the numbers
@@ -18,12 +18,6 @@ module _ (series : List Series) (columns : List (ℕ × ℕ)) (field : ℕ) (tag
   pub record IsTaggedSoFar (found left : List ℕ) : Type 0 where
     pub sound : (n : ℕ) → Among n found → (k : ℕ) × Among k numbers × IsTaggedAt series columns field tag value k n
     pub complete : (k n : ℕ) → Among k numbers → IsTaggedAt series columns field tag value k n → Among n found ⊎ Among k left
-
-  pub tagged_start : IsTaggedSoFar [] numbers
-  tagged_start = record { sound = λ n a. absurd a; complete = λ k n a t. inr a }
-
-  pub tagged_end : (found : List ℕ) → IsTaggedSoFar found [] → AreTaggedAt series columns field tag value numbers found
-  tagged_end found s = record { sound = s.sound; complete = λ k n a t. ⊎_elim {C = Among n found} (λ h. h) (λ e. absurd e) (s.complete k n a t) }
 
   pub tagged_none : (found left : List ℕ) (k : ℕ) → IsTaggedSoFar found (k ∷ left) → ((n : ℕ) → IsTaggedAt series columns field tag value k n → ⊥) → IsTaggedSoFar found left
   tagged_none found left k s none = record {

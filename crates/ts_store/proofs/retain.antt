@@ -14,4 +14,3 @@ pub mod Refolds
 pub mod BucketsMoved
 pub mod MarkReached
 -- Freezing: times within bounds
-pub mod TimeBounds

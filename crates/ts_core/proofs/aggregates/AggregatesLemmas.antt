@@ -135,14 +135,6 @@ reaches key k [] h = absurd h
 reaches {X} {K} key k (x ∷ xs) h =
     ⊎_elim {C = Reaches key k (x ∷ xs)} (λ e. (x, (inl refl, e))) (λ t. let r = reaches key k xs t in (r.0, (inr r.1.0, r.1.1))) h
 
-min_upto : (ps : List (ℤ × ℤ)) (d e : Extremes) → AreExtremesOf ps d → AreExtremesOf ps e → d.min ≤ℤ e.min
-unfolding Reaches
-min_upto ps d e f g = let r = reaches value_of e.min ps g.reached.min in subst (λ z. d.min ≤ℤ z) (sym r.1.1) (f.within r.0 r.1.0).min
-
-max_from : (ps : List (ℤ × ℤ)) (d e : Extremes) → AreExtremesOf ps d → AreExtremesOf ps e → e.max ≤ℤ d.max
-unfolding Reaches
-max_from ps d e f g = let r = reaches value_of e.max ps g.reached.max in subst (λ z. z ≤ℤ d.max) (sym r.1.1) (f.within r.0 r.1.0).max
-
 -- neither of two points comes before the other
 one_point : (B : ℤ → ℤ → Type 0) → ((s t : ℤ) → B s t → B t s → ⊥) → (p q : ℤ × ℤ) → B p.0 q.0 ⊎ ((p.0 ≡ q.0) × (q.1 ≤ℤ p.1)) → B q.0 p.0 ⊎ ((q.0 ≡ p.0) × (p.1 ≤ℤ q.1)) → p ≡ q
 one_point B never p q (inl h) (inl k) = absurd (never p.0 q.0 h k)
@@ -153,29 +145,3 @@ one_point B never p q (inr h) (inr k) =
     let b = k.1 in
     let e : p.1 ≡ q.1 = omega (arith, ints) in
     λ i. (h.0 i, e i)
-
-only_extremes : (ps : List (ℤ × ℤ)) (d e : Extremes) → AreExtremesOf ps d → AreExtremesOf ps e → d ≡ e
-only_extremes ps d e f g =
-    let a = min_upto ps d e f g in
-    let b = min_upto ps e d g f in
-    let h = max_from ps d e f g in
-    let k = max_from ps e d g f in
-    let min : d.min ≡ e.min = omega (arith, ints) in
-    let max : d.max ≡ e.max = omega (arith, ints) in
-    let first : d.first ≡ e.first = one_point (λ s t. s <ℤ t) (λ s t h k. omega (arith, ints)) d.first e.first (f.within e.first g.reached.first).first (g.within d.first f.reached.first).first in
-    let last : d.last ≡ e.last = one_point (λ s t. t <ℤ s) (λ s t h k. omega (arith, ints)) d.last e.last (f.within e.last g.reached.last).last (g.within d.last f.reached.last).last in
-    λ i. record { min = min i; max = max i; first = first i; last = last i }
-
-only_options : (ps : List (ℤ × ℤ)) (d e : Option Extremes) → MatchOption d (ps ≡ []) (AreExtremesOf ps) → MatchOption e (ps ≡ []) (AreExtremesOf ps) → d ≡ e
-only_options ps None None f g = refl
-only_options ps None (Some e) f g = absurd (subst (Among e.first) f g.reached.first)
-only_options ps (Some d) None f g = absurd (subst (Among d.first) g f.reached.first)
-only_options ps (Some d) (Some e) f g = ap Some (only_extremes ps d e f g)
-
--- only one aggregate is that of some points
-pub only_aggregate : (ps : List (ℤ × ℤ)) (a b : Aggregate) → IsAggregateOfPoints ps a → IsAggregateOfPoints ps b → a ≡ b
-only_aggregate ps a b f g =
-    let p = f.count ∙ sym g.count in
-    let q = f.sum ∙ sym g.sum in
-    let r = only_options ps a.extremes b.extremes f.extremes g.extremes in
-    λ i. record { count = p i; sum = q i; extremes = r i }

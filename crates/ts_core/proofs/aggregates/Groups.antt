@@ -1,8 +1,8 @@
 -- Folds by groups: together they are the fold of all.
-use Rattle.std.proofs.Common.{◌≡◌, ℕ, ℤ, suc, Bool, true, false, not, List, [], ◌∷◌, length, filter, refl, sym, ◌∙◌, ap, ap₂, subst, inl, inr, ⊎_elim, true≢false, arith}
+use Rattle.std.proofs.Common.{◌≡◌, ℕ, ℤ, Bool, true, false, not, List, [], ◌∷◌, filter, refl, sym, ◌∙◌, ap, ap₂, subst, inl, inr, ⊎_elim, true≢false}
 use Rattle.ts_core.specs.lists.Members.{Among, AllDistinct}
 use Rattle.ts_core.specs.aggregates.Partials.{PartialLaws, fold_by}
-use Rattle.ts_core.proofs.aggregates.Folds.{fold-split, fold-count}
+use Rattle.ts_core.proofs.aggregates.Folds.{fold-split}
 use Rattle.ts_core.proofs.lists.MembersLemmas.{Among-filter_passes, Among-filter_was, filter-filter, no_members}
 
 module _ {M : Type 0} {empty : M} {single : ℤ → ℤ → M} {merge : M → M → M} {count : M → ℕ} (laws : PartialLaws empty single merge count) {X K : Type 0} (one : X → M)
@@ -41,8 +41,3 @@ module _ {M : Type 0} {empty : M} {single : ℤ → ℤ → M} {merge : M → M 
         | false ↦ λ t. refl
       ] refl) xs in
       fold-split laws one (λ x. same (key x) k) xs ∙ ap (merge (total (of_group xs k))) (fold-groups ks d.1 rest inside ∙ groups_same rest xs ks alike)
-
-  -- a group whose fold is empty has no members
-  pub empty-no_members : ((x : X) → count (one x) ≡ 1) → (xs : List X) → total xs ≡ empty → xs ≡ []
-  empty-no_members c [] e = refl
-  empty-no_members c (x ∷ xs) e = absurd (let n : suc (length xs) ≡ 0 = sym (fold-count laws one c (x ∷ xs)) ∙ ap count e ∙ laws.count_empty in omega arith)

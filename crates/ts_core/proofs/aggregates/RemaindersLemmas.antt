@@ -1,5 +1,5 @@
 -- The rest of an aggregate, if it is determined: the aggregate of the other points.
-use Rattle.std.proofs.Common.{◌≡◌, ℕ, ◌+◌, ◌-◌, ◌<◌, ℤ, ◌+ℤ◌, ◌-ℤ◌, ◌<ℤ◌, Bool, not, List, [], ◌∷◌, filter, refl, sym, ◌∙◌, ap, subst, arith, Option, Some, None, MatchOption, IsSome, IfSome, ⊎_elim, Ordering, Less, int_cmp}
+use Rattle.std.proofs.Common.{◌≡◌, ℕ, ◌+◌, ◌-◌, ◌<◌, ℤ, ◌+ℤ◌, ◌-ℤ◌, ◌<ℤ◌, List, [], ◌∷◌, refl, sym, ◌∙◌, ap, subst, arith, Option, Some, None, MatchOption, IsSome, IfSome, ⊎_elim, Ordering, Less, int_cmp}
 use Rattle.std.specs.Cmp.{IsTotalOrder, int_cmp_total, int_cmp_is}
 use Rattle.std.proofs.lemmas.Int.{ints}
 use Rattle.std.proofs.lemmas.Map.Lookups.{CmpEqualImpliesEq, exact_signed}
@@ -11,18 +11,8 @@ use Rattle.ts_core.specs.aggregates.Aggregates.{Aggregate, empty_aggregate, extr
 use Rattle.ts_core.specs.aggregates.MergeLaws.{aggregate_laws}
 use Rattle.ts_core.specs.aggregates.SoundLaws.{empty_by_count}
 use Rattle.ts_core.specs.aggregates.Remainders.{IsOnlyRest, PossibleLaws, AreBeyond, BothAreBeyond, inner_rest, LiesInside}
-use Rattle.ts_core.proofs.aggregates.Folds.{fold-split}
 
 -- ---- nothing is taken out, or all
-
-pub IsOnlyRest-nothing : (whole part : Aggregate) → IsSound whole → IsSound part → part.count ≡ 0 → IsOnlyRest IsSound merged whole part whole
-IsOnlyRest-nothing whole part s t e =
-    let n : part ≡ empty_aggregate = empty_by_count part t e in
-    record {
-      possible = s;
-      gives = ap (λ x. merged x whole) n ∙ aggregate_laws.unit whole;
-      only = λ other _ g. sym (aggregate_laws.unit other) ∙ ap (λ x. merged x other) (sym n) ∙ g;
-    }
 
 pub IsOnlyRest-all : (whole part : Aggregate) → part ≡ whole → IsOnlyRest IsSound merged whole part empty_aggregate
 IsOnlyRest-all whole part e = record {
@@ -104,11 +94,6 @@ module _ {M : Type 0} {IsPossible : M → Type 0} {empty : M} {single : ℤ → 
   pub fold-possible : (xs : List X) → IsPossible (fold_by empty merge (λ x. single (time x) (value x)) xs)
   fold-possible [] = possible.of_none
   fold-possible (x ∷ xs) = possible.of_both _ _ (possible.of_one (time x) (value x)) (fold-possible xs)
-
-  pub rest-is_fold : (p : X → Bool) (xs : List X) (rest : M)
-      → IsOnlyRest IsPossible merge (fold_by empty merge (λ x. single (time x) (value x)) xs) (fold_by empty merge (λ x. single (time x) (value x)) (filter p xs)) rest
-      → rest ≡ fold_by empty merge (λ x. single (time x) (value x)) (filter (λ x. not (p x)) xs)
-  rest-is_fold p xs rest h = sym (h.only _ (fold-possible (filter (λ x. not (p x)) xs)) (sym (fold-split laws (λ x. single (time x) (value x)) p xs)))
 
 -- ---- at the names of a function's steps
 

@@ -4,7 +4,7 @@ use Rattle.std.specs.Ordering.{int_cmp}
 use Rattle.std.specs.Cmp.{IsTotalOrder, int_cmp_total}
 use Rattle.std.specs.FinMap.{slice_cmp-IsAntisymmetric}
 use Rattle.std.specs.Cmp.Lexicographic.{slice_cmp}
-use Rattle.std.proofs.lemmas.Cmp.{on_total, then_total, lists_total, nat_list_cmp_total, tied_itself, eq_by_cmp_equiv}
+use Rattle.std.proofs.lemmas.Cmp.{on_total, then_total, lists_total, nat_list_cmp_total, tied_itself}
 use Rattle.std.proofs.lemmas.Map.Lookups.{CmpEqualImpliesEq, exact_pairs, exact_bytes, exact_signed}
 use Rattle.std.proofs.lemmas.Map.Text.{is_eq-slice_cmp}
 use Rattle.ts_core.specs.facts.Facts.{Text, text_cmp, same_text, Series, Column, Id, tag_cmp, series_cmp, column_cmp, id_cmp, same_id}
@@ -47,9 +47,6 @@ same_id-eq i j h = exact_ids i j (equal_of (id_cmp i j) h)
 
 pub same_id-refl : (i : Id) → same_id i i ≡ true
 same_id-refl i = ap is_eq (tied_itself ids_total i)
-
-pub same_id-comm : (i j : Id) → same_id i j ≡ same_id j i
-same_id-comm i j = (eq_by_cmp_equiv ids_total).symm i j
 
 pub other_id : (i j : Id) → i ≢ j → same_id i j ≡ false
 other_id i j n = elim (same_id i j) as (λ b. same_id i j ≡ b → b ≡ false) [ true ↦ λ e. absurd (n (same_id-eq i j e)) | false ↦ λ e. refl ] refl

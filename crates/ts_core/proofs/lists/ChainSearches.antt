@@ -1,7 +1,7 @@
 -- Search along the chain of a hash, from the newest index to the oldest.
 use Rattle.std.proofs.Common.{◌≡◌, ℕ, ◌+◌, ◌<◌, ◌≤◌, false, nat_eq, List, length, get_or, Option, Some, None, refl, sym, ◌∙◌, ap, subst, ⊎_elim, arith, true≢false, eq-eqb, eqb-true}
 use Rattle.std.proofs.lemmas.Bool.{cases_lt, cases_order}
-use Rattle.std.proofs.lemmas.Option.{slice_get-get_or, slice_get_within, get_or_from_slice_get}
+use Rattle.std.proofs.lemmas.Option.{slice_get-get_or, get_or_from_slice_get}
 use Rattle.ts_core.specs.lists.LastBelow.{newest_of}
 use Rattle.ts_core.specs.lists.Numbered.{IsAt}
 use Rattle.ts_core.proofs.lists.LastBelows.{last_below-some, last_below-none, last_below-gap}
@@ -27,8 +27,6 @@ module _ (hashes : List ℕ) (hash : ℕ) where
   other_hash i apart e = true≢false (sym (eq-eqb (get_or hashes i 0) hash e) ∙ apart)
 
   module _ (IsRejected : ℕ → Type 0) where
-    pub search_begins : IsSearched hashes hash IsRejected (newest_of hashes hash (length hashes))
-    search_begins = record { below = length hashes; within = omega arith; next_is = refl; rejected = λ i l h. absurd (let k = slice_get_within hashes i hash h in omega (arith, l, k)) }
 
     -- the next index has the hash
     pub search_at : (i : ℕ) → IsSearched hashes hash IsRejected (Some i) → IsAt hashes i hash

@@ -1,17 +1,14 @@
 -- Names with their hashes: the result of a search, and one more name.
 use Rattle.std.proofs.Common.{◌≡◌, ℕ, ◌<◌, List, [], ◌∷◌, ◌++◌, length, get_or, Option, Some, None, IfNone, sym, ◌∙◌, ap, subst, refl}
-use Rattle.std.proofs.lemmas.List.{length-map, map-append}
+use Rattle.std.proofs.lemmas.List.{map-append}
 use Rattle.std.proofs.lemmas.Option.{slice_get_read}
 use Rattle.ts_core.specs.lists.Members.{Among}
 use Rattle.ts_core.specs.lists.Numbered.{IsAt}
 use Rattle.ts_core.specs.lists.Tables.{IsTable}
 use Rattle.ts_core.proofs.lists.MembersLemmas.{at_map_of}
-use Rattle.ts_core.proofs.lists.NumberedLemmas.{at_within, among_at, once_more}
+use Rattle.ts_core.proofs.lists.NumberedLemmas.{among_at, once_more}
 
 module _ {X : Type 0} (hash_of : X → ℕ) (names : List X) (hashes : List ℕ) (table : IsTable hash_of names hashes) where
-  -- an index of a hash is one of a name
-  pub hashed_within : (n hash : ℕ) → IsAt hashes n hash → n < length names
-  hashed_within n hash at = subst (λ k. n < k) (ap length table.hashed ∙ length-map names hash_of) (at_within hashes n hash at)
 
   -- a name isn't there if none was found and each with its hash was rejected, as those that have another name are
   pub sought_in_vain : {Y : Type 0} {IsRejected : ℕ → Type 0} (name : X) (hash : ℕ) (found : Option Y) → hash ≡ hash_of name

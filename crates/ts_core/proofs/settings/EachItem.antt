@@ -25,9 +25,6 @@ more before x (Some xs) = ap Some (sym (append_assoc before (x ∷ []) xs))
 first_read : {X : Type 0} (f : Data → Option X) (before : List X) (d : Data) (ds : Items) (x : X) → f d ≡ Some x → behind before (each f (item d ds)) ≡ behind (before ++ x ∷ []) (each f ds)
 first_read f before d ds x is = rw is (more before x (each f ds))
 
-first_refused : {X : Type 0} (f : Data → Option X) (before : List X) (d : Data) (ds : Items) → f d ≡ None → behind before (each f (item d ds)) ≡ None
-first_refused f before d ds is = rw is refl
-
 -- a value of a list more
 pub read_more : {X : Type 0} (f : Data → Option X) (before : List X) (vs : List Value) (at : ℕ) (v : Value) (x : X) → at < length vs → get_or vs at v ≡ v → f (view v) ≡ Some x
     → behind before (each f (items_view (drop at vs))) ≡ behind (before ++ x ∷ []) (each f (items_view (drop (at + 1) vs)))
@@ -35,13 +32,6 @@ read_more f before vs at v x lt is read =
     at_drop_more (λ (ws : List Value). behind before (each f (items_view ws))) vs at v lt
     ∙ ap (λ (w : Value). behind before (each f (item (view w) (items_view (drop (at + 1) vs))))) is
     ∙ first_read f before (view v) (items_view (drop (at + 1) vs)) x read
-
-pub read_none : {X : Type 0} (f : Data → Option X) (before : List X) (vs : List Value) (at : ℕ) (v : Value) → at < length vs → get_or vs at v ≡ v → f (view v) ≡ None
-    → behind before (each f (items_view (drop at vs))) ≡ None
-read_none f before vs at v lt is refused =
-    at_drop_more (λ (ws : List Value). behind before (each f (items_view ws))) vs at v lt
-    ∙ ap (λ (w : Value). behind before (each f (item (view w) (items_view (drop (at + 1) vs))))) is
-    ∙ first_refused f before (view v) (items_view (drop (at + 1) vs)) refused
 
 pub counts_members : (ms : List (String Global × Value)) → length ms ≡ members_count (members_view ms)
 counts_members [] = refl

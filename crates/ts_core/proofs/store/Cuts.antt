@@ -101,27 +101,9 @@ part_frozen true false true h = absurd (true≢false (sym (h refl)))
 part_frozen true false false h = tt
 part_frozen false b c h = tt
 
-part_live : (a b c : Bool) → (c ≡ true → b ≡ true) → Part (a && (b && not c)) (a && c) (a && b)
-part_live true true true h = tt
-part_live true true false h = tt
-part_live true false true h = absurd (true≢false (sym (h refl)))
-part_live true false false h = tt
-part_live false b c h = tt
-
 -- a cut that rises: the frozen part gains what the live part loses
 pub frozen_of-gains : (cut next : Column → ℤ) → CutRises cut next → (r : Rule) (k : Cell) (fs : List Fact) → frozen_of next r k fs ≡ merged (frozen_of cut r k fs) (passed_of cut next r k fs)
 frozen_of-gains cut next h r k fs = aggregate_where-part _ _ _ (λ f. part_frozen (is_in_cell r k f) (is_kept cut f) (is_kept next f) (h f)) fs
-
-pub live_of-loses : (cut next : Column → ℤ) → CutRises cut next → (r : Rule) (k : Cell) (fs : List Fact) → live_of cut r k fs ≡ merged (passed_of cut next r k fs) (live_of next r k fs)
-live_of-loses cut next h r k fs = aggregate_where-part _ _ _ (λ f. part_live (is_in_cell r k f) (is_kept cut f) (is_kept next f) (h f)) fs
-
--- a cell through which nothing passes keeps both parts
-pub frozen_of-untouched : (cut next : Column → ℤ) → CutRises cut next → (r : Rule) (k : Cell) (fs : List Fact) → passed_of cut next r k fs ≡ empty_aggregate → frozen_of next r k fs ≡ frozen_of cut r k fs
-frozen_of-untouched cut next h r k fs e =
-    frozen_of-gains cut next h r k fs ∙ ap (merged (frozen_of cut r k fs)) e ∙ aggregate_laws.comm (frozen_of cut r k fs) empty_aggregate ∙ aggregate_laws.unit (frozen_of cut r k fs)
-
-pub live_of-untouched : (cut next : Column → ℤ) → CutRises cut next → (r : Rule) (k : Cell) (fs : List Fact) → passed_of cut next r k fs ≡ empty_aggregate → live_of next r k fs ≡ live_of cut r k fs
-live_of-untouched cut next h r k fs e = sym (live_of-loses cut next h r k fs ∙ ap (λ a. merged a (live_of next r k fs)) e ∙ aggregate_laws.unit (live_of next r k fs))
 
 -- ---- the facts that are kept from a cut on
 

@@ -192,9 +192,3 @@ expire_stands opening h s after st t =
 
 pub close_stands : (opening : Settings) (h : History) (s : StoreState) → StandsFor opening h s → s.waiting ≡ [] → StandsFor opening (Step true ∷ h) (closed s)
 close_stands opening h s st e = step_stands opening h s true false s.rules st (λ k. absurd (true≢false (sym k)), λ k. absurd k) (λ k. e) st.rules st.lows st.rolled
-
--- a step where no run is open changes nothing
-pub idle_step_stands : (opening : Settings) (h : History) (s : StoreState) → StandsFor opening h s → s.running ≡ false → StandsFor opening (Step true ∷ h) s
-idle_step_stands opening h s st e =
-    let idle : IsRunOpen h → ⊥ = λ o. true≢false (sym (st.running.1 o) ∙ e) in
-    subst (StandsFor opening (Step true ∷ h)) (λ i. record s { running = sym e i }) (close_stands opening h s st (st.idle idle))

@@ -1,19 +1,19 @@
 -- The effect of an accepted fact: on the points of one column, and on the live part of one cell of each rule.
-use Rattle.std.proofs.Common.{◌≡◌, ℤ, Bool, true, false, cond, not, ◌&&◌, List, [], ◌∷◌, filter, map, refl, sym, ◌∙◌, ap, ap₂, subst, inl, inr, ◌⊎◌, ⊎_elim, true≢false, int_le, ◌≤ℤ◌, None, length, ◌+◌, add-one}
+use Rattle.std.proofs.Common.{◌≡◌, ℤ, Bool, true, false, cond, not, ◌&&◌, List, [], ◌∷◌, filter, map, refl, sym, ◌∙◌, ap, ap₂, subst, inl, inr, ◌⊎◌, ⊎_elim, true≢false, int_le, ◌≤ℤ◌, length, ◌+◌, add-one}
 use Rattle.std.specs.List.{AllZip}
 use Rattle.ts_core.specs.lists.Members.{Among}
 use Rattle.ts_core.specs.facts.Facts.{Series, Column, Fact, Id, id_of, same_id}
 use Rattle.ts_core.specs.settings.Settings.{Rule, Settings}
 use Rattle.ts_core.specs.store.History.{History, Line, accepted, IsLawful}
-use Rattle.ts_core.specs.facts.Latest.{others, latest, value_at}
-use Rattle.ts_core.specs.aggregates.Aggregates.{merged, aggregate_of}
+use Rattle.ts_core.specs.facts.Latest.{others, latest}
+use Rattle.ts_core.specs.aggregates.Aggregates.{aggregate_of}
 use Rattle.ts_core.specs.store.RawFacts.{kept_from, is_kept}
-use Rattle.ts_core.specs.store.Cells.{Cell, cell_of, is_rolled, is_in_cell, total_of, frozen_of, live_of}
+use Rattle.ts_core.specs.store.Cells.{Cell, cell_of, is_rolled, is_in_cell, frozen_of, live_of}
 use Rattle.ts_core.specs.store.StoreStates.{ColumnPoints, RuleCells, StoreState, StandsFor, HasCells, column_of, rule_of, lowest_of, facts_of}
 use Rattle.ts_core.proofs.lists.MembersLemmas.{Among-filter_passes, Among-filter_was, Among-filter_stays, filter-filter}
 use Rattle.ts_core.proofs.facts.Ids.{same_id-eq}
-use Rattle.ts_core.proofs.facts.Latests.{latest-distinct, others-new}
-use Rattle.ts_core.proofs.store.Cuts.{one_fact, aggregate_where, Holds, live_of-held}
+use Rattle.ts_core.proofs.facts.Latests.{latest-distinct}
+use Rattle.ts_core.proofs.store.Cuts.{aggregate_where, Holds, live_of-held}
 use Rattle.ts_core.proofs.store.Moves.{FactsToo, ColumnsToo, IsWritten, written}
 use Rattle.ts_core.proofs.store.StateLemmas.{AllZip-all, AllZip-maps, is_kept-above, Holds-raw_of, StandsFor-Holds, HasCells-as}
 
@@ -33,14 +33,6 @@ aggregate_where-untouched p fs f o e =
       | true ↦ λ s. absurd (true≢false (sym t ∙ o g f (same_id-eq (id_of g) (id_of f) s) ∙ e))
       | false ↦ λ s. refl
     ] refl) (latest fs))
-
--- where it passes: the fact, beside the rest, which are the facts of other ids
-pub aggregate_where-touched : (p : Fact → Bool) (fs : List Fact) (f : Fact) → p f ≡ true → aggregate_where p (latest (f ∷ fs)) ≡ merged (one_fact f) (aggregate_where p (others f (latest fs)))
-aggregate_where-touched p fs f e = ap (λ b. aggregate_of (cond b (f ∷ filter p (others f (latest fs))) (filter p (others f (latest fs))))) e
-
--- a new id adds one
-pub aggregate_where-new : (p : Fact → Bool) (fs : List Fact) (f : Fact) → value_at fs (id_of f) ≡ None → p f ≡ true → aggregate_where p (latest (f ∷ fs)) ≡ merged (one_fact f) (aggregate_where p (latest fs))
-aggregate_where-new p fs f n e = aggregate_where-touched p fs f e ∙ ap (λ gs. merged (one_fact f) (aggregate_where p gs)) (others-new fs f n)
 
 is_kept-id : (cut : Column → ℤ) → OfId (is_kept cut)
 is_kept-id cut f g e = ap (λ (i : Id). int_le (cut i.column) i.time) e
@@ -69,19 +61,6 @@ pub live_of-stays : (cut : Column → ℤ) (fs : List Fact) (f : Fact) (r : Rule
 live_of-stays cut fs f r k e =
     aggregate_where-untouched (λ (g : Fact). is_in_cell r k g && is_kept cut g) fs f
     (and-id (is_in_cell r k) (is_kept cut) (is_in_cell-id r k) (is_kept-id cut)) (ap (λ x. x && is_kept cut f) e)
-
-pub total_of-stays : (fs : List Fact) (f : Fact) (r : Rule) (k : Cell) → is_in_cell r k f ≡ false → total_of r k (latest (f ∷ fs)) ≡ total_of r k (latest fs)
-total_of-stays fs f r k e = aggregate_where-untouched (is_in_cell r k) fs f (is_in_cell-id r k) e
-
--- a new id is added to it
-pub live_of-adds : (cut : Column → ℤ) (fs : List Fact) (f : Fact) (r : Rule) (k : Cell) → value_at fs (id_of f) ≡ None → is_in_cell r k f ≡ true → is_kept cut f ≡ true
-    → live_of cut r k (latest (f ∷ fs)) ≡ merged (one_fact f) (live_of cut r k (latest fs))
-live_of-adds cut fs f r k n e t = aggregate_where-new (λ (g : Fact). is_in_cell r k g && is_kept cut g) fs f n (ap₂ (λ x y. x && y) e t)
-
--- of a replaced one, the old and the new live part have the same rest
-pub live_of-replaces : (cut : Column → ℤ) (fs : List Fact) (f : Fact) (r : Rule) (k : Cell) → is_in_cell r k f ≡ true → is_kept cut f ≡ true
-    → live_of cut r k (latest (f ∷ fs)) ≡ merged (one_fact f) (aggregate_where (λ (g : Fact). is_in_cell r k g && is_kept cut g) (others f (latest fs)))
-live_of-replaces cut fs f r k e t = aggregate_where-touched (λ (g : Fact). is_in_cell r k g && is_kept cut g) fs f (ap₂ (λ x y. x && y) e t)
 
 -- the facts in columns after a write
 pub Holds-written : (cut : Column → ℤ) (fs before after : List Fact) (f : Fact) → is_kept cut f ≡ true

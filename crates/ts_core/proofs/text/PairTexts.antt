@@ -1,9 +1,7 @@
 -- Pairs of texts, with one more at the end.
 use Rattle.std.proofs.Common.{◌≡◌, ℕ, ◌<◌, ◌+◌, List, [], ◌∷◌, ◌++◌, length, get_or, take, refl, sym, ◌∙◌, ap, String, string_bytes, Bor}
 use Rattle.std.proofs.lemmas.List.{take_more}
-use Rattle.std.specs.Ordering.{ordering_then}
-use Rattle.std.specs.Cmp.Lexicographic.{slice_cmp}
-use Rattle.ts_core.specs.facts.Facts.{Text, text_cmp, tag_cmp}
+use Rattle.ts_core.specs.facts.Facts.{Text}
 use Rattle.ts_core.specs.text.Texts.{owned_pairs, borrowed_pairs}
 
 owned_push : {A : Type 0} (xs : List (String A × String A)) (t : String A × String A) → owned_pairs (xs ++ t ∷ []) ≡ owned_pairs xs ++ (string_bytes t.0, string_bytes t.1) ∷ []
@@ -21,11 +19,3 @@ pub owned_more : {A : Type 0} (xs : List (String A × String A)) (t : String A �
 owned_more xs t ts i d l e f ih =
     owned_push xs t ∙ ap (λ zs. zs ++ (string_bytes t.0, string_bytes t.1) ∷ []) ih ∙ ap (λ k. borrowed_pairs (take i ts) ++ (k, string_bytes t.1) ∷ []) e
     ∙ ap (λ v. borrowed_pairs (take i ts) ++ ((get_or ts i d).0.now, v) ∷ []) f ∙ sym (ap borrowed_pairs (take_more ts i d l) ∙ borrowed_push (take i ts) (get_or ts i d))
-
--- pairs compare as what they own
-pub owned_pairs-cmp : {A : Type 0} (xs ys : List (String A × String A))
-    → slice_cmp (λ (x y : String A × String A). ordering_then (text_cmp (string_bytes x.0) (string_bytes y.0)) (text_cmp (string_bytes x.1) (string_bytes y.1))) xs ys ≡ slice_cmp tag_cmp (owned_pairs xs) (owned_pairs ys)
-owned_pairs-cmp [] [] = refl
-owned_pairs-cmp [] (y ∷ ys) = refl
-owned_pairs-cmp (x ∷ xs) [] = refl
-owned_pairs-cmp (x ∷ xs) (y ∷ ys) = ap (ordering_then (tag_cmp (string_bytes x.0, string_bytes x.1) (string_bytes y.0, string_bytes y.1))) (owned_pairs-cmp xs ys)

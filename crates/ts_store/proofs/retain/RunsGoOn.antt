@@ -15,7 +15,6 @@ use Rattle.ts_core.specs.moves.StoreMoves.{all_moved, points_below, kept_points,
 use Rattle.ts_core.specs.moves.Runs.{batches_left, steps_left}
 use Rattle.ts_core.proofs.moves.StepStands.{step_stands, keys_column}
 use Rattle.ts_core.proofs.moves.MovesStand.{cells_go, run_ends}
-use Rattle.ts_core.proofs.store.RunSteps.{idle_step_stands}
 use Rattle.ts_core.specs.lists.Numbered.{IsAt}
 use Rattle.ts_core.proofs.lists.NumberedLemmas.{at_among}
 use Rattle.ts_core.proofs.moves.LeftOnData.{turns_beside}
@@ -334,7 +333,3 @@ module _ (settings : Settings) (marks : Marks) (n : ℕ) (held after : StoreCont
       let batches = batches_left-above settings.rules marks.lows (cells_of held.rollups) above in
       let one : steps_left (state_of (data_of_parts settings marks n held (Some r))) ≡ 1 = omega arith in
       subst (λ (k : StoreData). steps_left (state_of k) ≡ 1) all.shown one
-
--- without an open run a step changes nothing
-pub idle-stands : (k : StoreData) → k.running ≡ false → GoesOn k (Step true) k
-idle-stands k e = λ opening h st. idle_step_stands opening h (state_of k) st e

@@ -3,7 +3,7 @@ use Rattle.std.proofs.Common.{◌≡◌, ℕ, zero, suc, ℤ, ◌+◌, ◌<◌, 
 use Rattle.std.specs.Ordering.{int_eq}
 use Rattle.std.specs.FinMap as finmap
 use Rattle.std.specs.List.{AllByRecursion}
-use Rattle.std.proofs.lemmas.List.{length-map, length-append, drop_more, get_or_default}
+use Rattle.std.proofs.lemmas.List.{length-append, drop_more, get_or_default}
 use Rattle.std.proofs.lemmas.Bool.Decides.{Decides-int_eq, Decides-eqb}
 use Rattle.ts_core.specs.lists.Members.{Among, AllDistinct}
 use Rattle.ts_core.specs.facts.Facts.{Column, Fact}
@@ -119,13 +119,6 @@ pub cell_total : (r : Rule) (s : RollupState) (k : Cell) (l : ℕ) (cs : List Co
     → aggregate_of_points (points_in r ss k.index (columns_of_rollup_series l s)) ≡ total_of r k (facts_of (with_points cs (point_maps ss)))
 cell_total r s k l cs ss d at len have =
     sym (aggregate_of-points (filter (is_in_cell r k) (facts_of (with_points cs (point_maps ss)))) ∙ ap aggregate_of_points (cell_points r s k l cs ss d at len have))
-
--- and how many they are
-pub cell_count : (r : Rule) (s : RollupState) (k : Cell) (l : ℕ) (cs : List Column) (ss : List ColumnState) → AllDistinct s.grid.rollup_series → IsAt s.grid.rollup_series l (rollup_series_of k) → length ss ≡ length cs → HaveRollupSeries r s.grid.rollup_series cs s.series_of_column
-    → length (points_in r ss k.index (columns_of_rollup_series l s)) ≡ length (filter (is_in_cell r k) (facts_of (with_points cs (point_maps ss))))
-cell_count r s k l cs ss d at len have =
-    let fs : List Fact = filter (is_in_cell r k) (facts_of (with_points cs (point_maps ss))) in
-    ap length (sym (cell_points r s k l cs ss d at len have)) ∙ length-map fs (λ (f : Fact). (f.time, f.value))
 
 -- ---- points merged in
 

@@ -48,9 +48,6 @@ same_id_in c t s = ap (λ o. is_eq (ordering_then o (int_cmp t s))) (tied_itself
 same_id_of : (c : Column) (f : Fact) (t : ℤ) → f.column ≡ c → same_id (id_of f) (record { column = c; time = t }) ≡ eq_by_cmp int_cmp f.time t
 same_id_of c f t e = ap (λ (d : Column). same_id (record { column = d; time = f.time }) (record { column = c; time = t })) e ∙ same_id_in c f.time t
 
-zero_plus : (n : ℕ) → 0 + n ≡ n
-zero_plus n = omega arith
-
 -- a point is put in
 pub column_puts : (c : Column) (m : PointMap) (t v : ℤ) → Puts (facts_in c m) (facts_in c (finmap.insert m t v)) (fact_at c (t, v))
 column_puts c m t v =

@@ -146,10 +146,6 @@ rooms_same [] lows (m ∷ ms) = tt
 rooms_same (r ∷ rs) [] (m ∷ ms) = tt
 rooms_same (r ∷ rs) (low ∷ lows) (m ∷ ms) = (room_same r low m, rooms_same rs lows ms)
 
-unruled : (lows : List ℤ) (fs : List Fact) (ms : List CellMap) → GainEmptyCells [] lows fs ms ms
-unruled lows fs [] = tt
-unruled lows fs (m ∷ ms) = tt
-
 pub rooms_made : (rs : List Rule) (lows : List ℤ) (cs : List Column) (time : ℤ) (ns : List ℕ) (fs : List Fact) (ss : List RollupState) → AreRollups rs cs ss → AreAt cs time ns fs
     → GainEmptyCells rs lows fs (cells_of ss) (cells_of (cells_created_under (bucket_indices rs time) lows ns ss))
 rooms_made [] lows cs time ns fs [] h a = tt
@@ -178,14 +174,6 @@ next_roomed s t u index ns i n within at made kept before =
       made ∙ ap (cells_created_for index (n ∷ [])) before ∙ sym (roomed_more index (take i ns) (n ∷ []) s)
           ∙ ap (λ ms. cells_created_for index ms s) (ap (λ m. take i ns ++ m ∷ []) at ∙ sym (take_more ns i 0 within)),
     )
-
--- by the low index
-pub roomed_above : (low index : ℤ) (ns : List ℕ) (s : RollupState) → low ≤ℤ index → cells_created_from low index ns s ≡ cells_created_for index ns s
-roomed_above low index ns s above =
-    elim (int_lt index low) as (λ b. int_lt index low ≡ b → cond b s (cells_created_for index ns s) ≡ cells_created_for index ns s) [
-      | true ↦ λ e. let below : index <ℤ low = lt_from index low e in absurd (let n : ⊥ = omega (arith, ints, above, below) in n)
-      | false ↦ λ e. refl
-    ] refl
 
 -- ---- room for some of the columns
 
