@@ -1,5 +1,5 @@
 -- The number of points before a time: of those that lie apart by one step, and of any.
-use Rattle.std.proofs.Common.{◌≡◌, ℕ, zero, suc, ◌+◌, ◌*◌, ◌-◌, ◌<◌, ◌≤◌, ℤ, pos, ◌+ℤ◌, ◌-ℤ◌, ◌<ℤ◌, ◌≤ℤ◌, unsigned_abs, int_lt, int_le, Bool, true, false, ◌&&◌, List, [], ◌∷◌, ◌++◌, drop, length, get_or, slice_get, Option, Some, None, refl, sym, ◌∙◌, ap, subst, ⊎_elim, arith}
+use Rattle.std.proofs.Common.{◌≡◌, ℕ, zero, suc, ◌+◌, ◌*◌, ◌-◌, ◌<◌, ◌≤◌, ℤ, pos, ◌+ℤ◌, ◌-ℤ◌, ◌<ℤ◌, ◌≤ℤ◌, unsigned_abs, int_lt, int_le, Bool, true, false, ◌&&◌, List, [], ◌∷◌, ◌++◌, drop, length, get_or, slice_get, Option, Some, None, refl, sym, ◌∙◌, ap, subst, ⊎_elim, true≢false, arith}
 use Rattle.std.specs.Int.{div_ceil}
 use Rattle.std.specs.List.{prefix_len}
 use Rattle.std.proofs.Math.Nat.{mul-le-mul_right}
@@ -93,6 +93,17 @@ all_before t ps d s some l =
     (λ x. let no = parts.1 (length ps - 1) d (omega (arith, x.1)) (omega arith) in let yes = before_too (get_or ps (length ps - 1) d).0 t l in absurd (cc))
     (leb_tells (length ps) (before_first t ps)) in
     let is : before_first t ps ≡ length ps = omega arith in
+    subst (IsStartOf t ps) is parts
+
+-- exactly n + 1 points are before a time if the last of these is, and the next one isn't
+pub start_at : (t : ℤ) (ps : List (ℤ × ℤ)) (n : ℕ) (d e : ℤ × ℤ) → IsRising ps → suc n < length ps → (get_or ps n d).0 <ℤ t → t ≤ℤ (get_or ps (suc n) e).0 → IsStartOf t ps (suc n)
+start_at t ps n d e s inside l h =
+    let parts = first_parts t ps s in
+    let yes = before_too (get_or ps n d).0 t l in
+    let no = not_before (get_or ps (suc n) e).0 t h in
+    let more = ⊎_elim {C = suc n ≤ before_first t ps} (λ x. x.1) (λ x. absurd (true≢false (sym yes ∙ parts.1 n d (omega (arith, x.1)) (omega arith)))) (leb_tells (suc n) (before_first t ps)) in
+    let less = ⊎_elim {C = before_first t ps ≤ suc n} (λ x. x.1) (λ x. absurd (true≢false (sym (parts.0 (suc n) e (omega arith) (omega (arith, x.1))) ∙ no))) (leb_tells (before_first t ps) (suc n)) in
+    let is : before_first t ps ≡ suc n = omega arith in
     subst (IsStartOf t ps) is parts
 
 -- the points from a time on that is at or before the first are those before the first that isn't within

@@ -1,5 +1,5 @@
 //! Points that are read at once.
-ghost use Rattle.std.specs.Prelude.{◌≡◌, ◌↔◌, ◌+◌, ◌≤◌, ℕ, ℤ, List, ◌∷◌, ◌++◌, [], length, Some, IfSome, MatchOption, IsTrue};
+ghost use Rattle.std.specs.Prelude.{◌≡◌, ◌↔◌, ◌+◌, ◌≤◌, ℕ, ℤ, List, ◌∷◌, ◌++◌, [], length, Some, IfSome, MatchOption, IsTrue, true};
 ghost use Rattle.std.specs.Iterator.{YieldsFirst};
 ghost use Rattle.std.specs.List.{prefix_len, take_while};
 ghost use Rattle.ts_block.specs.Decoding.{AreSpacedIf};
@@ -17,6 +17,8 @@ pub struct Run<'a> {
     points: &'a [(Time, i64)],
     // The nanoseconds, less one, from each time to the next, if they are known to be the same.
     step: Option<u64>,
+    // The number of points that were taken last, which is often the next one.
+    guess: usize,
 }
 
 impl<'a> Model for Run<'a> {
@@ -38,15 +40,37 @@ fn distance_of(step: Option<u64>) -> Option<u64>
     step?.checked_add(1)
 }
 
-/// Returns the number of points before `end` (nanoseconds), which is after the first time and not after the last: by a
-/// division if the points are known to lie apart by one step, else by a search.
-fn count_inside(points: &[(Time, i64)], step: Option<u64>, first: i64, end: i64) -> usize
+/// Returns true if exactly the first `count` points are before `end` (nanoseconds), and some points are before it and
+/// some are not.
+fn is_count_before(points: &[(Time, i64)], count: usize, end: i64) -> bool
+    requires { IsRising points.now }
+    ensures bound { result ≡ true → count ≤ length points.now }
+    ensures start { result ≡ true → IsStartOf end points.now count }
+{
+    let (Some(last), Some(next)) = (count.checked_sub(1), points.get(count)) else {
+        return false;
+    };
+    points[last].0.nanos() < end && end <= next.0.nanos()
+}
+
+/// Returns the number of points before `end` (nanoseconds), which is after the first time and not after the last. Tries
+/// `guess` first. Else divides if the points are known to lie apart by one step, or searches.
+fn count_inside(
+    points: &[(Time, i64)],
+    step: Option<u64>,
+    guess: usize,
+    first: i64,
+    end: i64,
+) -> usize
     requires rising { IsRising points.now }
     requires spaced { AreSpacedIf step points.now }
     requires ends { IsInside first end points.now }
     ensures start { IsStartOf end points.now result }
     ensures bound { result ≤ length points.now }
 {
+    if is_count_before(points, guess, end) {
+        return guess;
+    }
     match distance_of(step) {
         Some(distance) => end.abs_diff(first).div_ceil(distance) as usize,
         None => count_before(points, end),
@@ -54,7 +78,13 @@ fn count_inside(points: &[(Time, i64)], step: Option<u64>, first: i64, end: i64)
 }
 
 /// Returns the number of points before the first that isn't from `low`, inclusive, to `high`, exclusive (nanoseconds).
-fn count_within(points: &[(Time, i64)], step: Option<u64>, low: i64, high: i64) -> usize
+fn count_within(
+    points: &[(Time, i64)],
+    step: Option<u64>,
+    guess: usize,
+    low: i64,
+    high: i64,
+) -> usize
     requires rising { IsRising points.now }
     requires spaced { AreSpacedIf step points.now }
     ensures { result ≡ prefix_len (λ p. is_within low high p.0) points.now }
@@ -69,7 +99,7 @@ fn count_within(points: &[(Time, i64)], step: Option<u64>, low: i64, high: i64) 
     if last.0.nanos() < high {
         return points.len();
     }
-    count_inside(points, step, first, high)
+    count_inside(points, step, guess, first, high)
 }
 
 impl<'a> Run<'a> {
@@ -79,7 +109,11 @@ impl<'a> Run<'a> {
         requires spaced { AreSpacedIf step points.now }
         ensures { result ≡ points.now }
     {
-        Run { points, step }
+        Run {
+            points,
+            step,
+            guess: 0,
+        }
     }
 
     /// Returns true if no point is left.
@@ -117,17 +151,22 @@ impl<'a> Run<'a> {
     }
 
     /// Removes the points before the first that isn't from `low`, inclusive, to `high`, exclusive (nanoseconds), and
-    /// returns them. Finds their number by a division if all points are known to lie apart by one step, else by a
-    /// search.
+    /// returns them. Tries the number of the points taken before; else divides if all points are known to lie apart by
+    /// one step, or searches.
     #[inline]
     pub fn take_within(&mut self, low: i64, high: i64) -> &'a [(Time, i64)]
         ensures points { result.now ≡ take_while (λ p. is_within low high p.0) self.old }
         ensures left { self.old ≡ result.now ++ self.new }
     {
-        let (within, others) = self
-            .points
-            .split_at(count_within(self.points, self.step, low, high));
+        let (within, others) = self.points.split_at(count_within(
+            self.points,
+            self.step,
+            self.guess,
+            low,
+            high,
+        ));
         self.points = others;
+        self.guess = within.len();
         within
     }
 }
