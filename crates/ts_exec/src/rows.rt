@@ -31,7 +31,7 @@ pub(crate) fn can_add(rows: &[Agg], row_index: usize, others: u64) -> bool
     others < MAX_COUNT.saturating_sub(count)
 }
 
-/// BucketRun of points in one bucket, and their fold.
+/// Points in one bucket that follow each other, by their fold.
 #[derive(Clone, Copy, Debug)]
 struct BucketRun<F> {
     // Times from `low`, inclusive, to `high`, exclusive, are in the bucket.

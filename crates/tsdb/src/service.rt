@@ -135,6 +135,45 @@ where
 }
 
 /// Serves the requested number of connections, and saves the image.
+fn serve_store<R>(
+    rt: &R,
+    service: &Service<'_>,
+    store: &mut Store<Global>,
+    is_loaded: bool,
+    image: &mut ImageFile<'_>,
+    reports: &mut Reports,
+) -> Result<(), Failure>
+where
+    R: Files<File = File>
+        + Clock
+        + AllocGlobal
+        + Eprint
+        + Net<Listener = TcpListener, Stream = TcpStream>,
+{
+    let listener = match TcpListener::bind(rt, ("127.0.0.1", service.port)) {
+        Ok(listener) => listener,
+        Err(error) => {
+            return Err(Failure::of_system(rt.alloc(), ServiceFault::NoPort, &error));
+        }
+    };
+    if let Ok(text) = listening_text(rt.alloc(), service, image.path(), store, is_loaded) {
+        reports.line(rt, text);
+    }
+    let count = if service.requests == 0 {
+        u64::MAX
+    } else {
+        service.requests
+    };
+    match serve_on(rt, store, &listener, image, reports, count) {
+        Ok(()) => Ok(()),
+        Err(failed) => {
+            let fault = ServiceFault::of_save(failed.fault);
+            Err(Failure::of_image(rt.alloc(), fault, failed.cause))
+        }
+    }
+}
+
+/// Locks the image, opens its store, and serves it.
 fn run_service<R>(
     rt: &R,
     seed: RandomState,
@@ -152,27 +191,7 @@ where
     let loaded = load_image(rt, seed, &image)?;
     let is_loaded = loaded.is_some();
     let mut store = open_store(rt, seed, service, loaded)?;
-    let listener = match TcpListener::bind(rt, ("127.0.0.1", service.port)) {
-        Ok(listener) => listener,
-        Err(error) => {
-            return Err(Failure::of_system(rt.alloc(), ServiceFault::NoPort, &error));
-        }
-    };
-    if let Ok(text) = listening_text(rt.alloc(), service, image.path(), &store, is_loaded) {
-        reports.line(rt, text);
-    }
-    let count = if service.requests == 0 {
-        u64::MAX
-    } else {
-        service.requests
-    };
-    match serve_on(rt, &mut store, &listener, &mut image, reports, count) {
-        Ok(()) => Ok(()),
-        Err(failed) => {
-            let fault = ServiceFault::of_save(failed.fault);
-            Err(Failure::of_image(rt.alloc(), fault, failed.cause))
-        }
-    }
+    serve_store(rt, service, &mut store, is_loaded, &mut image, reports)
 }
 
 /// Returns the line of a fault and its cause.
