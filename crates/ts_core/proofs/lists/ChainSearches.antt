@@ -27,7 +27,6 @@ module _ (hashes : List ℕ) (hash : ℕ) where
   other_hash i apart e = true≢false (sym (eq-eqb (get_or hashes i 0) hash e) ∙ apart)
 
   module _ (IsRejected : ℕ → Type 0) where
-
     -- the next index has the hash
     pub search_at : (i : ℕ) → IsSearched hashes hash IsRejected (Some i) → IsAt hashes i hash
     search_at i s =

@@ -9,7 +9,6 @@ use Rattle.ts_core.proofs.lists.MembersLemmas.{at_map_of}
 use Rattle.ts_core.proofs.lists.NumberedLemmas.{among_at, once_more}
 
 module _ {X : Type 0} (hash_of : X → ℕ) (names : List X) (hashes : List ℕ) (table : IsTable hash_of names hashes) where
-
   -- a name isn't there if none was found and each with its hash was rejected, as those that have another name are
   pub sought_in_vain : {Y : Type 0} {IsRejected : ℕ → Type 0} (name : X) (hash : ℕ) (found : Option Y) → hash ≡ hash_of name
       → IfNone found ((n : ℕ) → IsAt hashes n hash → IsRejected n) → ((n : ℕ) → IsRejected n → IsAt names n name → ⊥) → IfNone found (Among name names → ⊥)

@@ -1,5 +1,5 @@
 -- Prefixes of lists.
-use Rattle.std.proofs.Common.{◌≡◌, ℕ, zero, suc, ◌+◌, ◌-◌, ◌≤◌, List, [], ◌∷◌, ◌++◌, take, refl, ap, ◌∙◌, arith}
+use Rattle.std.proofs.Common.{◌≡◌, ℕ, zero, suc, ◌≤◌, List, [], ◌∷◌, take, refl, ap, arith}
 
 -- the beginning of a beginning
 pub shorter : (k n : ℕ) (items : List ℕ) → k ≤ n → take k (take n items) ≡ take k items

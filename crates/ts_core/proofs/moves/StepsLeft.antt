@@ -1,5 +1,5 @@
 -- The number of steps left: a begin lets all columns wait, each step of a run lowers it by one, and a write leaves it.
-use Rattle.std.proofs.Common.{◌≡◌, ℕ, ℤ, ◌+◌, ◌-◌, ◌<◌, true, cond, List, [], ◌∷◌, ◌++◌, length, refl, ap, ap₂, ◌∙◌}
+use Rattle.std.proofs.Common.{◌≡◌, ◌+◌, true, cond, List, [], ◌∷◌, length, refl, ap, ap₂}
 use Rattle.std.specs.List.{AllZip}
 use Rattle.ts_core.specs.store.StoreStates.{RuleCells, StoreState}
 use Rattle.ts_core.specs.moves.Runs.{batches_of, expired_count, batches_left, steps_left}

@@ -28,22 +28,6 @@ impl<A: Allocator> Model for Marks<A> {
     ghost view = { λ m. record { raw = m.raw; lows = m.lows.items } };
 }
 
-fn same_lows(lows: &[i128], others: &[i128]) -> bool
-    ensures { IsTrue result ↔ (lows.now ≡ others.now) }
-{
-    match (lows.split_first(), others.split_first()) {
-        (None, None) => true,
-        (Some((low, lows)), Some((other, others))) => {
-            if low == other {
-                same_lows(lows, others)
-            } else {
-                false
-            }
-        }
-        _ => false,
-    }
-}
-
 /// Returns the time from which a duration keeps points, at a moment. Both are in nanoseconds; a duration of 0 keeps
 /// all.
 fn kept_since(duration: u64, now: Time) -> i128
@@ -108,10 +92,7 @@ impl<A: Allocator> Marks<A> {
     pub fn equals(&self, other: &Marks<A>) -> bool
         ensures { IsTrue result ↔ (self.now ≡ other.now) }
     {
-        if self.raw() != other.raw() {
-            return false;
-        }
-        same_lows(self.lows(), other.lows())
+        self.raw() == other.raw() && self.lows() == other.lows()
     }
 
     /// Appends the low index of one more rule.

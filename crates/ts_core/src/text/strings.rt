@@ -16,15 +16,5 @@ pub fn is_among<A: Allocator>(text: &str, texts: &[String<A>]) -> bool
 pub(crate) fn same_strings<A: Allocator>(texts: &[String<A>], others: &[String<A>]) -> bool
     ensures { IsTrue result ↔ (map string_bytes texts.now ≡ map string_bytes others.now) }
 {
-    match (texts.split_first(), others.split_first()) {
-        (None, None) => true,
-        (Some((text, texts)), Some((other, others))) => {
-            if text.as_str() == other.as_str() {
-                same_strings(texts, others)
-            } else {
-                false
-            }
-        }
-        _ => false,
-    }
+    texts == others
 }
