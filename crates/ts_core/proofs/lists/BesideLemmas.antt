@@ -1,11 +1,13 @@
 -- What holds of lists side by side: at one place, after a change, with one more item, and of those that pass a test.
-use Rattle.std.proofs.Common.{◌≡◌, ◌<◌, ℕ, zero, suc, min, Bool, true, false, cond, List, [], ◌∷◌, ◌++◌, length, filter, map, take, set, get_or, refl, ap, arith, subst}
-use Rattle.std.specs.List.{AllZip, zip}
+use Rattle.std.proofs.Common.{◌≡◌, ◌<◌, ℕ, zero, suc, min, Bool, true, false, cond, List, [], ◌∷◌, ◌++◌, length, filter, map, take, set, get_or, refl, sym, ◌∙◌, ap, ap₂, arith, subst}
+use Rattle.std.specs.List.{AllByRecursion, AllZip, remove, zip}
+use Rattle.std.proofs.lemmas.List.{length-map}
 use Rattle.std.proofs.lemmas.Option.{none-some, same_Some}
-use Rattle.ts_core.specs.settings.Settings.{Rule}
-use Rattle.ts_core.specs.lists.Beside.{OfEach, AllZipBeside, changed_beside}
+use Rattle.std.proofs.lemmas.Simd.{map-map}
+use Rattle.std.proofs.lemmas.Slice.Zip.{firsts-zip, seconds-zip}
+use Rattle.ts_core.specs.lists.Beside.{OfEach, AllZipBeside, changed_beside, kept_beside}
 use Rattle.ts_core.specs.lists.Numbered.{IsAt}
-use Rattle.ts_core.specs.moves.RuleMoves.{kept_beside}
+use Rattle.ts_core.proofs.lists.ListSteps.{filter-map, map-remove}
 
 -- ---- a relation at each place that both lists have
 
@@ -59,14 +61,54 @@ module _ {X Y : Type 0} (R : X → Y → Type 0) where
   OfEach-over C S h (x ∷ xs) [] (y ∷ ys) (z ∷ zs) e c a = absurd (omega arith)
   OfEach-over C S h (x ∷ xs) (l ∷ ls) (y ∷ ys) (z ∷ zs) e c a = (h x l y z c.0 a.0, OfEach-over C S h xs ls ys zs (omega arith) c.1 a.1)
 
-pub OfEach-kept : {X : Type 0} (R : Rule → X → Type 0) (p : Rule → Bool) (rs : List Rule) (xs : List X) → OfEach R rs xs → OfEach R (filter p rs) (kept_beside p rs xs)
-OfEach-kept R p [] xs a = tt
-OfEach-kept R p (r ∷ rs) [] a = OfEach-none R (filter p (r ∷ rs))
-OfEach-kept R p (r ∷ rs) (x ∷ xs) a =
-    elim (p r) as (λ b. OfEach R (cond b (r ∷ filter p rs) (filter p rs)) (cond b (x ∷ kept_beside p rs xs) (kept_beside p rs xs))) [
-      | true ↦ (a.0, OfEach-kept R p rs xs a.1)
-      | false ↦ OfEach-kept R p rs xs a.1
-    ]
+  -- and those whose neighbours pass a test stay
+  pub OfEach-kept : (p : X → Bool) (xs : List X) (ys : List Y) → OfEach R xs ys → OfEach R (filter p xs) (kept_beside p xs ys)
+  OfEach-kept p [] ys a = tt
+  OfEach-kept p (x ∷ xs) [] a = OfEach-none (filter p (x ∷ xs))
+  OfEach-kept p (x ∷ xs) (y ∷ ys) a =
+      elim (p x) as (λ b. OfEach R (cond b (x ∷ filter p xs) (filter p xs)) (map (λ z. z.1) (cond b ((x, y) ∷ filter (λ z. p z.0) (zip xs ys)) (filter (λ z. p z.0) (zip xs ys))))) [
+        | true ↦ (a.0, OfEach-kept p xs ys a.1)
+        | false ↦ OfEach-kept p xs ys a.1
+      ]
+
+-- ---- the items whose neighbours pass a test
+
+module _ {X Y : Type 0} (p : X → Bool) where
+  pub kept-map : {Z : Type 0} (f : Y → Z) (xs : List X) (ys : List Y) → map f (kept_beside p xs ys) ≡ kept_beside p xs (map f ys)
+  kept-map f [] ys = refl
+  kept-map f (x ∷ xs) [] = refl
+  kept-map f (x ∷ xs) (y ∷ ys) =
+      elim (p x) as (λ b. map f (map (λ z. z.1) (cond b ((x, y) ∷ filter (λ z. p z.0) (zip xs ys)) (filter (λ z. p z.0) (zip xs ys))))
+      ≡ map (λ z. z.1) (cond b ((x, f y) ∷ filter (λ z. p z.0) (zip xs (map f ys))) (filter (λ z. p z.0) (zip xs (map f ys))))) [
+        | true ↦ ap (λ zs. f y ∷ zs) (kept-map f xs ys)
+        | false ↦ kept-map f xs ys
+      ]
+
+  pub length-kept : (xs : List X) (ys : List Y) → length ys ≡ length xs → length (kept_beside p xs ys) ≡ length (filter p xs)
+  length-kept xs ys e =
+      let those = filter (λ (z : X × Y). p z.0) (zip xs ys) in
+      length-map those (λ z. z.1) ∙ sym (length-map those (λ z. z.0)) ∙ ap length (sym (filter-map p (λ z. z.0) (zip xs ys)) ∙ ap (filter p) (firsts-zip xs ys e))
+
+-- of the answers of a test, only the one at the index is no
+abbrev pub FailsAt : List Bool → ℕ → Type 0
+FailsAt [] n = ⊥
+FailsAt (b ∷ bs) zero = (b ≡ false) × AllByRecursion (λ c. c ≡ true) bs
+FailsAt (b ∷ bs) (suc n) = (b ≡ true) × FailsAt bs n
+
+all_pass : {X : Type 0} (p : X → Bool) (xs : List X) → AllByRecursion (λ c. c ≡ true) (map p xs) → filter p xs ≡ xs
+all_pass p [] a = refl
+all_pass p (x ∷ xs) a = ap₂ (λ b zs. cond b (x ∷ zs) zs) a.0 (all_pass p xs a.1)
+
+pub filter-fails : {X : Type 0} (p : X → Bool) (xs : List X) (n : ℕ) → FailsAt (map p xs) n → filter p xs ≡ remove xs n
+filter-fails p [] n f = absurd f
+filter-fails p (x ∷ xs) zero f = ap₂ (λ b zs. cond b (x ∷ zs) zs) f.0 (all_pass p xs f.1)
+filter-fails p (x ∷ xs) (suc n) f = ap₂ (λ b zs. cond b (x ∷ zs) zs) f.0 (filter-fails p xs n f.1)
+
+pub beside-fails : {X Y : Type 0} (p : X → Bool) (xs : List X) (ys : List Y) (n : ℕ) → length ys ≡ length xs → FailsAt (map p xs) n → kept_beside p xs ys ≡ remove ys n
+beside-fails {X} {Y} p xs ys n e f =
+    let zs : List (X × Y) = zip xs ys in
+    let fails = subst (λ bs. FailsAt bs n) (ap (map p) (sym (firsts-zip xs ys e)) ∙ map-map p (λ (z : X × Y). z.0) zs) f in
+    ap (map (λ z. z.1)) (filter-fails (λ z. p z.0) zs n fails) ∙ map-remove (λ z. z.1) zs n ∙ ap (λ vs. remove vs n) (seconds-zip xs ys e)
 
 -- ---- a relation at each place, of lists of one length
 

@@ -1,17 +1,21 @@
 -- Look-up of a rule by its name, and its removal by its index.
-use Rattle.std.proofs.Common.{◌≡◌, ℕ, zero, suc, ◌+◌, ◌<◌, Bool, true, false, cond, ◌||◌, List, [], ◌∷◌, length, filter, map, refl, sym, ap, ◌∙◌, subst, arith, Option, Some, None, IfSome, IsNone, true≢false}
+use Rattle.std.proofs.Common.{◌≡◌, ℕ, zero, suc, ◌+◌, ◌<◌, Bool, true, false, cond, not, inl, inr, ◌||◌, List, [], ◌∷◌, length, filter, map, refl, sym, ap, ◌∙◌, subst, arith, Option, Some, None, IfSome, IsNone, true≢false}
 use Rattle.std.specs.List.{AllByRecursion, list_any, position_from, remove}
-use Rattle.std.proofs.lemmas.Option.{none-some}
-use Rattle.ts_core.specs.lists.Members.{AllDistinct}
+use Rattle.std.proofs.lemmas.Option.{none-some, same_Some}
+use Rattle.ts_core.specs.lists.Members.{Among, AllDistinct}
 use Rattle.ts_core.specs.lists.Numbered.{IsAt}
 use Rattle.ts_core.specs.facts.Facts.{Text, same_text}
 use Rattle.ts_core.specs.settings.Settings.{Rule, Settings, is_unnamed}
 use Rattle.ts_core.specs.settings.SettingsFaults.{settings_fault, is_named}
-use Rattle.ts_core.specs.moves.RuleMoves.{IsRuleAt, kept_beside}
+use Rattle.ts_core.specs.moves.RuleMoves.{IsRuleAt}
+use Rattle.ts_core.specs.lists.Beside.{kept_beside}
 use Rattle.ts_core.proofs.facts.Ids.{same_text-eq}
 use Rattle.ts_core.proofs.settings.SettingsLaws.{settings_are}
 use Rattle.ts_core.proofs.settings.RuleLaws.{without_rule-faultless}
-use Rattle.ts_core.proofs.moves.RulesMove.{fails_at, filter-fails, beside-fails}
+use Rattle.ts_core.proofs.lists.BesideLemmas.{FailsAt, filter-fails, beside-fails}
+use Rattle.ts_core.proofs.lists.Comparisons.{same_text-refl}
+use Rattle.ts_core.proofs.lists.MembersLemmas.{Among-map}
+use Rattle.ts_core.proofs.lists.NumberedLemmas.{at_among}
 use Rattle.ts_core.proofs.lists.Indices.{item_at}
 
 -- ---- the first item that passes
@@ -48,6 +52,21 @@ module _ {X : Type 0} (p : X → Bool) where
       ] refl e
 
 -- ---- the rule of a name
+
+unnamed : (name : Text) (r : Rule) → (r.name ≡ name → ⊥) → is_unnamed name r ≡ true
+unnamed name r n = elim (same_text r.name name) as (λ b. same_text r.name name ≡ b → not b ≡ true) [ true ↦ λ e. absurd (n (same_text-eq r.name name e)) | false ↦ λ e. refl ] refl
+
+others_pass : (name : Text) (rs : List Rule) → (Among name (map (λ (r : Rule). r.name) rs) → ⊥) → AllByRecursion (λ b. b ≡ true) (map (is_unnamed name) rs)
+others_pass name [] n = tt
+others_pass name (r ∷ rs) n = (unnamed name r (λ e. n (inl (sym e))), others_pass name rs (λ a. n (inr a)))
+
+-- of rules with names of their own, the one of a name is the one at its index
+fails_at : (rs : List Rule) (n : ℕ) (r : Rule) → IsAt rs n r → AllDistinct (map (λ (x : Rule). x.name) rs) → FailsAt (map (is_unnamed r.name) rs) n
+fails_at [] n r e d = absurd (none-some r e)
+fails_at (x ∷ rs) zero r e d = subst (λ (y : Rule). FailsAt (map (is_unnamed y.name) (x ∷ rs)) zero) (same_Some x r e) (ap not (same_text-refl x.name), others_pass x.name rs d.0)
+fails_at (x ∷ rs) (suc n) r e d =
+    let name : Rule → Text = λ (z : Rule). z.name in
+    (unnamed r.name x (λ s. d.0 (subst (λ y. Among y (map name rs)) (sym s) (Among-map name r rs (at_among rs n r e)))), fails_at rs n r e d.1)
 
 pub rule_found : (name : Text) (rs : List Rule) (n : ℕ) → AllDistinct (map (λ (r : Rule). r.name) rs) → position_from (λ (r : Rule). same_text r.name name) 0 rs ≡ Some n → IsRuleAt name rs n
 rule_found name rs n distinct e =

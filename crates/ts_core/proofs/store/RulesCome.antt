@@ -15,10 +15,11 @@ use Rattle.ts_core.specs.store.Cells.{Cell, cell_of, same_cell, is_rolled, is_in
 use Rattle.ts_core.specs.store.StoreStates.{RuleCells, StoreState, StandsFor, HasCells, rule_of, lowest_of, facts_of}
 use Rattle.ts_core.proofs.lists.Comparisons.{same_text-refl, same_text-from_eq, same_bool}
 use Rattle.ts_core.proofs.facts.Ids.{same_text-eq}
-use Rattle.ts_core.proofs.lists.ListSteps.{map-push, all_push}
+use Rattle.ts_core.proofs.lists.ListSteps.{map-push, filter-map, all_push, all_filter}
+use Rattle.ts_core.proofs.lists.MembersLemmas.{filter-none}
 use Rattle.ts_core.proofs.facts.Latests.{latest-distinct}
 use Rattle.ts_core.proofs.plans.PieceCells.{same_cell-eq}
-use Rattle.ts_core.proofs.store.Cuts.{Holds, live_of-held, filter-agree}
+use Rattle.ts_core.proofs.store.Cuts.{Holds, live_of-held}
 use Rattle.ts_core.proofs.settings.SettingsLaws.{settings_are}
 use Rattle.ts_core.proofs.settings.RuleLaws.{with_rule-fault, added_new}
 use Rattle.ts_core.proofs.settings.Intervals.{settings_faultless}
@@ -67,10 +68,6 @@ not_kept : (a b : Bool) → (a ≡ true → b ≡ true) → a && not b ≡ false
 not_kept true b h = ap not (h refl)
 not_kept false b h = refl
 
-filter-none : {X : Type 0} (xs : List X) → filter (λ (x : X). false) xs ≡ []
-filter-none [] = refl
-filter-none (x ∷ xs) = filter-none xs
-
 -- each fact of its cells is raw
 above_start : (opening : Settings) (h : History) (waiting : List Column) (r : Rule) → pos 1 ≤ℤ r.interval → (f : Fact) → first_from r (raw_mark opening h) ≤ℤ index_of r f.time → is_kept (kept_from opening h waiting) f ≡ true
 above_start opening h waiting r w f l = is_kept-above opening h waiting f (first_from-after r (raw_mark opening h) f.time w l)
@@ -83,10 +80,10 @@ added_cells opening h waiting held holds r w e s =
     record {
       once = s.once;
       there = λ f a m l. s.there f (holds.all f a (raw f l)) m l;
-      frozen = λ k l. s.frozen k l ∙ sym (ap aggregate_of (filter-agree (λ (f : Fact). is_in_cell r.rule k f && not (is_kept cut f)) (λ (f : Fact). false) (latest_of h)
+      frozen = λ k l. s.frozen k l ∙ sym (ap aggregate_of (filter-none (λ (f : Fact). is_in_cell r.rule k f && not (is_kept cut f)) (latest_of h)
           (λ f a. not_kept (is_in_cell r.rule k f) (is_kept cut f) (λ t.
           let at : cell_of r.rule f ≡ k = same_cell-eq (cell_of r.rule f) k (and_parts (is_rolled r.rule f) (same_cell (cell_of r.rule f) k) t).1 in
-          raw f (subst (λ (x : Cell). r.low ≤ℤ x.index) (sym at) l))) ∙ filter-none (latest_of h)));
+          raw f (subst (λ (x : Cell). r.low ≤ℤ x.index) (sym at) l)))));
       live = λ k l. s.live k l ∙ sym (live_of-held cut (latest_of h) held holds (latest-distinct (accepted h)) r.rule k);
     }
 
@@ -138,14 +135,6 @@ dropped name s = record {
   rules = filter (stays_under name) s.rules;
 }
 
-rules_left : (name : Text) (rs : List RuleCells) → map rule_of (filter (stays_under name) rs) ≡ filter (is_unnamed name) (map rule_of rs)
-rules_left name [] = refl
-rules_left name (r ∷ rs) =
-    elim (is_unnamed name r.rule) as (λ b. map rule_of (cond b (r ∷ filter (stays_under name) rs) (filter (stays_under name) rs)) ≡ cond b (r.rule ∷ filter (is_unnamed name) (map rule_of rs)) (filter (is_unnamed name) (map rule_of rs))) [
-      | true ↦ ap (λ xs. r.rule ∷ xs) (rules_left name rs)
-      | false ↦ rules_left name rs
-    ]
-
 lows_left : (f : Rule → ℤ) (name : Text) (rs : List RuleCells) → map lowest_of rs ≡ map f (map rule_of rs) → map lowest_of (filter (stays_under name) rs) ≡ map f (filter (is_unnamed name) (map rule_of rs))
 lows_left f name [] e = refl
 lows_left f name (r ∷ rs) e =
@@ -156,15 +145,11 @@ lows_left f name (r ∷ rs) e =
       | false ↦ rest
     ]
 
-all_left : {X : Type 0} (P : X → Type 0) (p : X → Bool) (xs : List X) → AllByRecursion P xs → AllByRecursion P (filter p xs)
-all_left P p [] a = tt
-all_left P p (x ∷ xs) a = elim (p x) as (λ b. AllByRecursion P (cond b (x ∷ filter p xs) (filter p xs))) [ true ↦ (a.0, all_left P p xs a.1) | false ↦ all_left P p xs a.1 ]
-
 pub dropped_stands : (opening : Settings) (h : History) (s : StoreState) (name : Text) → StandsFor opening h s → IsTrue (is_named s.settings.rules name) → StandsFor opening (DropRule name ∷ h) (dropped name s)
 dropped_stands opening h s name st named =
     let old : map lowest_of s.rules ≡ map (low_of opening h) (map rule_of s.rules) =
     st.lows ∙ ap (λ (m : Marks). m.lows) st.marks ∙ ap (map (low_of opening h)) (sym (st.rules ∙ ap (λ (x : Settings). x.rules) st.settings)) in
-    let rules : map rule_of (filter (stays_under name) s.rules) ≡ filter (is_unnamed name) s.settings.rules = rules_left name s.rules ∙ ap (filter (is_unnamed name)) st.rules in
+    let rules : map rule_of (filter (stays_under name) s.rules) ≡ filter (is_unnamed name) s.settings.rules = sym (filter-map (is_unnamed name) rule_of s.rules) ∙ ap (filter (is_unnamed name)) st.rules in
     let lows : map lowest_of (filter (stays_under name) s.rules) ≡ map (low_of opening h) (filter (is_unnamed name) (settings_of opening h).rules) =
     lows_left (low_of opening h) name s.rules old ∙ ap (λ rs. map (low_of opening h) (filter (is_unnamed name) rs)) (st.rules ∙ ap (λ (x : Settings). x.rules) st.settings) in
     record {
@@ -183,5 +168,5 @@ dropped_stands opening h s name st named =
       raw = st.raw;
       rules = rules;
       lows = refl;
-      rolled = all_left (HasCells (kept_from opening h s.waiting) (latest_of h)) (stays_under name) s.rules st.rolled;
+      rolled = all_filter (HasCells (kept_from opening h s.waiting) (latest_of h)) (stays_under name) s.rules st.rolled;
     }

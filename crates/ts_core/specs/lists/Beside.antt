@@ -1,5 +1,6 @@
 -- Lists side by side, such as a store's rules, their low indices and their cells. (Own rules.)
-use Rattle.std.specs.Prelude.{List, [], ◌∷◌}
+use Rattle.std.specs.Prelude.{List, [], ◌∷◌, Bool, map, filter}
+use Rattle.std.specs.List.{zip}
 
 -- R holds at each place that both lists have
 abbrev pub OfEach : {X Y : Type 0} → (X → Y → Type 0) → List X → List Y → Type 0
@@ -14,6 +15,10 @@ AllZipBeside R xs [] (z ∷ zs) = ⊥
 AllZipBeside R xs (y ∷ ys) [] = ⊥
 AllZipBeside R [] (y ∷ ys) (z ∷ zs) = Unit {0}
 AllZipBeside R (x ∷ xs) (y ∷ ys) (z ∷ zs) = R x y z × AllZipBeside R xs ys zs
+
+-- each item of the second list whose neighbour in the first passes the test
+abbrev pub kept_beside : {X Y : Type 0} → (X → Bool) → List X → List Y → List Y
+kept_beside p xs ys = map (λ z. z.1) (filter (λ z. p z.0) (zip xs ys))
 
 -- each item of the second list, changed by the item of the first at its place, if there is one
 abbrev pub changed_beside : {X Y : Type 0} → (X → Y → Y) → List X → List Y → List Y

@@ -1,8 +1,9 @@
 -- Transitions of a store's content that add and drop rules, and their laws. (Own rules.)
-use Rattle.std.specs.Prelude.{◌≡◌, ℕ, ◌<◌, ℤ, pos, filter, ◌+ℤ◌, ◌≤ℤ◌, ◌<ℤ◌, ◌≤◌, ◌^◌, unsigned_abs, FitsSigned, Bool, true, IsTrue, List, [], ◌∷◌, ◌++◌, length, Some, None, if◌then◌else◌}
+use Rattle.std.specs.Prelude.{◌≡◌, ℕ, ◌<◌, ℤ, pos, filter, ◌+ℤ◌, ◌≤ℤ◌, ◌<ℤ◌, ◌≤◌, ◌^◌, unsigned_abs, FitsSigned, true, IsTrue, List, [], ◌∷◌, ◌++◌, length, Some, None}
 use Rattle.std.specs.Int.{int_max, w64}
 use Rattle.std.specs.List.{remove}
 use Rattle.std.specs.FinMap as finmap
+use Rattle.ts_core.specs.lists.Beside.{kept_beside}
 use Rattle.ts_core.specs.lists.Members.{Among}
 use Rattle.ts_core.specs.facts.Facts.{Text, Fact}
 use Rattle.ts_core.specs.facts.Times.{least_time}
@@ -38,12 +39,6 @@ rule_added r low m k = record {
 }
 
 -- ---- a rule is dropped
-
--- the items whose rules pass the test, from lists of equal length
-abbrev pub kept_beside : {X : Type 0} → (Rule → Bool) → List Rule → List X → List X
-kept_beside p [] xs = []
-kept_beside p (r ∷ rs) [] = []
-kept_beside p (r ∷ rs) (x ∷ xs) = if p r then x ∷ kept_beside p rs xs else kept_beside p rs xs
 
 -- The rule at an index has the name, and no other rule has it. So dropping the name removes the rule with this index.
 pub record IsRuleAt (name : Text) (rules : List Rule) (index : ℕ) : Type 0 where

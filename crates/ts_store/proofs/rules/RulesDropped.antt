@@ -3,14 +3,16 @@ use Rattle.std.proofs.Common.{◌≡◌, ℕ, zero, suc, ℤ, Bool, true, false,
 use Rattle.std.specs.FinMap as finmap
 use Rattle.std.specs.List.{AllByRecursion, remove}
 use Rattle.ts_core.specs.facts.Facts.{Text, Column}
+use Rattle.ts_core.specs.lists.Beside.{kept_beside}
 use Rattle.ts_core.specs.settings.Settings.{Rule, Settings, is_unnamed}
 use Rattle.ts_core.specs.store.Marks.{Marks}
 use Rattle.ts_core.specs.store.StoreStates.{RuleCells, column_of, facts_of}
 use Rattle.ts_core.specs.store.StoreData.{CellMap, StoreData, rules_of, IsLive}
-use Rattle.ts_core.specs.moves.RuleMoves.{IsEven, IsRuleAt, kept_beside, rule_dropped}
+use Rattle.ts_core.specs.moves.RuleMoves.{IsEven, IsRuleAt, rule_dropped}
 use Rattle.ts_core.proofs.settings.RuleLaws.{without_rule-faultless}
-use Rattle.ts_core.proofs.moves.RulesMove.{rule_goes, left_dropped, even_dropped}
-use Rattle.ts_core.proofs.lists.BesideLemmas.{OfEach-kept}
+use Rattle.ts_core.proofs.moves.RulesMove.{rules_kept, rule_goes, left_dropped, even_dropped}
+use Rattle.ts_core.proofs.lists.BesideLemmas.{OfEach-kept, kept-map}
+use Rattle.ts_core.proofs.lists.ListSteps.{all_filter, map-remove}
 use Rattle.ts_store.specs.store.PossibleCells.{HasPossibleCells}
 use Rattle.ts_store.specs.store.CellCounts.{HoldsFew}
 use Rattle.ts_store.specs.store.ColumnStates.{StoreContent}
@@ -23,12 +25,6 @@ use Rattle.ts_store.specs.store.SizedStores.{IsSizedRule}
 
 -- ---- lists without one of their items
 
-removed : {X Y : Type 0} (f : X → Y) (xs : List X) (i : ℕ) → map f (remove xs i) ≡ remove (map f xs) i
-removed f [] zero = refl
-removed f [] (suc i) = refl
-removed f (x ∷ xs) zero = refl
-removed f (x ∷ xs) (suc i) = ap (λ ys. f x ∷ ys) (removed f xs i)
-
 rollups_removed : (rs : List Rule) (cs : List Column) (ss : List RollupState) (i : ℕ) → AreRollups rs cs ss → AreRollups (remove rs i) cs (remove ss i)
 rollups_removed [] cs [] zero h = tt
 rollups_removed [] cs [] (suc i) h = tt
@@ -37,27 +33,10 @@ rollups_removed (r ∷ rs) cs [] i h = absurd h
 rollups_removed (r ∷ rs) cs (s ∷ ss) zero h = h.1
 rollups_removed (r ∷ rs) cs (s ∷ ss) (suc i) h = (h.0, rollups_removed rs cs ss i h.1)
 
-module _ (p : Rule → Bool) where
-  sized_beside : (P : RuleCells → Type 0) (rs : List Rule) (lows : List ℤ) (ms : List CellMap) → length lows ≡ length rs → length ms ≡ length rs → AllByRecursion P (rules_of rs lows ms)
-      → AllByRecursion P (rules_of (filter p rs) (kept_beside p rs lows) (kept_beside p rs ms))
-  sized_beside P [] lows ms d e h = tt
-  sized_beside P (r ∷ rs) [] ms d e h = absurd (omega (arith, d))
-  sized_beside P (r ∷ rs) (low ∷ lows) [] d e h = absurd (omega (arith, e))
-  sized_beside P (r ∷ rs) (low ∷ lows) (m ∷ ms) d e h =
-      let rest = sized_beside P rs lows ms (omega (arith, d)) (omega (arith, e)) h.1 in
-      elim (p r) as (λ b. AllByRecursion P (rules_of (cond b (r ∷ filter p rs) (filter p rs)) (cond b (low ∷ kept_beside p rs lows) (kept_beside p rs lows)) (cond b (m ∷ kept_beside p rs ms) (kept_beside p rs ms)))) [
-        | true ↦ (h.0, rest)
-        | false ↦ rest
-      ]
-
-  beside_map : {X Y : Type 0} (f : X → Y) (rs : List Rule) (xs : List X) → map f (kept_beside p rs xs) ≡ kept_beside p rs (map f xs)
-  beside_map f [] xs = refl
-  beside_map f (r ∷ rs) [] = refl
-  beside_map f (r ∷ rs) (x ∷ xs) =
-      elim (p r) as (λ b. map f (cond b (x ∷ kept_beside p rs xs) (kept_beside p rs xs)) ≡ cond b (f x ∷ kept_beside p rs (map f xs)) (kept_beside p rs (map f xs))) [
-        | true ↦ ap (λ ys. f x ∷ ys) (beside_map f rs xs)
-        | false ↦ beside_map f rs xs
-      ]
+-- what holds of each rule with its low index and its cells holds of those that pass
+all_kept : (P : RuleCells → Type 0) (p : Rule → Bool) (rs : List Rule) (lows : List ℤ) (ms : List CellMap) → length lows ≡ length rs → length ms ≡ length rs → AllByRecursion P (rules_of rs lows ms)
+    → AllByRecursion P (rules_of (filter p rs) (kept_beside p rs lows) (kept_beside p rs ms))
+all_kept P p rs lows ms d e h = subst (AllByRecursion P) (rules_kept p rs lows ms d e) (all_filter P (λ (r : RuleCells). p r.rule) (rules_of rs lows ms) h)
 
 -- ---- the store
 
@@ -76,7 +55,7 @@ module _ (settings : Settings) (marks : Marks) (n : ℕ) (held : StoreContent) (
 
   pub is_dropped : data_of_parts (record { raw_duration = settings.raw_duration; rules = remove settings.rules i }) (record { raw = marks.raw; lows = remove marks.lows i }) n (without_rollup i held) run ≡ later
   is_dropped =
-      let cells : cells_of (remove held.rollups i) ≡ kept_beside stays settings.rules (cells_of held.rollups) = removed (λ (s : RollupState). s.grid.cells) held.rollups i ∙ sym (at.cells (cells_of held.rollups) kept.sized.cells) in
+      let cells : cells_of (remove held.rollups i) ≡ kept_beside stays settings.rules (cells_of held.rollups) = map-remove (λ (s : RollupState). s.grid.cells) held.rollups i ∙ sym (at.cells (cells_of held.rollups) kept.sized.cells) in
       λ j. record {
         settings = record { raw_duration = settings.raw_duration; rules = sym at.without j };
         marks = record { raw = marks.raw; lows = sym (at.lows marks.lows kept.sized.lows) j };
@@ -107,7 +86,7 @@ module _ (settings : Settings) (marks : Marks) (n : ℕ) (held : StoreContent) (
       once = kept.sized.once;
       lows = (even_dropped now name lasting).lows;
       cells = (even_dropped now name lasting).cells;
-      rules = sized_beside stays (IsSizedRule marks.raw (facts_of held.columns)) settings.rules marks.lows (cells_of held.rollups) kept.sized.lows kept.sized.cells kept.sized.rules;
+      rules = all_kept (IsSizedRule marks.raw (facts_of held.columns)) stays settings.rules marks.lows (cells_of held.rollups) kept.sized.lows kept.sized.cells kept.sized.rules;
     };
   }
 
@@ -117,7 +96,7 @@ module _ (settings : Settings) (marks : Marks) (n : ℕ) (held : StoreContent) (
     history = λ opening h st. rule_goes opening h now name st lasting at.named;
     columns = refl;
     waiting = refl;
-    cells = beside_map stays (λ (m : CellMap). finmap.keys m) settings.rules (cells_of held.rollups);
+    cells = kept-map stays (λ (m : CellMap). finmap.keys m) settings.rules (cells_of held.rollups);
     left = left_dropped now name lasting;
   }
 

@@ -5,7 +5,7 @@ use Rattle.ts_core.specs.settings.Settings.{Rule, Settings, is_unnamed}
 use Rattle.ts_core.specs.store.History.{Step}
 use Rattle.ts_core.specs.store.Marks.{Marks}
 use Rattle.ts_core.specs.store.StoreData.{StoreData, GoesOn}
-use Rattle.ts_core.specs.moves.RuleMoves.{kept_beside}
+use Rattle.ts_core.specs.lists.Beside.{kept_beside}
 use Rattle.ts_core.specs.declared.facts.time_unit.TimeUnit.{TimeUnit}
 use Rattle.ts_store.specs.store.Inventories.{Inventory, inventory_of, facts_of_text, GrowsAfter, steps_in, StepsTo}
 use Rattle.ts_store.specs.store.WholeStates.{WholeState, IsWholeStateOf, rules_in, lows_in, left_in, is_last, with_step, StepsOnce, TakesSteps, AddsRuleTo, state_without_rule, LineWrites}

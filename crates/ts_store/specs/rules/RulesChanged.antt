@@ -12,7 +12,8 @@ use Rattle.ts_core.specs.store.Marks.{first_from}
 use Rattle.ts_core.specs.moves.Runs.{steps_left}
 use Rattle.ts_core.specs.store.StoreStates.{facts_of}
 use Rattle.ts_core.specs.store.StoreData.{CellMap, StoreData, state_of, GoesOn}
-use Rattle.ts_core.specs.moves.RuleMoves.{IsFresh, rule_added, rule_dropped, kept_beside}
+use Rattle.ts_core.specs.lists.Beside.{kept_beside}
+use Rattle.ts_core.specs.moves.RuleMoves.{IsFresh, rule_added, rule_dropped}
 use Rattle.ts_store.specs.store.Inventories.{Inventory, inventory_of, AreFilled}
 
 -- ---- a rule is added

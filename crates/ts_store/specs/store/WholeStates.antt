@@ -6,7 +6,7 @@ use Rattle.ts_core.specs.settings.Settings.{Rule, is_unnamed}
 use Rattle.ts_core.specs.store.History.{Begin, Step, settings_of}
 use Rattle.ts_core.specs.store.Marks.{marks_of}
 use Rattle.ts_core.specs.store.StoreData.{StoreData}
-use Rattle.ts_core.specs.moves.RuleMoves.{kept_beside}
+use Rattle.ts_core.specs.lists.Beside.{kept_beside}
 use Rattle.ts_core.specs.declared.facts.time_unit.TimeUnit.{TimeUnit}
 use Rattle.ts_store.specs.store.Inventories.{Inventory, inventory_of, all_waiting, facts_of_text, GrowsBy, GrowsInPart, steps_in, StepsTo}
 use Rattle.ts_store.specs.write.LineTexts.{LineState, IsStateOf, parts_in, WritesText, RunsOutOfMemory}
