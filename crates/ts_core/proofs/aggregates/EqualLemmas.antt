@@ -42,9 +42,8 @@ equal_itself x =
 
 same_options : (x y : Option Extremes) → option_eq eq-value.it x y ≡ true → x ≡ y
 same_options None None h = refl
-same_options None (Some y) h = absurd (true≢false (sym h))
-same_options (Some x) None h = absurd (true≢false (sym h))
 same_options (Some x) (Some y) h = ap Some (same_extremes x y h)
+same_options _ _ h = absurd (true≢false (sym h))
 
 option_itself : (x : Option Extremes) → option_eq eq-value.it x x ≡ true
 option_itself None = refl

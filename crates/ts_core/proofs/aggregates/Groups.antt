@@ -1,5 +1,6 @@
 -- Folds by groups: together they are the fold of all.
-use Rattle.std.proofs.Common.{◌≡◌, ℕ, ℤ, Bool, true, false, not, List, [], ◌∷◌, filter, refl, sym, ◌∙◌, ap, ap₂, subst, inl, inr, ⊎_elim, true≢false}
+use Rattle.std.proofs.lemmas.Bool.{not-true, not_from_false, false_from_ne_true}
+use Rattle.std.proofs.Common.{◌≡◌, ℕ, ℤ, Bool, true, not, List, [], ◌∷◌, filter, refl, sym, ◌∙◌, ap, ap₂, subst, inl, inr, ⊎_elim, true≢false}
 use Rattle.ts_core.specs.lists.Members.{Among, AllDistinct}
 use Rattle.ts_core.specs.aggregates.Partials.{PartialLaws, fold_by}
 use Rattle.ts_core.proofs.aggregates.Folds.{fold-split}
@@ -21,10 +22,6 @@ module _ {M : Type 0} {empty : M} {single : ℤ → ℤ → M} {merge : M → M 
   groups_same xs ys [] h = refl
   groups_same xs ys (k ∷ ks) h = ap₂ merge (ap total (h k (inl refl))) (groups_same xs ys ks (λ j a. h j (inr a)))
 
-  not_true : (b : Bool) → not b ≡ true → b ≡ true → ⊥
-  not_true true h e = true≢false (sym h)
-  not_true false h e = true≢false (sym e)
-
   -- of distinct keys, among which each member's key is
   pub fold-groups : (ks : List K) → AllDistinct ks → (xs : List X) → ((x : X) → Among x xs → Among (key x) ks) → total xs ≡ by_groups xs ks
   fold-groups [] d xs h = ap total (no_members xs h)
@@ -32,12 +29,9 @@ module _ {M : Type 0} {empty : M} {single : ℤ → ℤ → M} {merge : M → M 
       let rest : List X = filter (λ x. not (same (key x) k)) xs in
       let inside : (x : X) → Among x rest → Among (key x) ks = λ x a.
       ⊎_elim {C = Among (key x) ks}
-      (λ e. absurd (not_true (same (key x) k) (Among-filter_passes (λ y. not (same (key y) k)) x xs a) (subst (λ j. same j k ≡ true) (sym e) (itself k))))
+      (λ e. absurd (true≢false (sym (subst (λ j. same j k ≡ true) (sym e) (itself k)) ∙ not-true _ (Among-filter_passes (λ y. not (same (key y) k)) x xs a))))
       (λ b. b) (h x (Among-filter_was (λ y. not (same (key y) k)) x xs a)) in
       let alike : (j : K) → Among j ks → of_group rest j ≡ of_group xs j = λ j a.
       filter-filter (λ x. same (key x) j) (λ x. not (same (key x) k)) (λ x e.
-      elim (same (key x) k) as (λ b. same (key x) k ≡ b → not b ≡ true) [
-        | true ↦ λ t. absurd (d.0 (subst (λ z. Among z ks) (sym (exact (key x) j e) ∙ exact (key x) k t) a))
-        | false ↦ λ t. refl
-      ] refl) xs in
+      not_from_false _ (false_from_ne_true _ (λ t. d.0 (subst (λ z. Among z ks) (sym (exact (key x) j e) ∙ exact (key x) k t) a)))) xs in
       fold-split laws one (λ x. same (key x) k) xs ∙ ap (merge (total (of_group xs k))) (fold-groups ks d.1 rest inside ∙ groups_same rest xs ks alike)

@@ -1,4 +1,5 @@
 -- The rest of an aggregate, if it is determined: the aggregate of the other points.
+use Rattle.std.proofs.lemmas.Option.{same_Some}
 use Rattle.std.proofs.Common.{◌≡◌, ℕ, ◌+◌, ◌-◌, ◌<◌, ℤ, ◌+ℤ◌, ◌-ℤ◌, ◌<ℤ◌, List, [], ◌∷◌, refl, sym, ◌∙◌, ap, subst, arith, Option, Some, None, MatchOption, IsSome, IfSome, ⊎_elim, Ordering, Less, int_cmp}
 use Rattle.std.specs.Cmp.{IsTotalOrder, int_cmp_total, int_cmp_is}
 use Rattle.std.proofs.lemmas.Int.{ints}
@@ -32,9 +33,6 @@ module _ {K : Type 0} {R : K → K → Ordering} (o : IsTotalOrder R) (exact : C
   other_one p r w b e =
       ⊎_elim {C = r ≡ w} (λ (k : lesser R p r ≡ p). absurd (not_itself o exact p (subst (λ z. R z p ≡ Less) (sym e ∙ k) b))) (λ (k : lesser R p r ≡ r). sym k ∙ e) (lesser_one R p r)
 
-the_extremes : (x y : Extremes) → Some x ≡ Some y → x ≡ y
-the_extremes x y e = cc
-
 extremes_given : (w p : Extremes) → AreBeyond w p → extremes_of_both p w ≡ w
 extremes_given w p b =
     let min = lesser-before int_cmp_total exact_signed p.min w.min (before_from_lt w.min p.min b.min) in
@@ -52,15 +50,13 @@ extremes_only w p r b e =
     λ i. record { min = min i; max = max i; first = first i; last = last i }
 
 options_given : (w p : Option Extremes) → BothAreBeyond w p → merged_extremes p w ≡ w
-options_given None p b = absurd b
-options_given (Some w) None b = absurd b
 options_given (Some w) (Some p) b = ap Some (extremes_given w p b)
+options_given _ p b = absurd b
 
 options_only : (w p r : Option Extremes) → BothAreBeyond w p → merged_extremes p r ≡ w → r ≡ w
-options_only None p r b e = absurd b
-options_only (Some w) None r b e = absurd b
-options_only (Some w) (Some p) None b e = absurd (not_itself int_cmp_total exact_signed p.min (subst (λ z. int_cmp z p.min ≡ Less) (ap (λ (x : Extremes). x.min) (sym (the_extremes p w e))) (before_from_lt w.min p.min b.min)))
-options_only (Some w) (Some p) (Some r) b e = ap Some (extremes_only w p r b (the_extremes (extremes_of_both p r) w e))
+options_only (Some w) (Some p) None b e = absurd (not_itself int_cmp_total exact_signed p.min (subst (λ z. int_cmp z p.min ≡ Less) (ap (λ (x : Extremes). x.min) (sym (same_Some p w e))) (before_from_lt w.min p.min b.min)))
+options_only (Some w) (Some p) (Some r) b e = ap Some (extremes_only w p r b (same_Some (extremes_of_both p r) w e))
+options_only _ p r b e = absurd b
 
 left_over : (m n : ℕ) (s : ℤ) (p w : Option Extremes) → BothAreBeyond w p → MatchOption w (record { count = m - n; sum = s; extremes = w } ≡ empty_aggregate) (IsSpread (m - n) s) → n < m
 left_over m n s p None b h = absurd b
@@ -69,14 +65,11 @@ left_over m n s p (Some w) b h = let a = h.some in omega arith
 sum_back : (p r w : ℤ) → p +ℤ r ≡ w → r ≡ w -ℤ p
 sum_back p r w e = grind (arith, ints)
 
-sum_given : (p w : ℤ) → p +ℤ (w -ℤ p) ≡ w
-sum_given p w = omega (arith, ints)
-
 pub IsOnlyRest-inner : (whole part : Aggregate) → LiesInside part whole → IsOnlyRest IsSound merged whole part (inner_rest whole part)
 IsOnlyRest-inner whole part l =
     let fewer : part.count < whole.count = left_over whole.count part.count (whole.sum -ℤ part.sum) part.extremes whole.extremes l.beyond l.possible in
     let count : part.count + (whole.count - part.count) ≡ whole.count = omega arith in
-    let sum = sum_given part.sum whole.sum in
+    let sum : part.sum +ℤ (whole.sum -ℤ part.sum) ≡ whole.sum = omega (arith, ints) in
     let extremes = options_given whole.extremes part.extremes l.beyond in
     record {
       possible = l.possible;

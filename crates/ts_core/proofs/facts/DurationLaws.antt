@@ -1,5 +1,7 @@
 -- Reading durations: the result is the sum of the terms, and each list of terms is read.
-use Rattle.std.proofs.Common.{◌≡◌, ◌≢◌, ◌⊎◌, ℕ, ◌+◌, ◌-◌, ◌*◌, ◌<◌, ◌&&◌, nat_lt, Bool, true, false, not, List, [], ◌∷◌, ◌++◌, length, cond, Option, Some, None, option_map, option_and_then, unsigned_abs, inl, inr, ⊎_elim, refl, sym, ap, ◌∙◌, arith, append_assoc, append-nil}
+use Rattle.ts_core.proofs.text.NumberLemmas.{digit_below}
+use Rattle.std.proofs.lemmas.Bool.{and_parts, cases_Bool}
+use Rattle.std.proofs.Common.{◌≡◌, ◌≢◌, ℕ, ◌+◌, ◌-◌, ◌*◌, ◌<◌, nat_lt, Bool, true, false, not, List, [], ◌∷◌, ◌++◌, length, cond, Option, Some, None, option_map, option_and_then, unsigned_abs, ⊎_elim, refl, sym, ap, ◌∙◌, arith, append_assoc, append-nil}
 use Rattle.std.proofs.lemmas.Bool.{not-true}
 use Rattle.std.proofs.lemmas.Bool.Decides.{nat_tests}
 use Rattle.std.specs.List.{list_all}
@@ -19,17 +21,6 @@ digit_is b h = grind (arith, nat_tests)
 
 pub value_is : (b : ℕ) → is_ascii_digit b ≡ true → digit_value b ≡ b - 48
 value_is b h = grind (arith, nat_tests)
-
-counts_below : (b : ℕ) → is_ascii_digit b ≡ true → digit_value b < 10
-counts_below b h = grind (arith, nat_tests)
-
-pub either : (b : Bool) → (b ≡ true) ⊎ (b ≡ false)
-either true = inl refl
-either false = inr refl
-
-and_both : (a b : Bool) → (a && b) ≡ true → (a ≡ true) × (b ≡ true)
-and_both true b h = (refl, h)
-and_both false b h = absurd (cc)
 
 -- a byte or more, and no digit
 abbrev is_lettered : Text → Bool
@@ -56,7 +47,7 @@ digits_read s n (b ∷ bs) rest w =
 letters_read : (s n : ℕ) (name ls rest : Text) → is_lettered ls ≡ true → added_up s n name (ls ++ rest) ≡ added_up s n (name ++ ls) rest
 letters_read s n name [] rest w = ap (λ (t : Text). added_up s n t rest) (sym (append-nil name))
 letters_read s n name (b ∷ bs) rest w =
-    let both = and_both (not (is_ascii_digit b)) (is_lettered bs) w in
+    let both = and_parts (not (is_ascii_digit b)) (is_lettered bs) w in
     let letter = not-true (is_ascii_digit b) both.0 in
     let here : added_up s n name (b ∷ (bs ++ rest)) ≡ added_up s n (name ++ b ∷ []) (bs ++ rest) = rw letter refl in
     here ∙ letters_read s n (name ++ b ∷ []) bs rest both.1 ∙ ap (λ (t : Text). added_up s n t rest) (append_assoc name (b ∷ []) bs)
@@ -143,7 +134,7 @@ came_digit s n [] b bs m digit ih e =
       unit = c.unit;
       terms = c.terms;
       text_is = ap (λ (t : Text). b ∷ t) c.text_is;
-      are_digits = (counts_below b digit, c.are_digits);
+      are_digits = (digit_below b digit, c.are_digits);
       behind = λ some. absurd (some refl);
       called = c.called;
       are_terms = c.are_terms;
@@ -165,7 +156,7 @@ came_digit s n (x ∷ xs) b bs m digit ih e =
       are_digits = tt;
       behind = λ some. refl;
       called = ap duration_unit_of (append-nil (x ∷ xs)) ∙ k.called;
-      are_terms = (record { number = (omega arith, (counts_below b digit, c.are_digits)); called = c.called }, c.are_terms);
+      are_terms = (record { number = (omega arith, (digit_below b digit, c.are_digits)); called = c.called }, c.are_terms);
       sum = omega (arith, worth, k.sum);
     }
 
@@ -203,7 +194,7 @@ came s n name (b ∷ bs) m e =
       are_terms = c.are_terms;
       sum = c.sum ∙ ap (λ (ds : Text). s + (digits_value_after 10 n ds * unsigned_abs (nanoseconds_of c.unit) + total c.terms)) none;
     })
-    (either (is_ascii_digit b))
+    (cases_Bool (is_ascii_digit b))
 
 abbrev OfTerms : Text → ℕ → Type 0
 OfTerms text n = (ts : List Term) × AreTerms ts × (ts ≢ []) × (spelled ts ≡ text) × (total ts ≡ n)
@@ -219,7 +210,7 @@ first_came b bs m true is e =
     let term = term_of (b ∷ c.digits) c.letters c.unit in
     let worth : m ≡ 0 + (digits_value 10 (b ∷ c.digits) * unsigned_abs (nanoseconds_of c.unit) + total c.terms) =
     c.sum ∙ ap (λ (d : ℕ). 0 + (digits_value_after 10 (0 * 10 + d) c.digits * unsigned_abs (nanoseconds_of c.unit) + total c.terms)) (sym (value_is b is)) in
-    (term ∷ c.terms, (record { number = (omega arith, (counts_below b is, c.are_digits)); called = c.called }, c.are_terms), no_terms term c.terms, ap (λ (t : Text). b ∷ t) (sym c.text_is), omega (arith, worth))
+    (term ∷ c.terms, (record { number = (omega arith, (digit_below b is, c.are_digits)); called = c.called }, c.are_terms), no_terms term c.terms, ap (λ (t : Text). b ∷ t) (sym c.text_is), omega (arith, worth))
 
 read_came : (text : Text) (m : ℕ) → duration_of text ≡ Some m → OfTerms text m
 unfolding duration_of

@@ -6,19 +6,13 @@ use Rattle.std.specs.Char.{is_ascii_digit}
 use Rattle.ts_core.proofs.lists.ListSteps.{slice_step}
 use Rattle.ts_core.specs.facts.Facts.{Text}
 use Rattle.ts_core.specs.declared.facts.time_unit.TimeUnit.{TimeUnit}
-use Rattle.ts_core.specs.declared.facts.time_unit.TimeUnit.TheVariants.{Nanoseconds, Microseconds, Milliseconds, Seconds, Minutes, Hours, Days, Weeks}
+use Rattle.ts_core.specs.declared.facts.time_unit.TimeUnit.TheVariants.{Nanoseconds}
 use Rattle.ts_core.specs.facts.TimeUnits.{nanoseconds_of, duration_unit_of}
 use Rattle.ts_core.specs.facts.Durations.{with_term, before_digit, added_up, in_64_bits, sum_in_64_bits, duration_of}
 
 pub unit_counts : (unit : TimeUnit) → 1 ≤ unsigned_abs (nanoseconds_of unit)
 unit_counts Nanoseconds = lit≤ tt
-unit_counts Microseconds = lit≤ tt
-unit_counts Milliseconds = lit≤ tt
-unit_counts Seconds = lit≤ tt
-unit_counts Minutes = lit≤ tt
-unit_counts Hours = lit≤ tt
-unit_counts Days = lit≤ tt
-unit_counts Weeks = lit≤ tt
+unit_counts _ = lit≤ tt
 
 -- a total has at least the sum and the number that it began with
 pub record Reaches (sum n m : ℕ) : Type 0 where

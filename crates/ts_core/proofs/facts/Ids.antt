@@ -1,4 +1,5 @@
 -- Orders of names and ids: total, with ties only between equal ones.
+use Rattle.std.proofs.lemmas.Bool.{false_from_ne_true}
 use Rattle.std.proofs.Common.{◌≡◌, ◌≢◌, true, false, refl, sym, ◌∙◌, ap, List, Equal, Ordering, is_eq, true≢false, ℤ}
 use Rattle.std.specs.Ordering.{int_cmp}
 use Rattle.std.specs.Cmp.{IsTotalOrder, int_cmp_total}
@@ -49,7 +50,7 @@ pub same_id-refl : (i : Id) → same_id i i ≡ true
 same_id-refl i = ap is_eq (tied_itself ids_total i)
 
 pub other_id : (i j : Id) → i ≢ j → same_id i j ≡ false
-other_id i j n = elim (same_id i j) as (λ b. same_id i j ≡ b → b ≡ false) [ true ↦ λ e. absurd (n (same_id-eq i j e)) | false ↦ λ e. refl ] refl
+other_id i j n = false_from_ne_true _ (λ e. n (same_id-eq i j e))
 
 pub same_text-eq : (s t : Text) → same_text s t ≡ true → s ≡ t
 same_text-eq s t h = exact_bytes s t (equal_of (text_cmp s t) (is_eq-slice_cmp s t ∙ h))

@@ -1,4 +1,5 @@
 -- Latest facts in other words: each accepted id has exactly one, the fact accepted last.
+use Rattle.std.proofs.lemmas.Bool.{not_from_false, false_from_ne_true}
 use Rattle.std.proofs.Common.{◌≡◌, Bool, true, false, cond, not, List, [], ◌∷◌, refl, sym, ◌∙◌, ap, Some, None, inl, inr, ◌⊎◌, ⊎_elim, true≢false}
 use Rattle.std.proofs.lemmas.Option.{same_Some}
 use Rattle.std.proofs.lemmas.Bool.{not-true}
@@ -69,7 +70,4 @@ latest-was (g ∷ fs) f h = ⊎_elim {C = Among f (g ∷ fs)} (λ e. inl e) (λ 
 pub others-new : (fs : List Fact) (f : Fact) → value_at fs (id_of f) ≡ None → others f (latest fs) ≡ latest fs
 others-new fs f h =
     filter-all (is_other f) (latest fs) (λ g k.
-    elim (same_id (id_of g) (id_of f)) as (λ b. same_id (id_of g) (id_of f) ≡ b → not b ≡ true) [
-      | true ↦ λ e. absurd (let n : None ≡ Some g.value = sym h ∙ ap (value_at fs) (sym (same_id-eq (id_of g) (id_of f) e)) ∙ value_at-latest fs g k in cc)
-      | false ↦ λ e. refl
-    ] refl)
+    not_from_false _ (false_from_ne_true _ (λ e. let n : None ≡ Some g.value = sym h ∙ ap (value_at fs) (sym (same_id-eq (id_of g) (id_of f) e)) ∙ value_at-latest fs g k in cc)))

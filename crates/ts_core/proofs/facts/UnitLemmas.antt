@@ -1,4 +1,5 @@
 -- Units of durations: properties of all names by those of each name, and the length of the name at the start of a text.
+use Rattle.std.proofs.lemmas.Option.{same_Some}
 use Rattle.std.proofs.Common.{◌≡◌, ◌⊎◌, ℕ, ◌<◌, Bool, true, false, [], ◌∷◌, cond, Option, Some, None, inl, inr, refl, sym, subst, arith}
 use Rattle.std.specs.Bool.{⊤}
 use Rattle.std.proofs.lemmas.Slice.Eq.{bytes_eq-Decides}
@@ -13,13 +14,10 @@ abbrev pub OfEach : (Text → TimeUnit → Type 0) → UnitNames → Type 0
 OfEach P [] = ⊤
 OfEach P (known ∷ names) = P known.0 known.1 × OfEach P names
 
-some_same : (a b : TimeUnit) → Some a ≡ Some b → a ≡ b
-some_same a b e = cc
-
 of_first : (P : Text → TimeUnit → Type 0) (known : Text × TimeUnit) (names : UnitNames) (name : Text) (unit : TimeUnit) (b : Bool) → (b ≡ true → name ≡ known.0) → P known.0 known.1
     → (unit_called names name ≡ Some unit → P name unit) → cond b (Some known.1) (unit_called names name) ≡ Some unit → P name unit
 of_first P known names name unit true same first rest e =
-    subst (λ (u : TimeUnit). P name u) (some_same known.1 unit e) (subst (λ (t : Text). P t known.1) (sym (same refl)) first)
+    subst (λ (u : TimeUnit). P name u) (same_Some known.1 unit e) (subst (λ (t : Text). P t known.1) (sym (same refl)) first)
 of_first P known names name unit false same first rest e = rest e
 
 pub of_called : (P : Text → TimeUnit → Type 0) (names : UnitNames) (name : Text) (unit : TimeUnit) → OfEach P names → unit_called names name ≡ Some unit → P name unit

@@ -1,11 +1,12 @@
 -- Comparisons that return a boolean, and their meaning.
-use Rattle.std.proofs.Common.{◌≡◌, ℤ, ◌<ℤ◌, ◌≤ℤ◌, int_le, int_lt, arith, refl, sym, ◌∙◌, ap, List, [], ◌∷◌, Bool, true, false, inl, inr, subst, true≢false, is_eq}
+use Rattle.ts_core.proofs.lists.MembersLemmas.{Among-from_any, any-from_Among}
+use Rattle.std.proofs.Common.{◌≡◌, ℤ, ◌<ℤ◌, ◌≤ℤ◌, int_le, int_lt, arith, refl, sym, ◌∙◌, ◌&&◌, ap, List, [], ◌∷◌, Bool, true, false, subst, is_eq}
 use Rattle.std.specs.List.{list_any, list_all, AllByRecursion}
 use Rattle.std.proofs.lemmas.Int.{ints}
 use Rattle.std.proofs.lemmas.Cmp.{nat_list_cmp_total, tied_itself}
 use Rattle.ts_core.specs.lists.Members.{Among}
 use Rattle.std.proofs.lemmas.Map.Text.{is_eq-slice_cmp}
-use Rattle.std.proofs.lemmas.Bool.{and_parts, and_from, or_cases, or_left, or_right}
+use Rattle.std.proofs.lemmas.Bool.{and_parts, and_from}
 use Rattle.ts_core.specs.facts.Facts.{Text, same_text}
 use Rattle.ts_core.proofs.facts.Ids.{same_text-eq}
 
@@ -24,6 +25,10 @@ lt_true x y h = grind (arith, ints)
 pub lt_not : (x y : ℤ) → int_lt x y ≡ false → y ≤ℤ x
 lt_not x y h = grind (arith, ints)
 
+pub and_true : (a : Bool) → a && true ≡ a
+and_true true = refl
+and_true false = refl
+
 -- two tests that say the same are the same
 pub same_bool : (a b : Bool) → (a ≡ true → b ≡ true) → (b ≡ true → a ≡ true) → a ≡ b
 same_bool true b f g = sym (f refl)
@@ -39,14 +44,10 @@ pub same_text-from_eq : (s t : Text) → s ≡ t → same_text s t ≡ true
 same_text-from_eq s t e = subst (λ z. same_text s z ≡ true) e (same_text-refl s)
 
 pub among_texts : (s : Text) (ts : List Text) → list_any (same_text s) ts ≡ true → Among s ts
-among_texts s [] h = absurd (true≢false (sym h))
-among_texts s (t ∷ ts) h =
-    elim (or_cases (same_text s t) (list_any (same_text s) ts) h) as (λ _. Among s (t ∷ ts)) [ inl e ↦ inl (same_text-eq s t e) | inr k ↦ inr (among_texts s ts k) ]
+among_texts = Among-from_any same_text same_text-eq same_text-refl
 
 pub texts_among : (s : Text) (ts : List Text) → Among s ts → list_any (same_text s) ts ≡ true
-texts_among s [] h = absurd h
-texts_among s (t ∷ ts) (inl e) = or_left _ _ (same_text-from_eq s t e)
-texts_among s (t ∷ ts) (inr k) = or_right (same_text s t) _ (texts_among s ts k)
+texts_among = any-from_Among same_text same_text-eq same_text-refl
 
 pub all_among : (ss ts : List Text) → list_all (λ s. list_any (same_text s) ts) ss ≡ true → AllByRecursion (λ s. Among s ts) ss
 all_among [] ts h = tt

@@ -1,11 +1,9 @@
 -- The greatest number below another that passes a test.
+use Rattle.std.proofs.lemmas.Option.{same_Some}
 use Rattle.std.proofs.Common.{◌≡◌, ℕ, zero, suc, ◌+◌, ◌<◌, ◌≤◌, Bool, true, false, cond, Option, Some, None, List, [], ◌∷◌, ◌++◌, length, get_or, refl, sym, ◌∙◌, ap, inl, inr, ◌⊎◌, ⊎_elim, arith, add-one}
 use Rattle.std.proofs.lemmas.List.{get_or_push, get_or_append_left}
 use Rattle.std.proofs.Math.Nat.{eq-or-lt_of_le}
 use Rattle.ts_core.specs.lists.LastBelow.{last_below, last_with}
-
-some_number : (i j : ℕ) → Some i ≡ Some j → i ≡ j
-some_number i j e = cc
 
 pub last_below-more : (p : ℕ → Bool) (n : ℕ) → last_below p (n + 1) ≡ cond (p n) (Some n) (last_below p n)
 unfolding last_below
@@ -19,7 +17,7 @@ last_below-same p q (suc n) h =
     ap (λ b. cond b (Some n) (last_below p n)) (h n (omega arith)) ∙ ap (λ o. cond (q n) (Some n) o) (last_below-same p q n (λ i l. h i (omega (arith, l))))
 
 some_case : (p : ℕ → Bool) (n i : ℕ) (b : Bool) (o : Option ℕ) → p n ≡ b → cond b (Some n) o ≡ Some i → ((i ≡ n) × (p i ≡ true)) ⊎ (o ≡ Some i)
-some_case p n i true o e h = inl (sym (some_number n i h), ap p (sym (some_number n i h)) ∙ e)
+some_case p n i true o e h = inl (sym (same_Some n i h), ap p (sym (same_Some n i h)) ∙ e)
 some_case p n i false o e h = inr h
 
 -- a number that is found is below, and passes
@@ -44,7 +42,7 @@ last_below-none p (suc n) h j l =
     ⊎_elim {C = p j ≡ false} (λ (e : j ≡ n). ap p e ∙ s.0) (λ k. last_below-none p n s.1 j k) (eq-or-lt_of_le most)
 
 gap_case : (p : ℕ → Bool) (n i : ℕ) (b : Bool) (o : Option ℕ) → p n ≡ b → cond b (Some n) o ≡ Some i → (i ≡ n) ⊎ ((p n ≡ false) × (o ≡ Some i))
-gap_case p n i true o e h = inl (sym (some_number n i h))
+gap_case p n i true o e h = inl (sym (same_Some n i h))
 gap_case p n i false o e h = inr (e, h)
 
 -- and none between what is found and the end

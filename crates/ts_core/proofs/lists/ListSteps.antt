@@ -1,12 +1,9 @@
 -- Steps of lists: one more mapped item, tests of mapped items, those that pass one, an item less, and one more byte of a
 -- slice.
-use Rattle.std.proofs.Common.{◌≡◌, ◌≤◌, ◌<◌, ◌+◌, ◌-◌, ◌∙◌, ℕ, zero, suc, take, drop, get_or, slice_range, length-drop, Bool, true, false, cond, ◌||◌, List, [], ◌∷◌, ◌++◌, length, filter, map, arith, refl, ap}
+use Rattle.std.proofs.Common.{◌≡◌, ◌≤◌, ◌<◌, ◌+◌, ◌-◌, ◌∙◌, ℕ, suc, take, drop, get_or, slice_range, length-drop, Bool, true, false, cond, ◌||◌, List, [], ◌∷◌, ◌++◌, length, filter, map, arith, refl, ap}
+pub use Rattle.std.proofs.lemmas.List.{map_push as map-push}
 use Rattle.std.proofs.lemmas.List.{take_more, get_or-drop}
 use Rattle.std.specs.List.{AllByRecursion, list_any, remove}
-
-pub map-push : {X Y : Type 0} (f : X → Y) (xs : List X) (x : X) → map f (xs ++ x ∷ []) ≡ map f xs ++ f x ∷ []
-map-push f [] x = refl
-map-push f (z ∷ xs) x = ap (λ zs. f z ∷ zs) (map-push f xs x)
 
 pub all_push : {X : Type 0} (P : X → Type 0) (xs : List X) (x : X) → AllByRecursion P xs → P x → AllByRecursion P (xs ++ x ∷ [])
 all_push P [] x a p = (p, tt)
@@ -33,10 +30,9 @@ all_filter P p [] a = tt
 all_filter P p (x ∷ xs) a = elim (p x) as (λ b. AllByRecursion P (cond b (x ∷ filter p xs) (filter p xs))) [ true ↦ (a.0, all_filter P p xs a.1) | false ↦ all_filter P p xs a.1 ]
 
 pub map-remove : {X Y : Type 0} (f : X → Y) (xs : List X) (i : ℕ) → map f (remove xs i) ≡ remove (map f xs) i
-map-remove f [] zero = refl
-map-remove f [] (suc i) = refl
-map-remove f (x ∷ xs) zero = refl
 map-remove f (x ∷ xs) (suc i) = ap (λ ys. f x ∷ ys) (map-remove f xs i)
+map-remove f [] (suc i) = refl
+map-remove f _ _ = refl
 
 pub length-filter : {X : Type 0} (p : X → Bool) (xs : List X) → length (filter p xs) ≤ length xs
 length-filter p [] = omega arith

@@ -1,4 +1,6 @@
 -- Members of two joined lists, of a filtered list, of distinct items without one, and of images.
+use Rattle.std.proofs.lemmas.Bool.{or_cases, or_left, or_right}
+use Rattle.std.specs.List.{list_any}
 use Rattle.std.proofs.Common.{◌≡◌, Bool, true, false, cond, List, [], ◌∷◌, ◌++◌, ◌⊎◌, ℕ, zero, suc, Some, filter, map, refl, sym, ◌∙◌, ap, inl, inr, subst, ⊎_elim, true≢false}
 use Rattle.std.specs.List.{slice_get}
 use Rattle.std.proofs.lemmas.Option.{same_Some}
@@ -124,12 +126,26 @@ filter-filter p q h (x ∷ xs) =
       ]
     ] refl
 
+-- ---- the members that a test of equality finds
+
+module _ {X : Type 0} (same : X → X → Bool) (exact : (x y : X) → same x y ≡ true → x ≡ y) (itself : (x : X) → same x x ≡ true) where
+  pub Among-from_any : (x : X) (xs : List X) → list_any (same x) xs ≡ true → Among x xs
+  Among-from_any x [] h = absurd (true≢false (sym h))
+  Among-from_any x (y ∷ ys) h = ⊎_elim {C = Among x (y ∷ ys)} (λ e. inl (exact x y e)) (λ k. inr (Among-from_any x ys k)) (or_cases (same x y) (list_any (same x) ys) h)
+
+  pub any-from_Among : (x : X) (xs : List X) → Among x xs → list_any (same x) xs ≡ true
+  any-from_Among x [] h = absurd h
+  any-from_Among x (y ∷ ys) h = ⊎_elim {C = list_any (same x) (y ∷ ys) ≡ true} (λ e. or_left _ _ (ap (same x) (sym e) ∙ itself x)) (λ k. or_right (same x y) _ (any-from_Among x ys k)) h
+
 -- ---- the members of a list of images
 
 module _ {X Y : Type 0} (f : X → Y) where
   pub Among-map : (x : X) (xs : List X) → Among x xs → Among (f x) (map f xs)
   Among-map x [] a = a
   Among-map x (y ∷ ys) a = ⊎_elim {C = Among (f x) (map f (y ∷ ys))} (λ e. inl (ap f e)) (λ k. inr (Among-map x ys k)) a
+
+  pub Among-map_as : (x : X) (xs : List X) (y : Y) → Among x xs → f x ≡ y → Among y (map f xs)
+  Among-map_as x xs y a e = subst (λ z. Among z (map f xs)) e (Among-map x xs a)
 
   pub map_back : (xs : List X) (y : Y) → Among y (map f xs) → (x : X) × Among x xs × (f x ≡ y)
   map_back [] y a = absurd a

@@ -1,5 +1,5 @@
 -- Entries in the order of their keys: the result of a binary search, and an edit at that index.
-use Rattle.std.proofs.Common.{◌≡◌, ℕ, zero, suc, ◌<◌, ◌≤◌, Bool, true, false, cond, ◌&&◌, T, List, [], ◌∷◌, length, get_or, set, insert, refl, sym, ◌∙◌, ap, Some, Ordering, Less, Equal, Greater, is_lt, is_eq, arith}
+use Rattle.std.proofs.Common.{◌≡◌, ℕ, zero, suc, ◌<◌, ◌≤◌, Bool, true, cond, ◌&&◌, T, List, [], ◌∷◌, length, get_or, set, insert, refl, sym, ◌∙◌, ap, Some, Ordering, Less, Equal, Greater, is_lt, is_eq, arith}
 use Rattle.std.specs.Ordering.{ordering_index, ordering_reverse}
 use Rattle.std.specs.Cmp.{IsTotalOrder}
 use Rattle.std.specs.FinMap.{find, put, is_sorted}
@@ -9,13 +9,11 @@ use Rattle.std.proofs.lemmas.Cmp.{alike_right}
 
 pub both_of : (a b : Bool) → T (a && b) → T a × T b
 both_of true true h = (tt, tt)
-both_of true false h = absurd h
-both_of false b h = absurd h
+both_of _ b h = absurd h
 
 pub less_of : (o : Ordering) → T (is_lt o) → o ≡ Less
 less_of Less h = refl
-less_of Equal h = absurd h
-less_of Greater h = absurd h
+less_of _ h = absurd h
 
 module _ {K : Type 0} {R : K → K → Ordering} (o : IsTotalOrder R) where
   flipped : (x y : K) (a : Ordering) → R x y ≡ a → R y x ≡ ordering_reverse a
@@ -38,11 +36,10 @@ module _ {K X : Type 0} {R : K → K → Ordering} (o : IsTotalOrder R) where
 
   -- the comparisons with a key rise, as a binary search asks
   pub rises : (es : List (K × X)) → T (is_sorted R es) → (k : K) → IsNonDecreasingBy (λ (e : K × X). ordering_index (R e.0 k)) es
-  rises [] s k i j d l h = absurd (omega arith)
   rises (e ∷ es) s k zero zero d l h = omega arith
   rises (e ∷ es) s k zero (suc j) d l h = lower_index o e.0 (get_or es j d).0 k (below_at e.0 es (both_of _ _ s).0 j d (omega arith))
-  rises (e ∷ es) s k (suc i) zero d l h = absurd (omega arith)
   rises (e ∷ es) s k (suc i) (suc j) d l h = rises es (both_of _ _ s).1 k i j d (omega arith) (omega arith)
+  rises _ s k i j d l h = absurd (omega arith)
 
   -- the entry at i has the key: it is found, and a write there puts it
   pub found_at : (es : List (K × X)) → T (is_sorted R es) → (k : K) (i : ℕ) (d : K × X) → i < length es → R (get_or es i d).0 k ≡ Equal → find R k es ≡ Some (get_or es i d).1

@@ -16,9 +16,8 @@ module _ {X : Type 0} (q : X → Bool) where
   none_left (x ∷ xs) w = ap (λ b. cond b (x ∷ filter q xs) (filter q xs)) (w 0 x (omega arith) (omega arith)) ∙ none_left xs (λ k d l h. w (suc k) d (omega arith) (omega arith))
 
   nothing : (n i : ℕ) → take n (drop {A = X} i []) ≡ []
-  nothing zero i = refl
   nothing (suc n) zero = refl
-  nothing (suc n) (suc i) = refl
+  nothing _ i = refl
 
   -- a filter that passes one stretch of a list takes that stretch
   pub filter-window : (xs : List X) (i n : ℕ)
@@ -35,14 +34,14 @@ module _ {X : Type 0} (q : X → Bool) where
 
   -- a filter that refuses a front and passes the rest
   pub filter-rest : (xs : List X) (i : ℕ) → AllWithin (λ x. q x ≡ false) xs 0 i → AllWithin (λ x. q x ≡ true) xs i (length xs) → i ≤ length xs → filter q xs ≡ drop i xs
-  filter-rest [] zero before after h = refl
-  filter-rest [] (suc i) before after h = refl
   filter-rest (x ∷ xs) zero before after h =
       ap (λ b. cond b (x ∷ filter q xs) (filter q xs)) (after 0 x (omega arith) (omega arith))
       ∙ ap (λ zs. x ∷ zs) (filter-rest xs zero (λ k d l m. absurd (omega arith)) (λ k d l m. after (suc k) d (omega arith) (omega arith)) (omega arith))
   filter-rest (x ∷ xs) (suc i) before after h =
       ap (λ b. cond b (x ∷ filter q xs) (filter q xs)) (before 0 x (omega arith) (omega arith))
       ∙ filter-rest xs i (λ k d l m. before (suc k) d (omega arith) (omega arith)) (λ k d l m. after (suc k) d (omega arith) (omega arith)) (omega arith)
+  filter-rest [] zero before after h = refl
+  filter-rest [] (suc i) before after h = refl
 
 in_range : (a b t : ℤ) → int_lt t a ≡ false → int_lt t b ≡ true → is_within a b t ≡ true
 in_range a b t p r = grind (arith, ints)
@@ -59,11 +58,10 @@ before_too x y t h e = grind (arith, ints)
 module _ {X : Type 0} where
   -- those before a number come first
   pub rising_first : (rows : List (ℤ × X)) → T (is_sorted int_cmp rows) → (t : ℤ) → IsPartitionedBy (λ (r : ℤ × X). int_lt r.0 t) rows
-  rising_first [] s t i j d l h e = absurd (omega arith)
   rising_first (x ∷ xs) s t zero zero d l h e = e
   rising_first (x ∷ xs) s t zero (suc j) d l h e = before_too x.0 (get_or xs j d).0 t (below_at int_cmp_total x.0 xs (both_of _ _ s).0 j d (omega arith)) e
-  rising_first (x ∷ xs) s t (suc i) zero d l h e = absurd (omega arith)
   rising_first (x ∷ xs) s t (suc i) (suc j) d l h e = rising_first xs (both_of _ _ s).1 t i j d (omega arith) (omega arith) e
+  rising_first _ s t i j d l h e = absurd (omega arith)
 
   -- i parts those before t from the others
   abbrev pub IsStartOf : ℤ → List (ℤ × X) → ℕ → Type 0

@@ -1,4 +1,6 @@
 -- The effect of freezing a column's points on each cell.
+use Rattle.ts_core.proofs.lists.Comparisons.{and_true}
+use Rattle.std.proofs.lemmas.Bool.{and_right, false_from_ne_true}
 use Rattle.std.proofs.Common.{◌≡◌, ℤ, ◌+◌, ◌≤◌, ◌^◌, Bool, true, false, cond, not, ◌&&◌, ◌||◌, List, [], ◌∷◌, ◌++◌, length, filter, map, refl, sym, ◌∙◌, ap, ap₂, subst, inl, inr, ⊎_elim, int_le, int_lt, arith, Option, Some, None, is_some, is_eq, T, Less, Equal, Greater}
 use Rattle.std.proofs.lemmas.Int.{ints}
 use Rattle.std.specs.FinMap as finmap
@@ -205,19 +207,8 @@ refolded_live r c k facts (p ∷ ps) m there else_same =
 
 -- ---- the facts removed, of all that are kept
 
-goes_not : (mark t : ℤ) → not (int_le mark t) ≡ int_lt t mark
-goes_not mark t = grind (arith, ints)
-
-pub and_false : (a : Bool) → a && false ≡ false
-and_false true = refl
-and_false false = refl
-
-pub and_true : (a : Bool) → a && true ≡ a
-and_true true = refl
-and_true false = refl
-
 not_same : (c d : Column) → (c ≡ d → ⊥) → same_column c d ≡ false
-not_same c d n = elim (same_column c d) as (λ b. same_column c d ≡ b → b ≡ false) [ true ↦ λ e. absurd (n (same_column-eq c d e)) | false ↦ λ e. refl ] refl
+not_same c d n = false_from_ne_true (same_column c d) (λ e. n (same_column-eq c d e))
 
 module _ (c : Column) (mark : ℤ) (p : Fact → Bool) where
   abbrev goes : Fact → Bool
@@ -226,7 +217,7 @@ module _ (c : Column) (mark : ℤ) (p : Fact → Bool) where
   other_stays : (d : Column) (ps : List (ℤ × ℤ)) → same_column d c ≡ false → filter goes (facts_at d ps) ≡ []
   other_stays d [] e = refl
   other_stays d (x ∷ ps) e =
-      ap (λ b. cond b (fact_at d x ∷ filter goes (facts_at d ps)) (filter goes (facts_at d ps))) (ap (λ b. p (fact_at d x) && not (not b || int_le mark x.0)) e ∙ and_false (p (fact_at d x)))
+      ap (λ b. cond b (fact_at d x ∷ filter goes (facts_at d ps)) (filter goes (facts_at d ps))) (ap (λ b. p (fact_at d x) && not (not b || int_le mark x.0)) e ∙ and_right (p (fact_at d x)) false refl)
       ∙ other_stays d ps e
 
   own_goes : (ps : List (ℤ × ℤ)) → filter goes (facts_at c ps) ≡ filter p (facts_at c (points_below mark ps))
@@ -234,10 +225,10 @@ module _ (c : Column) (mark : ℤ) (p : Fact → Bool) where
   own_goes (x ∷ ps) =
       let f : Fact = fact_at c x in
       let rest : List (ℤ × ℤ) = points_below mark ps in
-      ap₂ (λ b zs. cond b (f ∷ zs) zs) (ap (λ b. p f && not (not b || int_le mark x.0)) (same_column-refl c) ∙ ap (λ b. p f && b) (goes_not mark x.0)) (own_goes ps)
+      ap₂ (λ b zs. cond b (f ∷ zs) zs) (ap (λ b. p f && not (not b || int_le mark x.0)) (same_column-refl c) ∙ ap (λ b. p f && b) (let n : not (int_le mark x.0) ≡ int_lt x.0 mark = grind (arith, ints) in n)) (own_goes ps)
       ∙ elim (int_lt x.0 mark) as (λ b. cond (p f && b) (f ∷ filter p (facts_at c rest)) (filter p (facts_at c rest)) ≡ filter p (facts_at c (cond b (x ∷ rest) rest))) [
         | true ↦ ap (λ b. cond b (f ∷ filter p (facts_at c rest)) (filter p (facts_at c rest))) (and_true (p f))
-        | false ↦ ap (λ b. cond b (f ∷ filter p (facts_at c rest)) (filter p (facts_at c rest))) (and_false (p f))
+        | false ↦ ap (λ b. cond b (f ∷ filter p (facts_at c rest)) (filter p (facts_at c rest))) (and_right (p f) false refl)
       ]
 
   others_stay : (ss : List ColumnPoints) → (Among c (map column_of ss) → ⊥) → filter goes (facts_of ss) ≡ []

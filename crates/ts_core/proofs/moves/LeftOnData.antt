@@ -24,16 +24,11 @@ use Rattle.ts_core.proofs.moves.MovesStand.{keys_once, key_there, key_not, put_c
 abbrev pub BelowSame : ℤ → CellMap → CellMap → Type 0
 BelowSame low m n = length (filter (λ (k : Cell). int_lt k.index low) (finmap.keys n)) ≡ length (filter (λ (k : Cell). int_lt k.index low) (finmap.keys m))
 
-below_by_keys : (low : ℤ) (m n : CellMap) → finmap.keys n ≡ finmap.keys m → BelowSame low m n
-below_by_keys low m n e = ap (λ ks. length (filter (λ (k : Cell). int_lt k.index low) ks)) e
-
 -- each rule keeps its keys
 pub turns_beside : (f : Rule → CellMap → CellMap) → ((r : Rule) (m : CellMap) → finmap.keys (f r m) ≡ finmap.keys m) → (rs : List Rule) (lows : List ℤ) (ms : List CellMap)
     → batches_left (rules_of rs lows (changed_beside f rs ms)) ≡ batches_left (rules_of rs lows ms)
-turns_beside f h [] lows ms = refl
-turns_beside f h (r ∷ rs) [] ms = refl
-turns_beside f h (r ∷ rs) (low ∷ lows) [] = refl
-turns_beside f h (r ∷ rs) (low ∷ lows) (m ∷ ms) = ap₂ (λ a b. batches_of a + b) (below_by_keys low m (f r m) (h r m)) (turns_beside f h rs lows ms)
+turns_beside f h (r ∷ rs) (low ∷ lows) (m ∷ ms) = ap₂ (λ a b. batches_of a + b) (ap (λ ks. length (filter (λ (k : Cell). int_lt k.index low) ks)) (h r m)) (turns_beside f h rs lows ms)
+turns_beside f h _ lows ms = refl
 
 turns_line : (rs : List Rule) (lows : List ℤ) (fs : List Fact) (before after : List ColumnPoints) (ms ns : List CellMap) → PutsFacts rs before ms after ns fs → batches_left (rules_of rs lows ns) ≡ batches_left (rules_of rs lows ms)
 turns_line rs lows [] before after ms ns p = ap (λ xs. batches_left (rules_of rs lows xs)) p.1

@@ -19,22 +19,11 @@ length_before [] older = omega arith
 length_before (f ∷ fs) older = let h = length_before fs (f ∷ older) in omega arith
 
 abbrev put_at : List ColumnPoints → List CellMap → ℕ → StoreData → StoreData
-put_at columns ms n k = record {
-  settings = k.settings;
-  marks = k.marks;
-  running = k.running;
-  waiting = k.waiting;
-  series = k.series;
+put_at columns ms n k = record k {
   columns = columns;
   accepted = n;
   cells = ms;
 }
-
-one_later : (a n : ℕ) → a + n + 1 ≡ a + (n + 1)
-one_later a n = omega arith
-
-none_yet : (a : ℕ) → a ≡ a + 0
-none_yet a = omega arith
 
 all_front : (P : Fact → Type 0) (us vs : List Fact) → AllByRecursion P (us ++ vs) → AllByRecursion P us
 all_front P [] vs a = tt
@@ -82,7 +71,7 @@ line_more opening h k n us (f ∷ vs) facts before after ms ns e count same st c
     let s : StoreState = state_of (put_facts before ms n k) in
     let columns : ColumnsToo before between f = same_columns before between f st.columns_once (subst (Among f.column) (sym same) (there f among)) p.0 in
     let next : StandsFor opening (Line (us ++ f ∷ []) ∷ h) (state_of (put_facts between next_cells (n + 1) k)) =
-    subst (λ m. StandsFor opening (Line (us ++ f ∷ []) ∷ h) (state_of (put_at between next_cells m k))) (one_later k.accepted n)
+    subst (λ m. StandsFor opening (Line (us ++ f ∷ []) ∷ h) (state_of (put_at between next_cells m k))) (let e : k.accepted + n + 1 ≡ k.accepted + (n + 1) = omega arith in e)
     (write_more opening h s us f k.series between (rules_of k.settings.rules k.marks.lows next_cells) st taken front columns (λ c a. st.registered c (subst (Among c) p.0 a)) (too before between f p)
     (written_rules between f facts among k.settings.rules k.marks.lows ms cells)) in
     line_more opening h k (n + 1) (us ++ f ∷ []) vs facts between after next_cells ns rest (let l = length-append us (f ∷ []) in omega arith) (p.0 ∙ same) next
@@ -93,5 +82,5 @@ pub line_put : (opening : Settings) (h : History) (k : StoreData) (columns : Lis
     → StandsFor opening (Line facts ∷ h) (state_of (put_facts columns ns (length facts) k))
 line_put opening h k columns facts ms ns st spare there puts lawful =
     line_more opening h k 0 [] facts facts k.columns columns k.cells ns refl refl refl
-    (subst (λ m. StandsFor opening (Line [] ∷ h) (state_of (put_at k.columns k.cells m k))) (none_yet k.accepted) (line_begun opening h (state_of k) st (front_lawful opening h [] facts lawful)))
+    (subst (λ m. StandsFor opening (Line [] ∷ h) (state_of (put_at k.columns k.cells m k))) (let e : k.accepted ≡ k.accepted + 0 = omega arith in e) (line_begun opening h (state_of k) st (front_lawful opening h [] facts lawful)))
     (room_cells k.settings.rules k.marks.lows facts ms k.cells spare) there puts lawful

@@ -1,5 +1,7 @@
 -- Three ways to a live part: one more fact, a replaced fact, and a removed part. If the rest of an aggregate is
 -- determined, no other fact is visited.
+use Rattle.ts_core.proofs.lists.Comparisons.{and_true}
+use Rattle.std.proofs.lemmas.Bool.{and_right}
 use Rattle.std.proofs.Common.{◌≡◌, ℤ, Bool, true, false, cond, not, ◌&&◌, List, [], ◌∷◌, filter, map, refl, sym, ◌∙◌, ap, ap₂, subst, inl, inr, ⊎_elim, true≢false}
 use Rattle.ts_core.specs.lists.Members.{Among, AllDistinct}
 use Rattle.ts_core.specs.facts.Facts.{Fact, Column, Id, id_of, same_id}
@@ -17,7 +19,7 @@ use Rattle.ts_core.proofs.aggregates.RemaindersLemmas.{fold-possible}
 use Rattle.ts_core.proofs.facts.Ids.{same_id-refl}
 use Rattle.ts_core.proofs.store.Cuts.{one_fact, aggregate_where, aggregate_where-part, Part}
 use Rattle.ts_core.proofs.store.Moves.{is_left, left_points}
-use Rattle.ts_core.proofs.moves.Freezing.{gone_held, and_true, and_false}
+use Rattle.ts_core.proofs.moves.Freezing.{gone_held}
 use Rattle.ts_core.proofs.store.RunSteps.{facts_of-left}
 
 -- the aggregate of facts is possible
@@ -92,7 +94,7 @@ both_filters p q (f ∷ fs) =
     let ih = both_filters p q fs in
     elim (q f) as (λ b. cond (p f && b) (f ∷ filter (λ (g : Fact). p g && q g) fs) (filter (λ (g : Fact). p g && q g) fs) ≡ filter p (cond b (f ∷ filter q fs) (filter q fs))) [
       | true ↦ ap (λ b. cond b (f ∷ filter (λ (g : Fact). p g && q g) fs) (filter (λ (g : Fact). p g && q g) fs)) (and_true (p f)) ∙ ap (λ zs. cond (p f) (f ∷ zs) zs) ih
-      | false ↦ ap (λ b. cond b (f ∷ filter (λ (g : Fact). p g && q g) fs) (filter (λ (g : Fact). p g && q g) fs)) (and_false (p f)) ∙ ih
+      | false ↦ ap (λ b. cond b (f ∷ filter (λ (g : Fact). p g && q g) fs) (filter (λ (g : Fact). p g && q g) fs)) (and_right (p f) false refl) ∙ ih
     ]
 
 module _ (c : Column) (mark : ℤ) (before : List ColumnPoints) (ps : List (ℤ × ℤ)) (once : AllDistinct (map column_of before)) (there : Among (record { column = c; points = ps }) before) (r : Rule) (k : Cell) where
@@ -101,8 +103,7 @@ module _ (c : Column) (mark : ℤ) (before : List ColumnPoints) (ps : List (ℤ 
 
   part_left : (a b : Bool) → Part (a && not b) (a && b) a
   part_left true true = tt
-  part_left true false = tt
-  part_left false b = tt
+  part_left _ b = tt
 
   whole : merged gone (total_of r k (facts_of (map (left_points c mark) before))) ≡ total_of r k (facts_of before)
   whole =

@@ -82,15 +82,13 @@ live_grown cut fs before after same holds r low facts m n spare has a k p s =
 -- cells are created, without raw facts
 pub lives_grown : (cut : Column → ℤ) (fs : List Fact) (before after : List ColumnPoints) → facts_of after ≡ facts_of before → Holds cut fs (facts_of before) → (rs : List Rule) (lows : List ℤ) (facts : List Fact) (ms ns : List CellMap)
     → map rule_of (rules_of rs lows ms) ≡ rs → GainEmptyCells rs lows facts ms ns → AllByRecursion (HasCells cut fs) (rules_of rs lows ms) → AreLive before rs ms → AreLive after rs ns
-lives_grown cut fs before after same holds [] lows facts ms ns e spare has a = tt
-lives_grown cut fs before after same holds (r ∷ rs) lows facts [] [] e spare has a = tt
 lives_grown cut fs before after same holds (r ∷ rs) lows facts [] (n ∷ ns) e spare has a = absurd spare
-lives_grown cut fs before after same holds (r ∷ rs) lows facts (m ∷ ms) [] e spare has a = tt
 lives_grown cut fs before after same holds (r ∷ rs) [] facts (m ∷ ms) (n ∷ ns) e spare has a = absurd (cons_not (sym e))
 lives_grown cut fs before after same holds (r ∷ rs) (low ∷ lows) facts (m ∷ ms) (n ∷ ns) e spare has a = (
   live_grown cut fs before after same holds r low facts m n spare.0 has.0 a.0,
   lives_grown cut fs before after same holds rs lows facts ms ns (same_rest r r (map rule_of (rules_of rs lows ms)) rs e) spare.1 has.1 a.1,
 )
+lives_grown cut fs before after same holds _ lows facts ms ns e spare has a = tt
 
 -- ---- facts are put
 
@@ -104,14 +102,11 @@ live_put before after f d p r m a k q s =
       | false ↦ λ t. a k q (sym (put_else r f (facts_of after) m k t) ∙ s) ∙ sym (elsewhere before after f d p r k t)
     ] refl
 
-lives_put : (before after : List ColumnPoints) (f : Fact) → AllDistinct (facts_of before) → PutsFact before after f → (rs : List Rule) (ms : List CellMap) → AreLive before rs ms → AreLive after rs (put_cells rs f (facts_of after) ms)
-lives_put before after f d p rs ms a = OfEach-beside (IsLive before) (IsLive after) (λ (r : Rule). put_cell r f (facts_of after)) (live_put before after f d p) rs ms a
-
 -- a line is put
 pub lives_line : (rs : List Rule) (fs : List Fact) (before after : List ColumnPoints) (ms ns : List CellMap) → AllDistinct (facts_of before) → PutsFacts rs before ms after ns fs → AreLive before rs ms → AreLive after rs ns
 lives_line rs [] before after ms ns d p a = subst (λ cs. AreLive cs rs ns) (sym p.0) (subst (AreLive before rs) (sym p.1) a)
 lives_line rs (f ∷ fs) before after ms ns d p a =
-    lives_line rs fs p.0 after (put_cells rs f (facts_of p.0) ms) ns p.1.1.once p.2 (lives_put before p.0 f d p.1 rs ms a)
+    lives_line rs fs p.0 after (put_cells rs f (facts_of p.0) ms) ns p.1.1.once p.2 (OfEach-beside (IsLive before) (IsLive p.0) (λ (r : Rule). put_cell r f (facts_of p.0)) (live_put before p.0 f d p.1) rs ms a)
 
 pub lives_grow : (opening : Settings) (h : History) (k : StoreData) (columns : List ColumnPoints) (ms : List CellMap) (facts : List Fact) → StandsFor opening h (state_of k) → facts_of columns ≡ facts_of k.columns
     → GainEmptyCells k.settings.rules k.marks.lows facts k.cells ms → AreLive k.columns k.settings.rules k.cells → AreLive columns k.settings.rules ms

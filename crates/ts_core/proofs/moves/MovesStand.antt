@@ -1,4 +1,5 @@
 -- The other transitions, on a store's content.
+use Rattle.std.proofs.lemmas.Bool.{not-true, false_from_ne_true}
 use Rattle.std.proofs.Common.{◌≡◌, ℤ, ◌≤ℤ◌, true, false, cond, not, ◌&&◌, List, [], ◌∷◌, filter, map, refl, sym, ◌∙◌, ap, subst, inl, inr, ◌⊎◌, ⊎_elim, true≢false, Some, None, is_eq, T}
 use Rattle.std.specs.Int.{int_max}
 use Rattle.std.specs.List.{AllByRecursion, AllZip, zip}
@@ -38,10 +39,8 @@ use Rattle.ts_core.proofs.moves.StepStands.{find_among, same_flip}
 -- ---- begin
 
 raised_rules : (now : ℤ) (rs : List Rule) (lows : List ℤ) (ms : List CellMap) → AllZip (IsRaised now) (rules_of rs lows ms) (rules_of rs (raised now rs lows) ms)
-raised_rules now [] lows ms = tt
-raised_rules now (r ∷ rs) [] ms = tt
-raised_rules now (r ∷ rs) (low ∷ lows) [] = tt
 raised_rules now (r ∷ rs) (low ∷ lows) (m ∷ ms) = (record { rule = refl; low = refl; cells = refl; parts = λ k. refl }, raised_rules now rs lows ms)
+raised_rules now _ lows ms = tt
 
 raised_lows : (now : ℤ) (rs : List Rule) (lows : List ℤ) (ms : List CellMap) → map lowest_of (rules_of rs lows ms) ≡ lows → map lowest_of (rules_of rs (raised now rs lows) ms) ≡ raised now rs lows
 raised_lows now [] lows ms e = e
@@ -54,14 +53,10 @@ pub run_begins : (opening : Settings) (h : History) (k : StoreData) (now : ℤ) 
 run_begins opening h k now st e =
     let after : List RuleCells = rules_of k.settings.rules (raised now k.settings.rules k.marks.lows) k.cells in
     subst (StandsFor opening (Begin now ∷ h))
-    (λ i. record {
-      settings = k.settings;
+    (λ i. record (state_of k) {
       marks = record { raw = int_max k.marks.raw (kept_since k.settings.raw_duration now); lows = raised_lows now k.settings.rules k.marks.lows k.cells st.lows i };
       running = true;
       waiting = map column_of k.columns;
-      series = k.series;
-      columns = k.columns;
-      accepted = k.accepted;
       rules = after;
     })
     (begin_stands opening h (state_of k) now after st e (raised_rules now k.settings.rules k.marks.lows k.cells))
@@ -98,9 +93,6 @@ key_not m k a e = find_among k (finmap.entries m) a (sym (get-entries m k) ∙ e
 -- ---- expiry
 
 expired_rules : (rs : List Rule) (lows : List ℤ) (ms ns : List CellMap) → Expired lows ms ns → AllZip IsExpired (rules_of rs lows ms) (rules_of rs lows ns)
-expired_rules [] lows ms ns e = tt
-expired_rules (r ∷ rs) [] ms ns e = tt
-expired_rules (r ∷ rs) (low ∷ lows) [] [] e = tt
 expired_rules (r ∷ rs) (low ∷ lows) [] (n ∷ ns) e = absurd e
 expired_rules (r ∷ rs) (low ∷ lows) (m ∷ ms) [] e = absurd e
 expired_rules (r ∷ rs) (low ∷ lows) (m ∷ ms) (n ∷ ns) e = (
@@ -113,6 +105,7 @@ expired_rules (r ∷ rs) (low ∷ lows) (m ∷ ms) (n ∷ ns) e = (
   },
   expired_rules rs lows ms ns e.1,
 )
+expired_rules _ lows ms ns e = tt
 
 pub cells_go : (opening : Settings) (h : History) (k : StoreData) (ms : List CellMap) → StandsFor opening h (state_of k) → Expired k.marks.lows k.cells ms → StandsFor opening (Step false ∷ h) (state_of (with_cells ms k))
 cells_go opening h k ms st e = expire_stands opening h (state_of k) (rules_of k.settings.rules k.marks.lows ms) st (expired_rules k.settings.rules k.marks.lows k.cells ms e)
@@ -126,12 +119,10 @@ run_ends opening h k st e = close_stands opening h (state_of k) st e
 module _ (C : Rule × ℤ → CellMap → CellMap → Type 0) where
   pub rules_changed : (R : RuleCells → RuleCells → Type 0) → ((r : Rule) (low : ℤ) (m n : CellMap) → C (r, low) m n → R (rule_cells r low m) (rule_cells r low n))
       → (rs : List Rule) (lows : List ℤ) (ms ns : List CellMap) → AllZipBeside C (zip rs lows) ms ns → AllZip R (rules_of rs lows ms) (rules_of rs lows ns)
-  rules_changed R h [] lows ms ns e = tt
-  rules_changed R h (r ∷ rs) [] ms ns e = tt
-  rules_changed R h (r ∷ rs) (low ∷ lows) [] [] e = tt
   rules_changed R h (r ∷ rs) (low ∷ lows) [] (n ∷ ns) e = absurd e
   rules_changed R h (r ∷ rs) (low ∷ lows) (m ∷ ms) [] e = absurd e
   rules_changed R h (r ∷ rs) (low ∷ lows) (m ∷ ms) (n ∷ ns) e = (h r low m n e.0, rules_changed R h rs lows ms ns e.1)
+  rules_changed R h _ lows ms ns e = tt
 
   pub rules_same : {X : Type 0} (f : RuleCells → X) → ((r : Rule) (low : ℤ) (m n : CellMap) → f (rule_cells r low m) ≡ f (rule_cells r low n)) → (rs : List Rule) (lows : List ℤ) (ms ns : List CellMap)
       → AllZipBeside C (zip rs lows) ms ns → map f (rules_of rs lows ns) ≡ map f (rules_of rs lows ms)
@@ -181,18 +172,12 @@ grows opening h k series columns ms facts st once stay registered same spare = r
 
 -- ---- facts are put
 
-other_true : (f g : Fact) → same_id (id_of g) (id_of f) ≡ false → is_other f g ≡ true
-other_true f g e = ap not e
-
-other_false : (f g : Fact) → is_other f g ≡ true → same_id (id_of g) (id_of f) ≡ false
-other_false f g e = elim (same_id (id_of g) (id_of f)) as (λ b. not b ≡ true → b ≡ false) [ true ↦ λ q. absurd (true≢false (sym q)) | false ↦ λ q. refl ] e
-
 pub too : (before after : List ColumnPoints) (f : Fact) → PutsFact before after f → FactsToo (facts_of before) (facts_of after) f (is_other f)
 too before after f p = record {
   once = p.1.once;
   new = p.1.new;
-  stays = λ g a e. p.1.kept g a (other_false f g e);
-  only = λ g a. ⊎_elim {C = (g ≡ f) ⊎ (Among g (facts_of before) × (is_other f g ≡ true))} (λ e. inl e) (λ q. inr (q.0, other_true f g q.1)) (p.1.only g a);
+  stays = λ g a e. p.1.kept g a (not-true _ e);
+  only = λ g a. ⊎_elim {C = (g ≡ f) ⊎ (Among g (facts_of before) × (is_other f g ≡ true))} (λ e. inl e) (λ q. inr (q.0, ap not q.1)) (p.1.only g a);
 }
 
 -- a cell that the fact isn't in has the same live part: where it is of the id of a fact that went, that one isn't in it
@@ -206,10 +191,8 @@ elsewhere before after f d p r k e =
     (p.1.only g (Among-filter_was (is_in_cell r k) g (facts_of after) a)))
     (λ g a. let t = Among-filter_passes (is_in_cell r k) g (facts_of before) a in
     let w = Among-filter_was (is_in_cell r k) g (facts_of before) a in
-    let other : same_id (id_of g) (id_of f) ≡ false = elim (same_id (id_of g) (id_of f)) as (λ b. same_id (id_of g) (id_of f) ≡ b → b ≡ false) [
-      | true ↦ λ s. absurd (true≢false (sym t ∙ ap (λ (i : Id). is_in_cell r k (record { column = i.column; time = i.time; value = g.value })) (same_id-eq (id_of g) (id_of f) s) ∙ e))
-      | false ↦ λ s. refl
-    ] refl in
+    let other : same_id (id_of g) (id_of f) ≡ false =
+    false_from_ne_true _ (λ s. true≢false (sym t ∙ ap (λ (i : Id). is_in_cell r k (record { column = i.column; time = i.time; value = g.value })) (same_id-eq (id_of g) (id_of f) s) ∙ e)) in
     Among-filter_stays (is_in_cell r k) g (facts_of after) (p.1.kept g w other) t)
 
 -- each fact of a rule has its cell, from the low index on
@@ -220,11 +203,9 @@ abbrev pub HaveCellsOf : List Rule → List ℤ → List Fact → List CellMap �
 HaveCellsOf rs lows facts = OfEach (λ (x : Rule × ℤ). HasCellsOf x.0 x.1 facts) (zip rs lows)
 
 pub room_cells : (rs : List Rule) (lows : List ℤ) (facts : List Fact) (ms ns : List CellMap) → GainEmptyCells rs lows facts ms ns → HaveCellsOf rs lows facts ns
-room_cells [] lows facts ms ns e = tt
-room_cells (r ∷ rs) [] facts ms ns e = tt
-room_cells (r ∷ rs) (low ∷ lows) facts ms [] e = tt
 room_cells (r ∷ rs) (low ∷ lows) facts [] (n ∷ ns) e = absurd e
 room_cells (r ∷ rs) (low ∷ lows) facts (m ∷ ms) (n ∷ ns) e = (record { there = e.0.there }, room_cells rs lows facts ms ns e.1)
+room_cells _ lows facts ms ns e = tt
 
 pub put_cell-keys : (r : Rule) (f : Fact) (facts : List Fact) (m : CellMap) → finmap.keys (put_cell r f facts m) ≡ finmap.keys m
 put_cell-keys r f facts m =
@@ -234,14 +215,11 @@ put_cell-keys r f facts m =
     ]
 
 pub cells_stay : (rs : List Rule) (lows : List ℤ) (f : Fact) (left facts : List Fact) (ms : List CellMap) → HaveCellsOf rs lows facts ms → HaveCellsOf rs lows facts (put_cells rs f left ms)
-cells_stay [] lows f left facts ms e = tt
-cells_stay (r ∷ rs) [] f left facts [] e = tt
-cells_stay (r ∷ rs) [] f left facts (m ∷ ms) e = tt
-cells_stay (r ∷ rs) (low ∷ lows) f left facts [] e = tt
 cells_stay (r ∷ rs) (low ∷ lows) f left facts (m ∷ ms) e = (
   record { there = λ g a t l n. key_not (put_cell r f left m) (cell_of r g) (subst (Among (cell_of r g)) (sym (put_cell-keys r f left m)) (key_there m (cell_of r g) (e.0.there g a t l))) n },
   cells_stay rs lows f left facts ms e.1,
 )
+cells_stay _ lows f left facts ms e = tt
 
 -- the frozen parts stay, and each live part but that of the fact's own cell
 pub put_frozen : (r : Rule) (f : Fact) (facts : List Fact) (m : CellMap) (k : Cell) → frozen_in (finmap.get (put_cell r f facts m) k) ≡ frozen_in (finmap.get m k)
@@ -272,10 +250,6 @@ put_else r f facts m k t =
 
 pub written_rules : (after : List ColumnPoints) (f : Fact) (facts : List Fact) → Among f facts → (rs : List Rule) (lows : List ℤ) (ms : List CellMap) → HaveCellsOf rs lows facts ms
     → AllZip (IsWritten f after) (rules_of rs lows ms) (rules_of rs lows (put_cells rs f (facts_of after) ms))
-written_rules after f facts a [] lows ms e = tt
-written_rules after f facts a (r ∷ rs) [] [] e = tt
-written_rules after f facts a (r ∷ rs) [] (m ∷ ms) e = tt
-written_rules after f facts a (r ∷ rs) (low ∷ lows) [] e = tt
 written_rules after f facts a (r ∷ rs) (low ∷ lows) (m ∷ ms) e =
     let left : List Fact = facts_of after in
     let keys : finmap.keys m ≡ finmap.keys (put_cell r f left m) = sym (put_cell-keys r f left m) in (
@@ -293,3 +267,4 @@ written_rules after f facts a (r ∷ rs) (low ∷ lows) (m ∷ ms) e =
       },
       written_rules after f facts a rs lows ms e.1,
     )
+written_rules after f facts a _ lows ms e = tt

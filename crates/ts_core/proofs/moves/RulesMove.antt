@@ -29,11 +29,8 @@ use Rattle.ts_core.proofs.store.RulesCome.{StartsWith, added_stands, dropped_sta
 rules_push : (rs : List Rule) (lows : List ℤ) (ms : List CellMap) (r : Rule) (low : ℤ) (m : CellMap) → length lows ≡ length rs → length ms ≡ length rs
     → rules_of (rs ++ r ∷ []) (lows ++ low ∷ []) (ms ++ m ∷ []) ≡ rules_of rs lows ms ++ rule_cells r low m ∷ []
 rules_push [] [] [] r low m a b = refl
-rules_push [] [] (x ∷ ms) r low m a b = absurd (omega arith)
-rules_push [] (l ∷ lows) ms r low m a b = absurd (omega arith)
-rules_push (q ∷ rs) [] ms r low m a b = absurd (omega arith)
-rules_push (q ∷ rs) (l ∷ lows) [] r low m a b = absurd (omega arith)
 rules_push (q ∷ rs) (l ∷ lows) (x ∷ ms) r low m a b = ap (λ zs. rule_cells q l x ∷ zs) (rules_push rs lows ms r low m (omega arith) (omega arith))
+rules_push _ _ ms r low m a b = absurd (omega arith)
 
 fresh_starts : (r : Rule) (low : ℤ) (facts : List Fact) (m : CellMap) → IsFresh r low facts m → StartsWith facts (rule_cells r low m)
 fresh_starts r low facts m f = record {
@@ -54,14 +51,9 @@ pub rule_comes : (opening : Settings) (h : History) (k : StoreData) (r : Rule) (
 rule_comes opening h k r m st even well fresh =
     let low : ℤ = first_from r k.marks.raw in
     subst (StandsFor opening (AddRule r ∷ h))
-    (λ i. record {
+    (λ i. record (state_of k) {
       settings = with_rule r k.settings;
       marks = record { raw = k.marks.raw; lows = k.marks.lows ++ low ∷ [] };
-      running = k.running;
-      waiting = k.waiting;
-      series = k.series;
-      columns = k.columns;
-      accepted = k.accepted;
       rules = sym (rules_push k.settings.rules k.marks.lows k.cells r low m even.lows even.cells) i;
     })
     (added_stands opening h (state_of k) (rule_cells r low m) st well refl (fresh_starts r low (facts_of k.columns) m fresh))
@@ -70,10 +62,8 @@ rule_comes opening h k r m st even well fresh =
 
 lows_of : (rs : List Rule) (lows : List ℤ) (ms : List CellMap) → length lows ≡ length rs → length ms ≡ length rs → map lowest_of (rules_of rs lows ms) ≡ lows
 lows_of [] [] ms a b = refl
-lows_of [] (low ∷ lows) ms a b = absurd (omega arith)
-lows_of (r ∷ rs) [] ms a b = absurd (omega arith)
-lows_of (r ∷ rs) (low ∷ lows) [] a b = absurd (omega arith)
 lows_of (r ∷ rs) (low ∷ lows) (m ∷ ms) a b = ap (λ zs. low ∷ zs) (lows_of rs lows ms (omega arith) (omega arith))
+lows_of _ _ ms a b = absurd (omega arith)
 
 module _ (p : Rule → Bool) where
   abbrev passes : RuleCells → Bool
@@ -81,8 +71,6 @@ module _ (p : Rule → Bool) where
 
   pub rules_kept : (rs : List Rule) (lows : List ℤ) (ms : List CellMap) → length lows ≡ length rs → length ms ≡ length rs → filter passes (rules_of rs lows ms) ≡ rules_of (filter p rs) (kept_beside p rs lows) (kept_beside p rs ms)
   rules_kept [] lows ms a b = refl
-  rules_kept (r ∷ rs) [] ms a b = absurd (omega arith)
-  rules_kept (r ∷ rs) (low ∷ lows) [] a b = absurd (omega arith)
   rules_kept (r ∷ rs) (low ∷ lows) (m ∷ ms) a b =
       let rest = rules_kept rs lows ms (omega arith) (omega arith) in
       elim (p r) as (λ c. cond c (rule_cells r low m ∷ filter passes (rules_of rs lows ms)) (filter passes (rules_of rs lows ms))
@@ -90,6 +78,7 @@ module _ (p : Rule → Bool) where
         | true ↦ ap (λ zs. rule_cells r low m ∷ zs) rest
         | false ↦ rest
       ]
+  rules_kept (r ∷ rs) _ ms a b = absurd (omega arith)
 
   lows_kept : (rs : List Rule) (lows : List ℤ) (ms : List CellMap) → length lows ≡ length rs → length ms ≡ length rs → map lowest_of (filter passes (rules_of rs lows ms)) ≡ kept_beside p rs lows
   lows_kept rs lows ms a b = ap (map lowest_of) (rules_kept rs lows ms a b) ∙ lows_of (filter p rs) (kept_beside p rs lows) (kept_beside p rs ms) (length-kept p rs lows a) (length-kept p rs ms b)
@@ -103,14 +92,9 @@ module _ (p : Rule → Bool) where
 pub rule_goes : (opening : Settings) (h : History) (k : StoreData) (name : Text) → StandsFor opening h (state_of k) → IsEven k → IsTrue (is_named k.settings.rules name) → StandsFor opening (DropRule name ∷ h) (state_of (rule_dropped name k))
 rule_goes opening h k name st even named =
     subst (StandsFor opening (DropRule name ∷ h))
-    (λ i. record {
+    (λ i. record (state_of k) {
       settings = without_rule name k.settings;
       marks = record { raw = k.marks.raw; lows = lows_kept (is_unnamed name) k.settings.rules k.marks.lows k.cells even.lows even.cells i };
-      running = k.running;
-      waiting = k.waiting;
-      series = k.series;
-      columns = k.columns;
-      accepted = k.accepted;
       rules = rules_kept (is_unnamed name) k.settings.rules k.marks.lows k.cells even.lows even.cells i;
     })
     (dropped_stands opening h (state_of k) name st named)

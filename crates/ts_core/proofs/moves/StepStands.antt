@@ -1,5 +1,7 @@
 -- A step that moves a column, on a store's content.
-use Rattle.std.proofs.Common.{◌≡◌, ℤ, ◌+◌, ◌≤◌, ◌^◌, Bool, true, false, cond, not, ◌&&◌, ◌||◌, List, [], ◌∷◌, length, filter, map, refl, sym, ◌∙◌, ap, subst, inl, inr, ⊎_elim, true≢false, int_lt, arith, Option, Some, None, ◌≤ℤ◌, is_some}
+use Rattle.ts_core.proofs.settings.FoundLemmas.{none_of}
+use Rattle.std.proofs.lemmas.Bool.{and_right, or_parts}
+use Rattle.std.proofs.Common.{◌≡◌, ℤ, ◌+◌, ◌≤◌, ◌^◌, Bool, true, false, cond, not, ◌&&◌, ◌||◌, List, [], ◌∷◌, length, filter, map, refl, sym, ◌∙◌, ap, subst, inl, inr, ⊎_elim, true≢false, int_lt, arith, Some, None, ◌≤ℤ◌, is_some}
 use Rattle.std.specs.List.{AllByRecursion, AllZip}
 use Rattle.std.specs.FinMap as finmap
 use Rattle.std.specs.FinMap.{find, get-entries}
@@ -7,7 +9,7 @@ use Rattle.std.proofs.lemmas.Option.{none-some}
 use Rattle.ts_core.specs.lists.Members.{Among, AllDistinct}
 use Rattle.ts_core.specs.facts.Facts.{Column, Fact, same_text}
 use Rattle.ts_core.specs.settings.Settings.{Rule, Settings}
-use Rattle.ts_core.specs.store.History.{History, Line, Begin, Step, AddRule, DropRule, accepted, IsLawful}
+use Rattle.ts_core.specs.store.History.{History, Line, Step, accepted, IsLawful}
 use Rattle.ts_core.specs.facts.Latest.{latest, latest_of, others}
 use Rattle.ts_core.specs.aggregates.Aggregates.{Aggregate, empty_aggregate, merged, aggregate_of_one, aggregate_of, aggregate_of_points}
 use Rattle.ts_core.specs.aggregates.MergeLaws.{aggregate_laws}
@@ -27,7 +29,7 @@ use Rattle.ts_core.proofs.store.StateLemmas.{cons_not, StandsFor-Holds}
 use Rattle.ts_core.proofs.store.RunSteps.{facts_of-left, move_stands}
 use Rattle.ts_core.specs.store.StoreData.{CellMap, StoreData, rule_cells, rules_of, state_of}
 use Rattle.ts_core.specs.moves.StoreMoves.{frozen_points, refolded_points, moved_cells, all_moved, points_below, column_moved}
-use Rattle.ts_core.proofs.moves.Freezing.{in_points, frozen_in, live_in, any_in, frozen_gives, frozen_none, frozen_live, keys_frozen, refolded_frozen, refolded_live, keys_refolded, frozen_some, gone_held, and_false}
+use Rattle.ts_core.proofs.moves.Freezing.{in_points, frozen_in, live_in, any_in, frozen_gives, frozen_none, frozen_live, keys_frozen, refolded_frozen, refolded_live, keys_refolded, frozen_some, gone_held}
 
 -- ---- counts
 
@@ -38,10 +40,8 @@ length_latest (f ∷ fs) = let h = length_latest fs in let k : length (others f 
 pub few_accepted : (opening : Settings) (h : History) → IsLawful opening h → length (accepted h) ≤ 2 ^ 62
 few_accepted opening [] l = omega arith
 few_accepted opening (Line facts ∷ h) l = l.2
-few_accepted opening (Begin now ∷ h) l = few_accepted opening h l.0
 few_accepted opening (Step ended ∷ h) l = few_accepted opening h l
-few_accepted opening (AddRule rule ∷ h) l = few_accepted opening h l.0
-few_accepted opening (DropRule name ∷ h) l = few_accepted opening h l.0
+few_accepted opening (_ ∷ h) l = few_accepted opening h l.0
 
 count_where : (p : Fact → Bool) (fs : List Fact) → (aggregate_where p fs).count ≡ length (filter p fs)
 count_where p fs = fold-count aggregate_laws one_fact (λ f. refl) (filter p fs)
@@ -115,10 +115,6 @@ column_frozen r k c ps left m few spare =
 
 -- ---- live parts
 
-pub or_parts : (a b : Bool) → a || b ≡ false → (a ≡ false) × (b ≡ false)
-or_parts true b h = absurd (true≢false h)
-or_parts false b h = (refl, h)
-
 any_found : (r : Rule) (c : Column) (k : Cell) (ps : List (ℤ × ℤ)) → any_in r c k ps ≡ true → (p : ℤ × ℤ) × Among p ps × (in_points r c k p ≡ true)
 any_found r c k [] h = absurd (true≢false (sym h))
 any_found r c k (p ∷ ps) h =
@@ -134,7 +130,7 @@ none_in r k c (p ∷ ps) h =
     let rest : List Fact = filter (is_in_cell r k) (facts_at c ps) in
     let q = or_parts (in_points r c k p) (any_in r c k ps) h in
     ap (λ b. cond (same_text c.series.measurement r.measurement && b) (f ∷ rest) rest) (same_flip (cell_of r f) k ∙ q.0)
-    ∙ ap (λ b. cond b (f ∷ rest) rest) (and_false (same_text c.series.measurement r.measurement)) ∙ none_in r k c ps q.1
+    ∙ ap (λ b. cond b (f ∷ rest) rest) (and_right (same_text c.series.measurement r.measurement) false refl) ∙ none_in r k c ps q.1
 
 -- where nothing that passes goes, what passes is what is left of it
 filter-left : (p q : Fact → Bool) (fs : List Fact) → filter (λ (f : Fact). p f && not (q f)) fs ≡ [] → filter p (filter q fs) ≡ filter p fs
@@ -142,20 +138,16 @@ filter-left p q [] h = refl
 filter-left p q (f ∷ fs) h =
     let gone : List Fact = filter (λ (g : Fact). p g && not (q g)) fs in
     elim (q f) as (λ b. cond (p f && not b) (f ∷ gone) gone ≡ [] → filter p (cond b (f ∷ filter q fs) (filter q fs)) ≡ cond (p f) (f ∷ filter p fs) (filter p fs)) [
-      | true ↦ λ e. ap (λ zs. cond (p f) (f ∷ zs) zs) (filter-left p q fs (sym (ap (λ b. cond b (f ∷ gone) gone) (and_false (p f))) ∙ e))
+      | true ↦ λ e. ap (λ zs. cond (p f) (f ∷ zs) zs) (filter-left p q fs (sym (ap (λ b. cond b (f ∷ gone) gone) (and_right (p f) false refl)) ∙ e))
       | false ↦ λ e. elim (p f) as (λ b. cond (b && true) (f ∷ gone) gone ≡ [] → filter p (filter q fs) ≡ cond b (f ∷ filter p fs) (filter p fs)) [
         | true ↦ λ n. absurd (cons_not n)
         | false ↦ λ n. filter-left p q fs n
       ] e
     ] h
 
-none_by_some : (o : Option CellParts) → is_some o ≡ false → o ≡ None
-none_by_some None e = refl
-none_by_some (Some a) e = absurd (true≢false e)
-
 -- a cell is there after a freezing where it was
 frozen_there : (r : Rule) (c : Column) (k : Cell) (ps : List (ℤ × ℤ)) (m : CellMap) → (finmap.get m k ≡ None → ⊥) → finmap.get (frozen_points r c ps m) k ≡ None → ⊥
-frozen_there r c k ps m h e = h (none_by_some (finmap.get m k) (sym (frozen_some r c k ps m) ∙ ap is_some e))
+frozen_there r c k ps m h e = h (none_of (finmap.get m k) (sym (frozen_some r c k ps m) ∙ ap is_some e))
 
 module _ (c : Column) (mark : ℤ) (before : List ColumnPoints) (ps : List (ℤ × ℤ)) (once : AllDistinct (map column_of before)) (there : Among (record { column = c; points = ps }) before) where
   abbrev left : List Fact
@@ -238,12 +230,9 @@ rule_moved opening h lawful cut c mark before ps once there held r low m has =
 rules_moved : (opening : Settings) (h : History) → IsLawful opening h → (cut : Column → ℤ) (c : Column) (mark : ℤ) (before : List ColumnPoints) (ps : List (ℤ × ℤ)) → AllDistinct (map column_of before) → Among (record { column = c; points = ps }) before
     → Holds cut (latest_of h) (facts_of before) → (rs : List Rule) (lows : List ℤ) (ms : List CellMap) → AllByRecursion (HasCells cut (latest_of h)) (rules_of rs lows ms)
     → AllZip (IsMoved c mark before (map (left_points c mark) before)) (rules_of rs lows ms) (rules_of rs lows (all_moved rs c (points_below mark ps) (facts_of (map (left_points c mark) before)) ms))
-rules_moved opening h lawful cut c mark before ps once there held [] lows ms a = tt
-rules_moved opening h lawful cut c mark before ps once there held (r ∷ rs) [] [] a = tt
-rules_moved opening h lawful cut c mark before ps once there held (r ∷ rs) [] (m ∷ ms) a = tt
-rules_moved opening h lawful cut c mark before ps once there held (r ∷ rs) (low ∷ lows) [] a = tt
 rules_moved opening h lawful cut c mark before ps once there held (r ∷ rs) (low ∷ lows) (m ∷ ms) a =
     (rule_moved opening h lawful cut c mark before ps once there held r low m a.0, rules_moved opening h lawful cut c mark before ps once there held rs lows ms a.1)
+rules_moved opening h lawful cut c mark before ps once there held _ lows ms a = tt
 
 -- a step that moves the first of the waiting columns, on what the store keeps
 pub step_stands : (opening : Settings) (h : History) (k : StoreData) (c : Column) (ps : List (ℤ × ℤ)) (rest : List Column) → StandsFor opening h (state_of k) → k.waiting ≡ c ∷ rest → Among (record { column = c; points = ps }) k.columns

@@ -6,9 +6,8 @@ use Rattle.ts_core.specs.moves.Runs.{batches_of, expired_count, batches_left, st
 
 pub batches_left-same : (rs after : List RuleCells) → AllZip (λ (r y : RuleCells). expired_count y ≡ expired_count r) rs after → batches_left after ≡ batches_left rs
 batches_left-same [] [] t = refl
-batches_left-same [] (y ∷ ys) t = absurd t
-batches_left-same (r ∷ rs) [] t = absurd t
 batches_left-same (r ∷ rs) (y ∷ ys) t = ap₂ (λ m n. batches_of m + n) t.0 (batches_left-same rs ys t.1)
+batches_left-same _ _ t = absurd t
 
 -- the number of steps left of an open run
 left_open : (s : StoreState) → s.running ≡ true → steps_left s ≡ length s.waiting + batches_left s.rules + 1

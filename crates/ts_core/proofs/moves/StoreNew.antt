@@ -27,13 +27,10 @@ lows_there opening (r ∷ rs) = ap (λ xs. low_of opening [] r ∷ xs) (lows_the
 pub no_keys : finmap.keys (finmap.empty {X = CellParts} {R = cell_cmp}) ≡ []
 no_keys = ap (map (λ (e : Cell × CellParts). e.0)) (nil_from_length _ (sym (len-entries (finmap.empty {X = CellParts} {R = cell_cmp})) ∙ len-empty cell_cmp CellParts))
 
-no_value : (k : Cell) → finmap.get (finmap.empty {X = CellParts} {R = cell_cmp}) k ≡ None
-no_value k = get-empty cell_cmp k
-
 none_there : (opening : Settings) (rs : List Rule) → AllByRecursion IsWithoutCells (rules_of rs (map (low_of opening []) rs) (new_cells rs))
 none_there opening [] = tt
 none_there opening (r ∷ rs) = (
-  record { cells = no_keys; parts = λ k. ap (or_else no_parts) (no_value k) },
+  record { cells = no_keys; parts = λ k. ap (or_else no_parts) (get-empty cell_cmp k) },
   none_there opening rs,
 )
 

@@ -12,16 +12,16 @@ use Rattle.ts_core.specs.settings.SettingsFaults.{settings_fault}
 use Rattle.ts_core.specs.store.History.{History}
 use Rattle.ts_core.specs.facts.Latest.{latest_of}
 use Rattle.ts_core.specs.queries.Queries.{Query, IsQuery, is_selected, matches, group_of}
-use Rattle.ts_core.specs.queries.Answers.{Group, buckets_in, all_groups, groups_of, row_of, rows_of, answer_of}
+use Rattle.ts_core.specs.queries.Answers.{Group, buckets_in, all_groups, groups_of, answer_of}
 use Rattle.ts_core.specs.plans.Pieces.{Source, Raw, Rollup, Piece, query_context, SourceServes, IsValidPiece, Covers, IsValid}
 use Rattle.ts_core.specs.store.Cells.{Cell, same_cell, cell_of, is_rolled, is_in_cell, total_of}
 use Rattle.ts_core.specs.store.StoreStates.{StoreState, StandsFor, facts_of, RuleCells}
 use Rattle.ts_core.specs.store.Views.{ViewState, Shows, view_state_of, shown_total}
 use Rattle.ts_core.specs.plans.Assembly.{in_part, representative, rule_shown, cell_groups, groups_given, assembled_groups, assembled_row, assembled_answer}
 use Rattle.ts_core.proofs.settings.Intervals.{IsWide, asked_wide, settings_faultless}
-use Rattle.ts_core.proofs.lists.MembersLemmas.{Among-left, Among-right, Among-append, Among-filter_passes, Among-filter_was, Among-filter_stays, Among-map, map_back}
+use Rattle.ts_core.proofs.lists.MembersLemmas.{Among-left, Among-right, Among-append, Among-filter_passes, Among-filter_was, Among-filter_stays, Among-map_as, map_back}
 use Rattle.ts_core.proofs.aggregates.Folds.{fold-count}
-use Rattle.ts_core.proofs.queries.GroupsInOrder.{HasMatch, from_map, to_map, all_groups-same}
+use Rattle.ts_core.proofs.queries.GroupsInOrder.{HasMatch, all_groups-same}
 use Rattle.ts_core.proofs.lists.Comparisons.{le_true, lt_true}
 use Rattle.ts_core.proofs.store.Cuts.{one_fact}
 use Rattle.ts_core.proofs.store.StateLemmas.{le_trans}
@@ -98,7 +98,7 @@ module _ (opening : Settings) (h : History) (seen : ViewState) (q : Query) (show
       let some : is_nothing (shown_total s.shown c) ≡ false = ap is_nothing total ∙ has_data f (filter (is_in_cell rule c) (latest_of h)) (Among-filter_stays (is_in_cell rule c) f (latest_of h) n.among inside) in
       let there : Among c (filter full s.shown.cells) = Among-filter_stays full c s.shown.cells (s.totals.there f n.among rolled (index_of-high s f.time p.1)) (ap₂ (λ x y. x && not y) passes some) in
       let group : group_of q (representative rule c) ≡ g = sym (same_group_of q (record { rule = rule; low = s.shown.low }) a b wide.query s.wide s.serves l m f rolled) ∙ n.group in
-      subst (λ x. Among g (cell_groups q x (test a b))) (sym s.is) (subst (λ x. Among x (map (λ y. group_of q (representative rule y)) (filter full s.shown.cells))) group (Among-map (λ y. group_of q (representative rule y)) c (filter full s.shown.cells) there))
+      subst (λ x. Among g (cell_groups q x (test a b))) (sym s.is) (Among-map_as (λ y. group_of q (representative rule y)) c (filter full s.shown.cells) g there group)
 
   piece_match : (source : Source) (a b : ℤ) → SourceServes (query_context seen.settings seen.marks q) source a b → q.from ≤ℤ a → b ≤ℤ q.to → Among g (groups_given seen q source (test a b)) → MatchIn a b
   piece_match Raw a b s l m n =
@@ -114,8 +114,7 @@ module _ (opening : Settings) (h : History) (seen : ViewState) (q : Query) (show
       let shown : List Fact = facts_of seen.columns in
       let f : Fact = n.fact in
       let above : seen.marks.raw ≤ℤ f.time = le_trans seen.marks.raw a f.time s (within_parts a b f.time (parts a b f n.passes).1).0 in
-      subst (λ x. Among x (map (group_of q) (filter (test a b) shown))) n.group
-      (Among-map (group_of q) f (filter (test a b) shown) (Among-filter_stays (test a b) f shown ((shows.raw f above).1 n.among) n.passes))
+      Among-map_as (group_of q) f (filter (test a b) shown) g (Among-filter_stays (test a b) f shown ((shows.raw f above).1 n.among) n.passes) n.group
   match_piece (Rollup name) a b s l m n = match_cells a b (rule_shown name seen.rules) (serving opening h seen q shows wide name a b s) l m n
 
   -- ---- the groups of all pieces
@@ -151,9 +150,6 @@ module _ (opening : Settings) (h : History) (seen : ViewState) (q : Query) (show
 
 -- ---- the answer
 
-shown_wide : (opening : Settings) (h : History) (seen : ViewState) (q : Query) → Shows opening h seen → IsQuery q → IsWide (query_context seen.settings seen.marks q)
-shown_wide opening h seen q shows is = asked_wide seen.settings seen.marks q (subst (λ s. settings_fault s ≡ None) (sym shows.settings) (settings_faultless opening h shows.lawful)) is
-
 module _ (opening : Settings) (h : History) (seen : ViewState) (q : Query) (shows : Shows opening h seen) (wide : IsWide (query_context seen.settings seen.marks q)) (ps : List Piece) (valid : IsValid seen.settings seen.marks q ps) where
   -- just the groups that have a matching fact
   same_groups_found : all_groups (assembled_groups seen q ps) ≡ groups_of q (latest_of h)
@@ -161,33 +157,20 @@ module _ (opening : Settings) (h : History) (seen : ViewState) (q : Query) (show
       let all : List Fact = latest_of h in
       let first : q.from ≤ℤ q.from = omega (arith, ints) in
       all_groups-same (assembled_groups seen q ps) (map (group_of q) (filter (matches q) all))
-      (λ g n. let m = pieces_match opening h seen q shows wide g q.from ps first valid.covers valid.each n in to_map q g m.fact (filter (matches q) all) (Among-filter_stays (matches q) m.fact all m.among m.matching) m.group)
+      (λ g n. let m = pieces_match opening h seen q shows wide g q.from ps first valid.covers valid.each n in Among-map_as (group_of q) m.fact (filter (matches q) all) g (Among-filter_stays (matches q) m.fact all m.among m.matching) m.group)
       (λ g n.
-      let r = from_map q g (filter (matches q) all) n in
+      let r = map_back (group_of q) (filter (matches q) all) g n in
       let p : matches q r.0 ≡ true = Among-filter_passes (matches q) r.0 all r.1 in
       let t = within_parts q.from q.to r.0.time (and_parts (is_selected q r.0.column) (is_within q.from q.to r.0.time) p).1 in
       match_pieces opening h seen q shows wide g q.from ps first valid.covers valid.each (record { fact = r.0; among = Among-filter_was (matches q) r.0 all r.1; matching = p; group = r.2 }) t.0 t.1)
 
-  same_rows : (g : List Text) (ks : List ℤ) → map (assembled_row seen q ps g) ks ≡ map (row_of q (latest_of h) g) ks
-  same_rows g [] = refl
-  same_rows g (k ∷ ks) =
-      let e = assembled-row opening h seen q shows wide g k ps valid in
-      let same : assembled_row seen q ps g k ≡ row_of q (latest_of h) g k = λ i. record { start = (assembled_row seen q ps g k).start; aggregate = e i } in
-      ap₂ (λ x xs. x ∷ xs) same (same_rows g ks)
-
-  same_groups : (gs : List (List Text)) → map (λ g. let z : Group = record { values = g; rows = map (assembled_row seen q ps g) (buckets_in q) } in z) gs ≡ map (λ g. let z : Group = record { values = g; rows = rows_of q (latest_of h) g } in z) gs
-  same_groups [] = refl
-  same_groups (g ∷ gs) =
-      let e = same_rows g (buckets_in q) in
-      let same : record { values = g; rows = map (assembled_row seen q ps g) (buckets_in q) } ≡ record { values = g; rows = rows_of q (latest_of h) g } = λ i. record { values = g; rows = e i } in
-      ap₂ (λ x xs. x ∷ xs) same (same_groups gs)
-
   same_answer : assembled_answer seen q ps ≡ answer_of (latest_of h) q
-  same_answer = same_groups (all_groups (assembled_groups seen q ps)) ∙ ap (map (λ g. let z : Group = record { values = g; rows = rows_of q (latest_of h) g } in z)) same_groups_found
+  same_answer =
+      λ i. map (λ g. let z : Group = record { values = g; rows = map (λ k. record (assembled_row seen q ps g k) { aggregate = assembled-row opening h seen q shows wide g k ps valid i }) (buckets_in q) } in z) (same_groups_found i)
 
 -- valid pieces give the answer over all points ever accepted, as if nothing had ever been dropped
 pub assembled-answer : (opening : Settings) (h : History) (seen : ViewState) (q : Query) (ps : List Piece) → Shows opening h seen → IsQuery q → IsValid seen.settings seen.marks q ps → assembled_answer seen q ps ≡ answer_of (latest_of h) q
-assembled-answer opening h seen q ps shows is valid = same_answer opening h seen q shows (shown_wide opening h seen q shows is) ps valid
+assembled-answer opening h seen q ps shows is valid = same_answer opening h seen q shows (asked_wide seen.settings seen.marks q (subst (λ s. settings_fault s ≡ None) (sym shows.settings) (settings_faultless opening h shows.lawful)) is) ps valid
 
 -- and so do those of a store that represents the history
 pub stands-answer : (opening : Settings) (h : History) (s : StoreState) (q : Query) (ps : List Piece) → StandsFor opening h s → IsQuery q → IsValid s.settings s.marks q ps

@@ -1,4 +1,5 @@
 -- The row of valid pieces: the aggregate over all latest facts, as if none had ever been dropped.
+use Rattle.std.proofs.lemmas.Bool.{and_right}
 use Rattle.std.proofs.Common.{◌≡◌, ℤ, pos, Bool, true, false, ◌&&◌, List, [], ◌∷◌, filter, refl, sym, ap, ap₂, ◌∙◌, subst, inl, inr, ◌≤ℤ◌, ◌<ℤ◌, int_le, int_lt, arith, Option}
 use Rattle.std.proofs.lemmas.Int.{ints, by_lt_z}
 use Rattle.std.specs.List.{AllByRecursion}
@@ -28,7 +29,7 @@ use Rattle.ts_core.proofs.lists.Comparisons.{same_bool}
 use Rattle.ts_core.proofs.store.Cuts.{one_fact, aggregate_where, filter-agree, aggregate_where-agree, Part, aggregate_where-part}
 use Rattle.ts_core.proofs.store.StateLemmas.{le_trans}
 use Rattle.ts_core.proofs.queries.Boundaries.{within_parts}
-use Rattle.ts_core.proofs.queries.CellsInRows.{and_none, same_row, in_row-matches}
+use Rattle.ts_core.proofs.queries.CellsInRows.{same_row, in_row-matches}
 use Rattle.ts_core.proofs.plans.PieceCells.{same_cell-eq, same_cell-refl, Serving, serving, index_of-high, start_of-high, is_rolled-matches}
 use Rattle.ts_core.proofs.queries.AnswersLaws.{filter_both}
 
@@ -71,7 +72,7 @@ cells_piece q g k a b fs o v s h l =
     let agree : (f : Fact) → (is_rolled rule f && same_cell (cell_of rule f) c) ≡ (test f && same_cell (cell_of rule f) c) = λ f.
     elim (same_cell (cell_of rule f) c) as (λ z. same_cell (cell_of rule f) c ≡ z → (is_rolled rule f && z) ≡ (test f && z)) [
       | true ↦ λ e. ap (λ z. z && true) (same_bool (is_rolled rule f) (test f) (λ m. alike f m ∙ ap (λ z. test (representative rule z)) (same_cell-eq (cell_of rule f) c e) ∙ p) (rolled f))
-      | false ↦ λ e. and_none (is_rolled rule f) ∙ sym (and_none (test f))
+      | false ↦ λ e. and_right (is_rolled rule f) false refl ∙ sym (and_right (test f) false refl)
     ] refl in
     s.totals.totals c (start_of-high s c.index (parts (representative rule c) p).1)
     ∙ ap aggregate_of (filter-agree (is_in_cell rule c) (λ f. test f && same_cell (cell_of rule f) c) fs (λ f m. agree f) ∙ sym (filter_both (λ f. same_cell (cell_of rule f) c) test fs)) in
@@ -114,13 +115,11 @@ part_under false x z w p = tt
 pub never_within : (a t : ℤ) → is_within a a t ≡ false
 never_within a t = by_lt_z t a
     (λ l. let e : int_le a t ≡ false = grind (arith, ints) in ap (λ x. x && int_lt t a) e)
-    (λ n. let e : int_lt t a ≡ false = grind (arith, ints) in ap (λ x. int_le a t && x) e ∙ and_none (int_le a t))
+    (λ n. let e : int_lt t a ≡ false = grind (arith, ints) in and_right (int_le a t) _ e)
 
 and_again : (s w t : Bool) → ((s && w) && t) && w ≡ (s && w) && t
 and_again true true true = refl
-and_again true true false = refl
-and_again true false t = refl
-and_again false w t = refl
+and_again _ w t = refl
 
 -- ---- all pieces
 
@@ -134,7 +133,7 @@ module _ (opening : Settings) (h : History) (seen : ViewState) (q : Query) (show
 
   all_pieces : (a : ℤ) (ps : List Piece) → q.from ≤ℤ a → Covers a q.to ps → AllByRecursion (IsValidPiece (query_context seen.settings seen.marks q)) ps → assembled seen q ps g k ≡ aggregate_where (in_part row a q.to) (latest_of h)
   all_pieces a [] l c e =
-      let none : (f : Fact) → in_part row a q.to f ≡ false = λ f. ap (λ x. row f && is_within a x f.time) (sym c) ∙ ap (λ x. row f && x) (never_within a f.time) ∙ and_none (row f) in
+      let none : (f : Fact) → in_part row a q.to f ≡ false = λ f. ap (λ x. row f && is_within a x f.time) (sym c) ∙ and_right (row f) _ (never_within a f.time) in
       sym (ap aggregate_of (filter-none (in_part row a q.to) (latest_of h) (λ f o. none f)))
   all_pieces a (p ∷ ps) l c e =
       let at : p.from ≡ a = c.0 in

@@ -1,5 +1,7 @@
 -- The buckets of a rule one after another, and the times from which valid pieces lead to the end.
-use Rattle.std.proofs.Common.{◌≡◌, ℕ, ℤ, pos, ◌+ℤ◌, ◌-ℤ◌, ◌≤ℤ◌, ◌<ℤ◌, arith, refl, sym, ap, ◌∙◌, suc, zero, subst, List, [], ◌∷◌, Some, None, ◌⊎◌, inl, inr, true, false, cond}
+use Rattle.ts_core.proofs.lists.Permutations.{pick}
+use Rattle.ts_core.proofs.lists.NumberedLemmas.{at_among}
+use Rattle.std.proofs.Common.{◌≡◌, ℕ, ℤ, pos, ◌+ℤ◌, ◌-ℤ◌, ◌≤ℤ◌, ◌<ℤ◌, arith, refl, sym, ap, ◌∙◌, suc, subst, List, [], ◌∷◌, Some, None, ◌⊎◌, inl, inr, true, false, cond}
 use Rattle.std.specs.Prelude.{slice_get}
 use Rattle.std.specs.Int.Signed.{≤ℤ_refl}
 use Rattle.std.proofs.lemmas.Int.{ints, by_lt_z}
@@ -17,9 +19,7 @@ use Rattle.ts_core.proofs.facts.Ids.{same_text-eq}
 -- ---- rules by number and by name
 
 pub rule_wide : (rs : List MarkedRule) (n : ℕ) (r : MarkedRule) → AllByRecursion (λ (x : MarkedRule). pos 1 ≤ℤ x.rule.interval) rs → slice_get rs n ≡ Some r → pos 1 ≤ℤ r.rule.interval
-rule_wide [] n r a e = absurd (let q : None ≡ Some r = e in cc)
-rule_wide (x ∷ rs) zero r a e = let q : Some x ≡ Some r = e in let k : x ≡ r = cc in subst (λ (y : MarkedRule). pos 1 ≤ℤ y.rule.interval) k a.0
-rule_wide (x ∷ rs) (suc n) r a e = rule_wide rs n r a.1 e
+rule_wide rs n r a e = pick (λ (x : MarkedRule). pos 1 ≤ℤ x.rule.interval) r rs a (at_among rs n r e)
 
 pub record NumberOf (rs : List MarkedRule) (name : Text) (r : MarkedRule) : Type 0 where
   pub n : ℕ

@@ -1,4 +1,5 @@
 -- The rule that a piece names, with the cells that it covers of the query.
+use Rattle.std.proofs.lemmas.Option.{same_Some}
 use Rattle.std.proofs.Common.{◌≡◌, ℤ, pos, true, false, cond, List, [], ◌∷◌, map, refl, sym, ap, ap₂, ◌∙◌, subst, ◌≤ℤ◌, Option, Some, None, is_eq}
 use Rattle.std.specs.List.{AllByRecursion}
 use Rattle.std.specs.Ordering.{ordering_then, int_cmp}
@@ -60,15 +61,12 @@ record IsShown (fs : List Fact) (o : Option RuleCells) (r : MarkedRule) : Type 0
   same : record { rule = shown.rule; low = shown.low } ≡ r
   totals : HasTotals fs shown
 
-the_rule : (r m : MarkedRule) → Some r ≡ Some m → r ≡ m
-the_rule r m e = cc
-
 shown_rule : (fs : List Fact) (name : Text) (rs : List RuleCells) (r : MarkedRule) → AllByRecursion (HasTotals fs) rs → rule_named name (marked_rules (map rule_of rs) (map lowest_of rs)) ≡ Some r → IsShown fs (rule_shown name rs) r
 shown_rule fs name [] r a e = absurd (let n : None ≡ Some r = e in cc)
 shown_rule fs name (y ∷ ys) r a e =
     let first : MarkedRule = record { rule = y.rule; low = y.low } in
     elim (same_text y.rule.name name) as (λ b. cond b (Some first) (rule_named name (marked_rules (map rule_of ys) (map lowest_of ys))) ≡ Some r → IsShown fs (cond b (Some y) (rule_shown name ys)) r) [
-      | true ↦ λ k. record { shown = y; is = refl; same = the_rule first r k; totals = a.0 }
+      | true ↦ λ k. record { shown = y; is = refl; same = same_Some first r k; totals = a.0 }
       | false ↦ λ k. shown_rule fs name ys r a.1 k
     ] e
 
@@ -76,7 +74,7 @@ wide_rule : (name : Text) (rs : List MarkedRule) (r : MarkedRule) → AllByRecur
 wide_rule name [] r a e = absurd (let n : None ≡ Some r = e in cc)
 wide_rule name (x ∷ xs) r a e =
     elim (same_text x.rule.name name) as (λ b. cond b (Some x) (rule_named name xs) ≡ Some r → pos 1 ≤ℤ r.rule.interval) [
-      | true ↦ λ k. subst (λ (y : MarkedRule). pos 1 ≤ℤ y.rule.interval) (the_rule x r k) a.0
+      | true ↦ λ k. subst (λ (y : MarkedRule). pos 1 ≤ℤ y.rule.interval) (same_Some x r k) a.0
       | false ↦ λ k. wide_rule name xs r a.1 k
     ] e
 

@@ -24,11 +24,9 @@ abbrev row_test : Query → List Text → ℤ → Fact → Bool
 row_test q g k f = same_group (group_of q f) g && int_eq (bucket_in q f.time) k
 
 pub last_first : (x y z : Bool) → ((x && y) && z) ≡ ((x && z) && y)
-last_first false y z = refl
 last_first true true true = refl
-last_first true true false = refl
 last_first true false true = refl
-last_first true false false = refl
+last_first _ y z = refl
 
 -- the row of a range is that of its two halves
 pub part_of_row-halves : (q : Query) (fs : List Fact) (g : List Text) (k a c b : ℤ) → a ≤ℤ c → c ≤ℤ b

@@ -1,10 +1,11 @@
 -- Validity of pieces, exactly if they have no fault.
-use Rattle.std.proofs.Common.{◌≡◌, ◌↔◌, ℕ, ℤ, pos, ◌+◌, ◌-ℤ◌, int_le, int_lt, refl, sym, ap, ap₂, ◌∙◌, List, [], ◌∷◌, Option, Some, None, ◌⊎◌, Bool, true, false, cond, ◌&&◌, ◌||◌, inl, inr, true≢false}
+use Rattle.ts_core.proofs.settings.SettingsLaws.{well}
+use Rattle.std.proofs.Common.{◌≡◌, ◌↔◌, ℕ, ℤ, pos, ◌+◌, ◌-ℤ◌, int_le, int_lt, refl, sym, ap, ap₂, ◌∙◌, List, [], ◌∷◌, Option, Some, None, ◌⊎◌, Bool, true, cond, ◌&&◌, ◌||◌, inl, inr}
 use Rattle.std.specs.Ordering.{int_eq}
 use Rattle.std.specs.Int.{int_rem_euclid}
 use Rattle.std.proofs.lemmas.Bool.Decides.{Decides-int_eq}
 use Rattle.std.specs.List.{AllByRecursion}
-use Rattle.std.proofs.lemmas.Bool.{and_parts, and_from, or_cases, or_left, or_right}
+use Rattle.std.proofs.lemmas.Bool.{and_parts, and_from, or_cases, or_left, or_right, cond-true}
 use Rattle.ts_core.specs.settings.Settings.{Rule, Settings}
 use Rattle.ts_core.specs.aggregates.Buckets.{bucket_of}
 use Rattle.ts_core.specs.store.Marks.{Marks, index_of}
@@ -15,13 +16,8 @@ use Rattle.ts_core.specs.plans.Faults.{PieceFault, Gap, NoSuchRule, is_aligned, 
 use Rattle.ts_core.proofs.lists.Comparisons.{le_from, le_true, lt_from, lt_true, same_text-from_eq, all_among, among_all}
 use Rattle.ts_core.proofs.facts.Ids.{same_text-eq}
 
-well : (b : Bool) (f : PieceFault) (next : Option PieceFault) → unless b f next ≡ None → (b ≡ true) × (next ≡ None)
-well true f next h = (refl, h)
-well false f next h = absurd (let q : Some f ≡ None = h in cc)
-
 well_none : (b : Bool) (f : PieceFault) (next : Option PieceFault) → b ≡ true → next ≡ None → unless b f next ≡ None
-well_none true f next h k = k
-well_none false f next h k = absurd (true≢false (sym h))
+well_none b f next h k = cond-true b next (Some f) h ∙ k
 
 fits_from : (r : Rule) (q : Query) (a b : ℤ) → (is_aligned r q || is_in_one_bucket q a b) ≡ true → IsAligned r q ⊎ IsInOneBucket q a b
 fits_from r q a b h =
@@ -88,32 +84,18 @@ each_none : (t : QueryContext) (n : ℕ) (ps : List Piece) → AllByRecursion (I
 each_none t n [] h = refl
 each_none t n (p ∷ ps) h = ap (λ f. or_fault n f (pieces_fault t (n + 1) ps)) (source_none t p.source p.from p.to h.0) ∙ each_none t (n + 1) ps h.1
 
-gap_step_from : (x y z : Bool) (g : Option ℕ) (n : ℕ) → cond (x && (y && z)) g (Some n) ≡ None → (x ≡ true) × (y ≡ true) × (z ≡ true) × (g ≡ None)
-gap_step_from true true true g n h = (refl, refl, refl, h)
-gap_step_from true true false g n h = absurd (let q : Some n ≡ None = h in cc)
-gap_step_from true false z g n h = absurd (let q : Some n ≡ None = h in cc)
-gap_step_from false y z g n h = absurd (let q : Some n ≡ None = h in cc)
-
-gap_step : (x y z : Bool) (g : Option ℕ) (n : ℕ) → x ≡ true → y ≡ true → z ≡ true → cond (x && (y && z)) g (Some n) ≡ g
-gap_step true true true g n p q r = refl
-gap_step true true false g n p q r = absurd (true≢false (sym r))
-gap_step true false z g n p q r = absurd (true≢false (sym q))
-gap_step false y z g n p q r = absurd (true≢false (sym p))
-
-end_from : (x : Bool) (n : ℕ) → cond x None (Some n) ≡ None → x ≡ true
-end_from true n h = refl
-end_from false n h = absurd (let q : Some n ≡ None = h in cc)
-
 pub covers_from : (n : ℕ) (a b : ℤ) (ps : List Piece) → gap_at n a b ps ≡ None → Covers a b ps
-covers_from n a b [] h = (Decides-int_eq a b).0 (end_from (int_eq a b) n h)
+covers_from n a b [] h = (Decides-int_eq a b).0 (well (int_eq a b) n None h).0
 covers_from n a b (p ∷ ps) h =
-    let s = gap_step_from (int_eq p.from a) (int_lt p.from p.to) (int_le p.to b) (gap_at (n + 1) p.to b ps) n h in
-    ((Decides-int_eq p.from a).0 s.0, lt_from p.from p.to s.1, le_from p.to b s.2, covers_from (n + 1) p.to b ps s.3)
+    let s = well (int_eq p.from a && (int_lt p.from p.to && int_le p.to b)) n (gap_at (n + 1) p.to b ps) h in
+    let first = and_parts (int_eq p.from a) _ s.0 in
+    let others = and_parts (int_lt p.from p.to) _ first.1 in
+    ((Decides-int_eq p.from a).0 first.0, lt_from p.from p.to others.0, le_from p.to b others.1, covers_from (n + 1) p.to b ps s.1)
 
 pub covers_none : (n : ℕ) (a b : ℤ) (ps : List Piece) → Covers a b ps → gap_at n a b ps ≡ None
 covers_none n a b [] h = ap (λ t. cond t None (Some n)) ((Decides-int_eq a b).1 h)
 covers_none n a b (p ∷ ps) h =
-    gap_step (int_eq p.from a) (int_lt p.from p.to) (int_le p.to b) (gap_at (n + 1) p.to b ps) n ((Decides-int_eq p.from a).1 h.0) (lt_true p.from p.to h.1) (le_true p.to b h.2)
+    cond-true _ (gap_at (n + 1) p.to b ps) (Some n) (and_from _ _ ((Decides-int_eq p.from a).1 h.0) (and_from _ _ (lt_true p.from p.to h.1) (le_true p.to b h.2)))
     ∙ covers_none (n + 1) p.to b ps h.3
 
 no_gap : (g : Option ℕ) (f : Option (PieceFault × ℕ)) → or_gap g f ≡ None → (g ≡ None) × (f ≡ None)

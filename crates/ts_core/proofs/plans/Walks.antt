@@ -91,15 +91,11 @@ first_alike t p d e name other bs cs f a b =
 
 steps_same : (t : QueryContext) (p d e : ℤ) (s u : Source) (bs cs : List Piece) (w v : Type 0) → (d ≡ e → w → v → bs ≡ cs) → Steps t p d s bs w → Steps t p e u cs v → Alike s u d e bs cs
 steps_same t p d e Raw Raw bs cs w v f a b = record { source = refl; end = a.1 ∙ sym b.1; rest = a.2 ∙ sym b.2 }
-steps_same t p d e Raw (Rollup n) bs cs w v f a b = absurd (let x = a.0 in let y = b.0 in omega (arith, ints))
-steps_same t p d e (Rollup m) Raw bs cs w v f a b = absurd (let x = a.0 in let y = b.0 in omega (arith, ints))
 steps_same t p d e (Rollup m) (Rollup n) bs cs w v f a b = first_alike t p d e m n bs cs (λ z. f z a.2 b.2) a.1 b.1
-
-abbrev piece_of : Source → ℤ → ℤ → Piece
-piece_of s a b = record { source = s; from = a; to = b }
+steps_same t p d e _ _ bs cs w v f a b = absurd (let x = a.0 in let y = b.0 in omega (arith, ints))
 
 pub same_piece : (a b : Piece) → a.source ≡ b.source → a.from ≡ b.from → a.to ≡ b.to → a ≡ b
-same_piece a b p q r = ap (λ s. piece_of s a.from a.to) p ∙ ap (λ x. piece_of b.source x a.to) q ∙ ap (piece_of b.source b.from) r
+same_piece a b p q r = λ i. record { source = p i; from = q i; to = r i }
 
 pub walk_same : (t : QueryContext) (p : ℤ) (bs cs : List Piece) → IsWalk t p bs → IsWalk t p cs → bs ≡ cs
 walk_same t p [] [] w v = refl

@@ -1,4 +1,6 @@
 -- Answers, by membership and not by the order of the list; an aggregate of a range is that of its two halves.
+use Rattle.ts_core.proofs.lists.MembersLemmas.{Among-map_as, map_back}
+use Rattle.std.proofs.lemmas.Bool.{and_right}
 use Rattle.std.proofs.Common.{◌≡◌, ℤ, ◌+ℤ◌, ◌*ℤ◌, ◌≤ℤ◌, int_lt, Bool, true, false, cond, ◌&&◌, not, List, [], ◌∷◌, map, filter, refl, sym, ◌∙◌, ap, ap₂, arith, true≢false}
 use Rattle.std.proofs.lemmas.Int.{ints, by_lt_z}
 use Rattle.std.proofs.lemmas.Bool.{and_parts, and_from}
@@ -10,8 +12,8 @@ use Rattle.ts_core.specs.queries.Queries.{Query, is_selected, matches, group_of}
 use Rattle.ts_core.specs.queries.Answers.{buckets_in, is_in_row, groups_of, answer_of}
 use Rattle.ts_core.proofs.lists.MembersLemmas.{Among-filter_passes, Among-filter_was, Among-filter_stays, AllDistinct-filter}
 use Rattle.ts_core.proofs.aggregates.Folds.{fold-same, fold-split}
-use Rattle.ts_core.proofs.lists.Comparisons.{same_bool, lt_from, lt_true}
-use Rattle.ts_core.proofs.queries.GroupsInOrder.{from_map, to_map, all_groups-same}
+use Rattle.ts_core.proofs.lists.Comparisons.{and_true, same_bool, lt_from, lt_true}
+use Rattle.ts_core.proofs.queries.GroupsInOrder.{all_groups-same}
 use Rattle.ts_core.proofs.plans.Covered.{within_true, within_below, within_above}
 
 -- ---- filters
@@ -43,9 +45,9 @@ aggregate_of-alike p r fs gs a n =
 
 groups_forth : (q : Query) (fs gs : List Fact) → ((f : Fact) → matches q f ≡ true → Among f fs → Among f gs) → (g : List Text) → Among g (map (group_of q) (filter (matches q) fs)) → Among g (map (group_of q) (filter (matches q) gs))
 groups_forth q fs gs h g a =
-    let r = from_map q g (filter (matches q) fs) a in
+    let r = map_back (group_of q) (filter (matches q) fs) g a in
     let t = Among-filter_passes (matches q) r.0 fs r.1 in
-    to_map q g r.0 (filter (matches q) gs) (Among-filter_stays (matches q) r.0 gs (h r.0 t (Among-filter_was (matches q) r.0 fs r.1)) t) r.2
+    Among-map_as (group_of q) r.0 (filter (matches q) gs) g (Among-filter_stays (matches q) r.0 gs (h r.0 t (Among-filter_was (matches q) r.0 fs r.1)) t) r.2
 
 -- the answer goes by the matching facts alone, and not by their order
 pub answer_of-alike : (q : Query) (fs gs : List Fact) → AreAlike (matches q) fs gs → answer_of fs q ≡ answer_of gs q
@@ -71,21 +73,10 @@ first_half true a c b t u = by_lt_z t a
 pub second_half : (x : Bool) (a c b t : ℤ) → a ≤ℤ c → ((x && is_within a b t) && not (int_lt t c)) ≡ (x && is_within c b t)
 second_half false a c b t u = refl
 second_half true a c b t u = by_lt_z t c
-    (λ m. ap (λ z. is_within a b t && not z) (lt_true t c m) ∙ and_false (is_within a b t) ∙ sym (within_below c b t m))
-    (λ m. ap (λ z. is_within a b t && not z) (not_lt t c m) ∙ and_true (is_within a b t) ∙ by_lt_z t b
+    (λ m. ap (λ z. is_within a b t && not z) (lt_true t c m) ∙ and_right (is_within a b t) false refl ∙ sym (within_below c b t m))
+    (λ m. ap (λ z. is_within a b t && not z) (let f : int_lt t c ≡ false = grind (arith, ints) in f) ∙ and_true (is_within a b t) ∙ by_lt_z t b
     (λ l. within_true a b t (omega (arith, ints)) l ∙ sym (within_true c b t m l))
     (λ l. within_above a b t l ∙ sym (within_above c b t l)))
-  where
-    and_false : (y : Bool) → (y && false) ≡ false
-    and_false true = refl
-    and_false false = refl
-
-    and_true : (y : Bool) → (y && true) ≡ y
-    and_true true = refl
-    and_true false = refl
-
-    not_lt : (y z : ℤ) → z ≤ℤ y → int_lt y z ≡ false
-    not_lt y z l = elim (int_lt y z) as (λ b. int_lt y z ≡ b → b ≡ false) [ true ↦ λ e. absurd (let k = lt_from y z e in omega (arith, ints)) | false ↦ λ e. refl ] refl
 
 -- the aggregate of what matches is that of the first half of the range merged with that of the second
 pub aggregate_of-halves : (q : Query) (c : ℤ) (fs : List Fact) → q.from ≤ℤ c → c ≤ℤ q.to

@@ -1,4 +1,5 @@
 -- Facts of a query's row: exactly those whose cell is in it, in a range where the rule's cells fit the query.
+use Rattle.std.proofs.lemmas.Bool.{and_right}
 use Rattle.std.proofs.Common.{◌≡◌, ℤ, pos, Bool, true, false, cond, not, ◌&&◌, List, [], ◌∷◌, ◌++◌, map, zip, refl, sym, ap, ap₂, ◌∙◌, ⊎_elim, ◌≤ℤ◌, ◌<ℤ◌, true≢false, arith}
 use Rattle.std.proofs.lemmas.Int.{ints}
 use Rattle.std.specs.List.{AllByRecursion, list_all}
@@ -49,21 +50,17 @@ all_parts P (x ∷ xs) ys a = let r = all_parts P xs ys a.1 in ((a.0, r.0), r.1)
 
 -- ---- tests
 
-pub and_none : (a : Bool) → a && false ≡ false
-and_none true = refl
-and_none false = refl
-
 -- in a range, tests that agree there
 in_range : (sel sel' wq wq' grp grp' bkt bkt' w w' : Bool) → sel ≡ sel' → grp ≡ grp' → w ≡ w' → (w ≡ true → wq ≡ wq') → (w ≡ true → bkt ≡ bkt')
     → ((sel && wq) && (grp && bkt)) && w ≡ ((sel' && wq') && (grp' && bkt')) && w'
 in_range sel sel' wq wq' grp grp' bkt bkt' true w' a b c d e =
     ap₂ (λ x y. x && y) (ap₂ (λ x y. x && y) (ap₂ (λ x y. x && y) a (d refl)) (ap₂ (λ x y. x && y) b (e refl))) c
 in_range sel sel' wq wq' grp grp' bkt bkt' false w' a b c d e =
-    and_none ((sel && wq) && (grp && bkt)) ∙ sym (ap (λ x. ((sel' && wq') && (grp' && bkt')) && x) (sym c) ∙ and_none ((sel' && wq') && (grp' && bkt')))
+    and_right ((sel && wq) && (grp && bkt)) false refl ∙ sym (and_right ((sel' && wq') && (grp' && bkt')) _ (sym c))
 
 match_in_range : (sel sel' wq wq' w w' : Bool) → sel ≡ sel' → w ≡ w' → (w ≡ true → wq ≡ wq') → (sel && wq) && w ≡ (sel' && wq') && w'
 match_in_range sel sel' wq wq' true w' a c d = ap₂ (λ x y. x && y) (ap₂ (λ x y. x && y) a (d refl)) c
-match_in_range sel sel' wq wq' false w' a c d = and_none (sel && wq) ∙ sym (ap (λ x. (sel' && wq') && x) (sym c) ∙ and_none (sel' && wq'))
+match_in_range sel sel' wq wq' false w' a c d = and_right (sel && wq) false refl ∙ sym (and_right (sel' && wq') _ (sym c))
 
 pub wider : (a b c d t : ℤ) → c ≤ℤ a → b ≤ℤ d → is_within a b t ≡ true → is_within c d t ≡ true
 wider a b c d t h k w =

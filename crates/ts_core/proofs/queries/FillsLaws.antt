@@ -1,5 +1,6 @@
 -- Filling: a row with data stays, and each other row gets the value of the fill option.
-use Rattle.std.proofs.Common.{◌≡◌, ℕ, ℤ, ◌==◌, suc, zero, true, false, cond, not, List, [], ◌∷◌, ◌++◌, map, filter, length, refl, sym, ◌∙◌, ap, subst, inl, inr, true≢false, Option, Some, None, arith}
+use Rattle.std.proofs.lemmas.Bool.{not-false}
+use Rattle.std.proofs.Common.{◌≡◌, ℕ, ℤ, suc, zero, true, false, cond, List, [], ◌∷◌, ◌++◌, map, filter, length, refl, sym, ◌∙◌, ap, subst, inl, inr, Option, Some, None, arith}
 use Rattle.std.specs.Prelude.{slice_get}
 use Rattle.std.proofs.lemmas.Bool.Decides.{Decides-eqb}
 use Rattle.std.specs.List.{AllByRecursion}
@@ -12,7 +13,7 @@ use Rattle.ts_core.specs.declared.queries.value.Function.{Function}
 use Rattle.ts_core.specs.declared.queries.fill.Fill.{Fill}
 use Rattle.ts_core.specs.declared.queries.fill.Fill.TheVariants.{Null as NullFill, None as NoneFill, Previous as PreviousFill, Number as NumberFill}
 use Rattle.ts_core.specs.queries.Fills.{value_of, number_value, has_data, shown, numbered, repeated, last_data, with_previous, filled_rows, FilledRow}
-use Rattle.ts_core.proofs.lists.MembersLemmas.{Among-filter_passes, Among-filter_was, Among-filter_stays, Among-map, at_map_of}
+use Rattle.ts_core.proofs.lists.MembersLemmas.{Among-filter_passes, Among-filter_was, Among-filter_stays, Among-map, map_back, at_map_of}
 use Rattle.ts_core.proofs.aggregates.Folds.{fold-count}
 
 -- ---- rows with data
@@ -65,12 +66,7 @@ number_fill-none n fs rows i r h d = at_map_of (numbered fs n) rows i r h ∙ ap
 
 -- `none` shows rows with data alone
 pub none_fill-shown : (fs : List Function) (rows : List Row) (x : FilledRow) → Among x (filled_rows NoneFill fs rows) → (r : Row) × Among r rows × (has_data r ≡ true) × (x ≡ shown fs r)
-none_fill-shown fs rows x h = let k = back (filter has_data rows) h in (k.0, Among-filter_was has_data k.0 rows k.1, Among-filter_passes has_data k.0 rows k.1, k.2)
-  where
-    back : (rs : List Row) → Among x (map (shown fs) rs) → (r : Row) × Among r rs × (x ≡ shown fs r)
-    back [] h = absurd h
-    back (r ∷ rs) (inl e) = (r, inl refl, e)
-    back (r ∷ rs) (inr h) = let k = back rs h in (k.0, inr k.1, k.2)
+none_fill-shown fs rows x h = let k = map_back (shown fs) (filter has_data rows) x h in (k.0, Among-filter_was has_data k.0 rows k.1, Among-filter_passes has_data k.0 rows k.1, sym k.2)
 
 -- the data of the last row with data, after rows
 abbrev carried : Option Aggregate → List Row → Option Aggregate
@@ -111,9 +107,6 @@ none_counted : (fs : List Fact) → length fs ≡ 0 → aggregate_of fs ≡ empt
 none_counted [] h = refl
 none_counted (f ∷ fs) h = absurd (omega arith)
 
-zero_of : (n : ℕ) → not (n == 0) ≡ false → n ≡ 0
-zero_of n h = elim (n == 0) as (λ b. (n == 0) ≡ b → not b ≡ false → n ≡ 0) [ true ↦ λ e _. (Decides-eqb n 0).0 e | false ↦ λ e k. absurd (true≢false k) ] refl h
-
 -- facts without data are none: what is shown of them under `null` is null, and 0 for COUNT
 pub no_data-empty : (start : ℤ) (fs : List Fact) → has_data (record { start = start; aggregate = aggregate_of fs }) ≡ false → aggregate_of fs ≡ empty_aggregate
-no_data-empty start fs h = none_counted fs (sym (fold-count aggregate_laws (λ (f : Fact). aggregate_of_one f.time f.value) (λ f. refl) fs) ∙ zero_of (aggregate_of fs).count h)
+no_data-empty start fs h = none_counted fs (sym (fold-count aggregate_laws (λ (f : Fact). aggregate_of_one f.time f.value) (λ f. refl) fs) ∙ (Decides-eqb (aggregate_of fs).count 0).0 (not-false _ h))

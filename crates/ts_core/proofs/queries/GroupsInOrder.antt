@@ -1,17 +1,16 @@
 -- The groups of an answer: exactly those that have a matching fact, each once, in byte order.
-use Rattle.std.proofs.Common.{◌≡◌, ◌↔◌, Bool, true, false, cond, ◌||◌, List, [], ◌∷◌, map, filter, refl, sym, ◌∙◌, ap, subst, inl, inr, true≢false, Option, Some, None, is_some, is_eq, Less, Equal, Greater, T}
+use Rattle.std.proofs.Common.{◌≡◌, ◌↔◌, Bool, true, false, cond, ◌||◌, List, [], ◌∷◌, map, filter, refl, sym, ◌∙◌, ap, subst, true≢false, Option, Some, None, is_some, is_eq, Less, Equal, Greater, T}
 use Rattle.std.specs.Cmp.{IsTotalOrder}
 use Rattle.std.specs.List.{list_any}
 use Rattle.std.specs.FinMap.{slice_cmp-IsAntisymmetric}
 use Rattle.std.specs.FinMap.Entries.{by_order, put, find, is_sorted, is_sorted-put, find-put, is_some-find, same_entries}
 use Rattle.std.proofs.lemmas.Cmp.{lists_total, nat_list_cmp_total, tied_itself}
 use Rattle.std.proofs.lemmas.Map.Lookups.{exact_bytes}
-use Rattle.std.proofs.lemmas.Bool.{or_cases, or_left, or_right}
 use Rattle.ts_core.specs.lists.Members.{Among}
 use Rattle.ts_core.specs.facts.Facts.{Text, Fact}
 use Rattle.ts_core.specs.queries.Queries.{Query, matches, group_of}
 use Rattle.ts_core.specs.queries.Answers.{group_cmp, same_group, placed, with_group, all_groups, groups_of}
-use Rattle.ts_core.proofs.lists.MembersLemmas.{Among-filter_passes, Among-filter_was, Among-filter_stays}
+use Rattle.ts_core.proofs.lists.MembersLemmas.{Among-from_any, any-from_Among, Among-filter_passes, Among-filter_was, Among-filter_stays, Among-map_as, map_back}
 use Rattle.ts_core.proofs.facts.Ids.{equal_of}
 use Rattle.ts_core.proofs.lists.Comparisons.{same_bool}
 
@@ -77,13 +76,10 @@ listed : (g : List Text) (gs : List (List Text)) → is_some (find group_cmp g (
 listed g gs = is_some-find group_cmp g (entries gs) ∙ ap (list_any (same_group g)) (keys_back gs)
 
 pub any_among : (g : List Text) (gs : List (List Text)) → list_any (same_group g) gs ≡ true → Among g gs
-any_among g [] h = absurd (true≢false (sym h))
-any_among g (k ∷ gs) h = elim (or_cases (same_group g k) (list_any (same_group g) gs) h) as (λ _. Among g (k ∷ gs)) [ inl e ↦ inl (same_group-eq g k e) | inr r ↦ inr (any_among g gs r) ]
+any_among = Among-from_any same_group same_group-eq same_group-refl
 
 pub among_any : (g : List Text) (gs : List (List Text)) → Among g gs → list_any (same_group g) gs ≡ true
-among_any g [] h = absurd h
-among_any g (k ∷ gs) (inl e) = or_left _ _ (subst (λ z. same_group g z ≡ true) e (same_group-refl g))
-among_any g (k ∷ gs) (inr r) = or_right (same_group g k) _ (among_any g gs r)
+among_any = any-from_Among same_group same_group-eq same_group-refl
 
 pub all_groups-among : (g : List Text) (gs : List (List Text)) → Among g (all_groups gs) ↔ Among g gs
 all_groups-among g gs = (
@@ -92,10 +88,9 @@ all_groups-among g gs = (
 )
 
 same_found : (o u : Option (Unit {0})) → is_some o ≡ is_some u → o ≡ u
-same_found None None h = refl
 same_found None (Some x) h = absurd (true≢false (sym h))
 same_found (Some x) None h = absurd (true≢false h)
-same_found (Some x) (Some y) h = refl
+same_found _ _ h = refl
 
 -- lists of the same groups are the same if they are in order
 pub all_groups-same : (gs hs : List (List Text)) → ((g : List Text) → Among g gs → Among g hs) → ((g : List Text) → Among g hs → Among g gs) → all_groups gs ≡ all_groups hs
@@ -114,23 +109,13 @@ pub record HasMatch (q : Query) (facts : List Fact) (g : List Text) : Type 0 whe
   pub matching : matches q fact ≡ true
   pub group : group_of q fact ≡ g
 
-pub from_map : (q : Query) (g : List Text) (fs : List Fact) → Among g (map (group_of q) fs) → (f : Fact) × Among f fs × (group_of q f ≡ g)
-from_map q g [] h = absurd h
-from_map q g (f ∷ fs) (inl e) = (f, inl refl, sym e)
-from_map q g (f ∷ fs) (inr h) = let r = from_map q g fs h in (r.0, inr r.1, r.2)
-
-pub to_map : (q : Query) (g : List Text) (f : Fact) (fs : List Fact) → Among f fs → group_of q f ≡ g → Among g (map (group_of q) fs)
-to_map q g f [] h e = absurd h
-to_map q g f (x ∷ fs) (inl p) e = inl (sym e ∙ ap (group_of q) p)
-to_map q g f (x ∷ fs) (inr h) e = inr (to_map q g f fs h e)
-
 -- a group is reported exactly where it has a matching fact
 pub groups_of-match : (q : Query) (facts : List Fact) (g : List Text) → Among g (groups_of q facts) ↔ HasMatch q facts g
 groups_of-match q facts g = (
   λ a.
-      let r = from_map q g (filter (matches q) facts) ((all_groups-among g (map (group_of q) (filter (matches q) facts))).0 a) in
+      let r = map_back (group_of q) (filter (matches q) facts) g ((all_groups-among g (map (group_of q) (filter (matches q) facts))).0 a) in
       record { fact = r.0; among = Among-filter_was (matches q) r.0 facts r.1; matching = Among-filter_passes (matches q) r.0 facts r.1; group = r.2 },
-  λ h. (all_groups-among g (map (group_of q) (filter (matches q) facts))).1 (to_map q g h.fact (filter (matches q) facts) (Among-filter_stays (matches q) h.fact facts h.among h.matching) h.group),
+  λ h. (all_groups-among g (map (group_of q) (filter (matches q) facts))).1 (Among-map_as (group_of q) h.fact (filter (matches q) facts) g (Among-filter_stays (matches q) h.fact facts h.among h.matching) h.group),
 )
 
 -- groups are in byte order, each once

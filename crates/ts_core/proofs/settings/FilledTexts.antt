@@ -10,15 +10,13 @@ abbrev AreFilled : List Text → Type 0
 AreFilled texts = AllByRecursion (λ (text : Text). text ≢ []) texts
 
 pub filled : (o : Option Text) (text : Text) → option_and_then if_not_empty o ≡ Some text → text ≢ []
-filled None text h e = absurd (let q : None ≡ Some text = h in cc)
-filled (Some []) text h e = absurd (let q : None ≡ Some text = h in cc)
 filled (Some (b ∷ bs)) text h e = absurd (let q : Some (b ∷ bs) ≡ Some text = h in cc)
+filled _ text h e = absurd (let q : None ≡ Some text = h in cc)
 
 one_more : (o : Option Text) (rest : Option (List Text)) (texts : List Text) → ((t : Text) → o ≡ Some t → t ≢ []) → ((ts : List Text) → rest ≡ Some ts → AreFilled ts)
     → option_and_then (λ (x : Text). option_map (λ (xs : List Text). x ∷ xs) rest) o ≡ Some texts → AreFilled texts
-one_more None rest texts first others h = absurd (let q : None ≡ Some texts = h in cc)
-one_more (Some t) None texts first others h = absurd (let q : None ≡ Some texts = h in cc)
 one_more (Some t) (Some ts) texts first others h = let q : Some (t ∷ ts) ≡ Some texts = h in let e : t ∷ ts ≡ texts = cc in subst AreFilled e (first t refl, others ts refl)
+one_more _ rest texts first others h = absurd (let q : None ≡ Some texts = h in cc)
 
 pub all_filled : (values : Items) (texts : List Text) → each filled_text values ≡ Some texts → AreFilled texts
 all_filled no_items texts h = let q : Some [] ≡ Some texts = h in let e : [] ≡ texts = cc in subst AreFilled e tt

@@ -24,12 +24,11 @@ found_of_each f (v ∷ vs) = ap (λ xs. f (view v) ∷ xs) (found_of_each f vs)
 
 one_is : {X : Type 0} (o : Option X) (rest : Option (List X)) (y : X) (ys xs : List X) → ((x : X) → o ≡ Some x → y ≡ x) → ((zs : List X) → rest ≡ Some zs → ys ≡ zs)
     → option_and_then (λ (x : X). option_map (λ (zs : List X). x ∷ zs) rest) o ≡ Some xs → y ∷ ys ≡ xs
-one_is None rest y ys xs first others h = absurd (let q : None ≡ Some xs = h in cc)
-one_is (Some x) None y ys xs first others h = absurd (let q : None ≡ Some xs = h in cc)
 one_is (Some x) (Some zs) y ys xs first others h =
     let q : Some (x ∷ zs) ≡ Some xs = h in
     let e : x ∷ zs ≡ xs = cc in
     ap (λ k. k ∷ ys) (first x refl) ∙ ap (λ ks. x ∷ ks) (others zs refl) ∙ e
+one_is _ rest y ys xs first others h = absurd (let q : None ≡ Some xs = h in cc)
 
 each_is : {X : Type 0} (f : Data → Option X) (g : Data → X) → ((d : Data) (x : X) → f d ≡ Some x → g d ≡ x) → (ds : Items) (xs : List X) → each f ds ≡ Some xs → of_each g ds ≡ xs
 each_is f g same no_items xs h = let q : Some [] ≡ Some xs = h in cc
@@ -48,9 +47,8 @@ all_read f (v ∷ vs) = both_read (f (view v)) (each f (items_view vs)) (list_al
 -- ---- a rule
 
 filled_is : (o : Option Text) (t : Text) → option_and_then if_not_empty o ≡ Some t → unwrap_or o [] ≡ t
-filled_is None t h = absurd (let q : None ≡ Some t = h in cc)
-filled_is (Some []) t h = absurd (let q : None ≡ Some t = h in cc)
 filled_is (Some (b ∷ bs)) t h = let q : Some (b ∷ bs) ≡ Some t = h in cc
+filled_is _ t h = absurd (let q : None ≡ Some t = h in cc)
 
 tags_are : (o : Option Items) (ts : List Text) → option_and_then (each filled_text) o ≡ Some ts → of_each text_found (unwrap_or o no_items) ≡ ts
 tags_are None ts h = absurd (let q : None ≡ Some ts = h in cc)
@@ -65,13 +63,7 @@ loose_is true (Some n) (Some m) (Some i) (Some o) (Some t) (Some l) tags r same 
     let q : Some (rule_of_parts n m i o t (unsigned_abs l)) ≡ Some r = h in
     let e : rule_of_parts n m i o t (unsigned_abs l) ≡ r = cc in
     ap (λ ts. rule_of_parts n m i o ts (unsigned_abs l)) (same t refl) ∙ e
-loose_is true (Some n) (Some m) (Some i) (Some o) (Some t) None tags r same h = absurd (let q : None ≡ Some r = h in cc)
-loose_is true (Some n) (Some m) (Some i) (Some o) None l tags r same h = absurd (let q : None ≡ Some r = h in cc)
-loose_is true (Some n) (Some m) (Some i) None t l tags r same h = absurd (let q : None ≡ Some r = h in cc)
-loose_is true (Some n) (Some m) None o t l tags r same h = absurd (let q : None ≡ Some r = h in cc)
-loose_is true (Some n) None i o t l tags r same h = absurd (let q : None ≡ Some r = h in cc)
-loose_is true None m i o t l tags r same h = absurd (let q : None ≡ Some r = h in cc)
-loose_is false n m i o t l tags r same h = absurd (let q : None ≡ Some r = h in cc)
+loose_is _ n m i o t l tags r same h = absurd (let q : None ≡ Some r = h in cc)
 
 rule_is : (d : Data) (r : Rule) → rule_parsed d ≡ Some r → rule_found d ≡ r
 unfolding rule_parsed rule_found
@@ -107,9 +99,7 @@ loose_settings true (Some raw) (Some t) rules s same h =
     let q : Some (settings_of_parts (unsigned_abs raw) t) ≡ Some s = h in
     let e : settings_of_parts (unsigned_abs raw) t ≡ s = cc in
     ap (λ rs. settings_of_parts (unsigned_abs raw) rs) (same t refl) ∙ e
-loose_settings true (Some raw) None rules s same h = absurd (let q : None ≡ Some s = h in cc)
-loose_settings true None t rules s same h = absurd (let q : None ≡ Some s = h in cc)
-loose_settings false raw t rules s same h = absurd (let q : None ≡ Some s = h in cc)
+loose_settings _ raw t rules s same h = absurd (let q : None ≡ Some s = h in cc)
 
 settings_is : (d : Data) (s : Settings) → settings_parsed d ≡ Some s → settings_found d ≡ s
 unfolding settings_parsed settings_found

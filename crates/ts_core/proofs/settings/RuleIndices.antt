@@ -1,4 +1,5 @@
 -- Look-up of a rule by its name, and its removal by its index.
+use Rattle.std.proofs.lemmas.Bool.{not_from_false, false_from_ne_true}
 use Rattle.std.proofs.Common.{◌≡◌, ℕ, zero, suc, ◌+◌, ◌<◌, Bool, true, false, cond, not, inl, inr, ◌||◌, List, [], ◌∷◌, length, filter, map, refl, sym, ap, ◌∙◌, subst, arith, Option, Some, None, IfSome, IsNone, true≢false}
 use Rattle.std.specs.List.{AllByRecursion, list_any, position_from, remove}
 use Rattle.std.proofs.lemmas.Option.{none-some, same_Some}
@@ -54,7 +55,7 @@ module _ {X : Type 0} (p : X → Bool) where
 -- ---- the rule of a name
 
 unnamed : (name : Text) (r : Rule) → (r.name ≡ name → ⊥) → is_unnamed name r ≡ true
-unnamed name r n = elim (same_text r.name name) as (λ b. same_text r.name name ≡ b → not b ≡ true) [ true ↦ λ e. absurd (n (same_text-eq r.name name e)) | false ↦ λ e. refl ] refl
+unnamed name r n = not_from_false _ (false_from_ne_true _ (λ e. n (same_text-eq r.name name e)))
 
 others_pass : (name : Text) (rs : List Rule) → (Among name (map (λ (r : Rule). r.name) rs) → ⊥) → AllByRecursion (λ b. b ≡ true) (map (is_unnamed name) rs)
 others_pass name [] n = tt
@@ -96,10 +97,10 @@ if_missing name rs (Some n) e none = absurd (true≢false none)
 -- ---- a rule is removed
 
 pub all_remove : {X : Type 0} (P : X → Type 0) (xs : List X) (n : ℕ) → AllByRecursion P xs → AllByRecursion P (remove xs n)
-all_remove P [] zero a = a
-all_remove P [] (suc n) a = a
 all_remove P (x ∷ xs) zero a = a.1
 all_remove P (x ∷ xs) (suc n) a = (a.0, all_remove P xs n a.1)
+all_remove P [] zero a = a
+all_remove P [] (suc n) a = a
 
 pub removed-faultless : (s : Settings) (n : ℕ) → n < length s.rules → settings_fault s ≡ None → settings_fault (record { raw_duration = s.raw_duration; rules = remove s.rules n }) ≡ None
 removed-faultless s n l h =

@@ -1,7 +1,8 @@
 -- Settings after a valid rule is appended or a rule is dropped, which have no fault.
-use Rattle.std.proofs.Common.{◌≡◌, ℕ, ◌+◌, ◌≤◌, Bool, true, false, cond, not, ◌||◌, List, [], ◌∷◌, ◌++◌, length, filter, Some, None, refl, sym, ap, ◌∙◌, arith, nat_lt, nat_le}
+use Rattle.std.proofs.lemmas.List.Folds.{list_any-append}
+use Rattle.std.proofs.Common.{◌≡◌, ℕ, ◌+◌, Bool, true, false, cond, not, ◌||◌, List, [], ◌∷◌, ◌++◌, length, filter, Some, None, refl, sym, ap, ◌∙◌, arith, nat_lt, nat_le}
 use Rattle.std.proofs.lemmas.Bool.Decides.{nat_tests}
-use Rattle.std.proofs.lemmas.Bool.{not-true, or_from, or_parts}
+use Rattle.std.proofs.lemmas.Bool.{not-true, or_from, or_parts, le-leb}
 use Rattle.std.proofs.lemmas.List.{append-nil, append_assoc, length-append}
 use Rattle.ts_core.specs.declared.settings.settings_fault.RuleFault.TheVariants.{Interval, Duration, RepeatedName, BadName, KeptTags}
 use Rattle.ts_core.specs.declared.settings.settings_fault.SettingsFault.TheVariants.{TooManyRules}
@@ -9,7 +10,7 @@ use Rattle.ts_core.specs.facts.Facts.{Text, same_text}
 use Rattle.ts_core.specs.settings.Settings.{Rule, Settings, with_rule, without_rule, is_unnamed}
 use Rattle.ts_core.specs.settings.SettingsFaults.{unless, is_rule_name, is_named, is_interval, are_kept_tags, outlasts, fault_of_rule, or_rule_fault, rules_fault, settings_fault, added_fault}
 use Rattle.ts_core.proofs.lists.ListSteps.{length-filter}
-use Rattle.ts_core.proofs.settings.SettingsLaws.{few, or_none, new_name, settings_are}
+use Rattle.ts_core.proofs.settings.SettingsLaws.{few, well, or_none, new_name, settings_are}
 
 -- ---- a rule is added
 
@@ -22,24 +23,17 @@ rules_fault-push raw earlier (x ∷ rs) r h =
     ∙ rules_fault-push raw (earlier ++ x ∷ []) rs r k.1
     ∙ ap (λ es. or_rule_fault (length es) (fault_of_rule raw es r) None) (append_assoc earlier (x ∷ []) rs)
 
-le_one : (n : ℕ) → nat_le (n + 1) 32 ≡ nat_lt n 32
-le_one n = grind (arith, nat_tests)
-
 -- the fault of settings with one more rule is the fault of that rule
 pub with_rule-fault : (s : Settings) (r : Rule) → settings_fault s ≡ None → settings_fault (with_rule r s) ≡ added_fault s r
 with_rule-fault s r h =
     let n : length (s.rules ++ r ∷ []) ≡ length s.rules + 1 = length-append s.rules (r ∷ []) in
     ap (λ m. cond (nat_le m 32) (rules_fault s.raw_duration [] (s.rules ++ r ∷ [])) (Some TooManyRules)) n
-    ∙ ap (λ b. cond b (rules_fault s.raw_duration [] (s.rules ++ r ∷ [])) (Some TooManyRules)) (le_one (length s.rules))
+    ∙ ap (λ b. cond b (rules_fault s.raw_duration [] (s.rules ++ r ∷ [])) (Some TooManyRules)) (grind (arith, nat_tests))
     ∙ ap (λ f. cond (nat_lt (length s.rules) 32) f (Some TooManyRules)) (rules_fault-push s.raw_duration [] s.rules r (few s h))
 
 -- a valid rule has a new name
 pub added_new : (s : Settings) (r : Rule) → added_fault s r ≡ None → is_named s.rules r.name ≡ false
-added_new s r h =
-    elim (nat_lt (length s.rules) 32) as (λ b. cond b (or_rule_fault (length s.rules) (fault_of_rule s.raw_duration s.rules r) None) (Some TooManyRules) ≡ None → is_named s.rules r.name ≡ false) [
-      | true ↦ λ q. not-true (is_named s.rules r.name) (new_name s.raw_duration s.rules r (or_none (length s.rules) (fault_of_rule s.raw_duration s.rules r) None q).0)
-      | false ↦ λ q. absurd (let n : Some TooManyRules ≡ None = q in cc)
-    ] h
+added_new s r h = not-true _ (new_name s.raw_duration s.rules r (or_none (length s.rules) _ None (well (nat_lt (length s.rules) 32) TooManyRules _ h).1).0)
 
 -- ---- a rule is dropped
 
@@ -47,17 +41,12 @@ added_new s r h =
 abbrev NamesFewer : List Rule → List Rule → Type 0
 NamesFewer others earlier = (name : Text) → is_named earlier name ≡ false → is_named others name ≡ false
 
-or_nothing : (b : Bool) → (b || false) ≡ (false || b)
-or_nothing true = refl
-or_nothing false = refl
-
-or_again : (a b c : Bool) → (a || (b || c)) ≡ ((a || b) || c)
-or_again true b c = refl
-or_again false b c = refl
+or_false : (b : Bool) → (b || false) ≡ b
+or_false true = refl
+or_false false = refl
 
 named_push : (rs : List Rule) (r : Rule) (name : Text) → is_named (rs ++ r ∷ []) name ≡ (is_named rs name || same_text r.name name)
-named_push [] r name = or_nothing (same_text r.name name)
-named_push (x ∷ rs) r name = ap (λ b. same_text x.name name || b) (named_push rs r name) ∙ or_again (same_text x.name name) (is_named rs name) (same_text r.name name)
+named_push rs r name = list_any-append (λ (x : Rule). same_text x.name name) rs (r ∷ []) ∙ ap (λ b. is_named rs name || b) (or_false (same_text r.name name))
 
 fault_fewer : (raw : ℕ) (earlier others : List Rule) (r : Rule) → NamesFewer others earlier → fault_of_rule raw earlier r ≡ None → fault_of_rule raw others r ≡ None
 fault_fewer raw earlier others r f h =
@@ -79,12 +68,9 @@ without_fault raw p earlier others (r ∷ rs) f h =
       | false ↦ without_fault raw p (earlier ++ r ∷ []) others rs more k.1
     ]
 
-few_rules : (n : ℕ) → n ≤ 32 → nat_le n 32 ≡ true
-few_rules n h = grind (arith, nat_tests)
-
 pub without_rule-faultless : (s : Settings) (name : Text) → settings_fault s ≡ None → settings_fault (without_rule name s) ≡ None
 without_rule-faultless s name h =
     let fewer = length-filter (is_unnamed name) s.rules in
     let all = (settings_are s h).few in
-    ap (λ b. cond b (rules_fault s.raw_duration [] (filter (is_unnamed name) s.rules)) (Some TooManyRules)) (few_rules (length (filter (is_unnamed name) s.rules)) (omega arith))
+    ap (λ b. cond b (rules_fault s.raw_duration [] (filter (is_unnamed name) s.rules)) (Some TooManyRules)) (le-leb (length (filter (is_unnamed name) s.rules)) 32 (omega arith))
     ∙ without_fault s.raw_duration (is_unnamed name) [] [] s.rules (λ n e. e) (few s h)

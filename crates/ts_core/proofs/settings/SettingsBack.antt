@@ -1,4 +1,5 @@
 -- Parsing the text of settings: the same settings.
+use Rattle.std.proofs.lemmas.Bool.{cases_Bool}
 use Rattle.std.proofs.Common.{◌≡◌, ◌≢◌, ℕ, suc, ◌+◌, ◌*◌, ◌<◌, ◌≤◌, ◌^◌, ◌==◌, ℤ, pos, negsuc, ◌≤ℤ◌, true, false, List, [], ◌∷◌, ◌++◌, map, Some, option_map, option_and_then, codes, decimal, FitsSigned, ⊎_elim, refl, sym, ap, ◌∙◌, arith, append-nil}
 use Rattle.std.proofs.lemmas.Int.{ints}
 use Rattle.std.proofs.lemmas.Bool.Decides.{nat_tests}
@@ -24,7 +25,7 @@ use Rattle.ts_core.specs.declared.facts.time_unit.TimeUnit.TheVariants.{Nanoseco
 use Rattle.ts_core.specs.facts.Durations.{duration_of, span_of, offset_of, keeping_of, counted_up, counted_down}
 use Rattle.ts_core.specs.settings.SettingsTexts.{if_not_empty, filled_text, each, rule_parsed, settings_parsed}
 use Rattle.ts_core.specs.settings.SettingsWritten.{nanoseconds_text, keeping_text, rule_data, settings_data, settings_text, MayBeWritten, HaveText, SettingsReadBack}
-use Rattle.ts_core.proofs.facts.DurationLaws.{digit_is, either, term_of, no_terms, spelled_read}
+use Rattle.ts_core.proofs.facts.DurationLaws.{digit_is, term_of, no_terms, spelled_read}
 use Rattle.ts_core.proofs.settings.SettingsForms.{rule_parts_read, parts_read, faultless}
 use Rattle.ts_core.proofs.settings.SettingsLaws.{settings_are}
 use Rattle.ts_core.proofs.text.NumberLemmas.{digit_not_minus}
@@ -107,7 +108,7 @@ keeping_back n lt =
     (λ none. let zero_is : 0 ≡ n = grind (arith, nat_tests) in rw none (for_ever_back ∙ ap (λ (k : ℕ). Some (pos k)) zero_is))
     (λ some. let is = decimal_is_IsNumeral n (omega arith) in
     rw some (keeping_plain (decimal n ++ codes "ns") (begins (decimal n) (codes "ns") is.0) ∙ span_back n lt))
-    (either (n == 0))
+    (cases_Bool (n == 0))
 
 -- ---- rules and settings
 
@@ -140,15 +141,9 @@ texts_json : (ts : List Text) → of_items (items_outline (items_of (map string 
 texts_json [] = refl
 texts_json (t ∷ ts) = ap (option_map (item (string t))) (texts_json ts)
 
-rule_json : (r : Rule) → of_json (outline (rule_data r)) ≡ Some (rule_data r)
-rule_json r = rw (texts_json r.kept_tags) refl
-
 rules_json : (rs : List Rule) → of_items (items_outline (items_of (map rule_data rs))) ≡ Some (items_of (map rule_data rs))
 rules_json [] = refl
-rules_json (r ∷ rs) = ap (option_and_then (λ d. option_map (item d) (of_items (items_outline (items_of (map rule_data rs)))))) (rule_json r) ∙ ap (option_map (item (rule_data r))) (rules_json rs)
-
-settings_json : (s : Settings) → of_json (outline (settings_data s)) ≡ Some (settings_data s)
-settings_json s = rw (rules_json s.rules) refl
+rules_json (r ∷ rs) = ap (option_and_then (λ d. option_map (item d) (of_items (items_outline (items_of (map rule_data rs)))))) (let e : of_json (outline (rule_data r)) ≡ Some (rule_data r) = rw (texts_json r.kept_tags) refl in e) ∙ ap (option_map (item (rule_data r))) (rules_json rs)
 
 texts_flat : (ts : List Text) → tree.items_depth (items_outline (items_of (map string ts))) ≡ 0
 texts_flat [] = refl
@@ -161,22 +156,13 @@ rules_depth : (rs : List Rule) → tree.items_depth (items_outline (items_of (ma
 rules_depth [] = omega arith
 rules_depth (r ∷ rs) = omega (arith, rule_depth r, rules_depth rs)
 
-shallow : (s : Settings) → tree.depth (outline (settings_data s)) ≤ max_depth
-shallow s = omega (arith, rules_depth s.rules)
-
 texts_numbers : (ts : List Text) → tree.ItemsHaveNumbers (items_outline (items_of (map string ts)))
 texts_numbers [] = tt
 texts_numbers (t ∷ ts) = (tt, texts_numbers ts)
 
-rule_numbers : (r : Rule) → tree.HasNumbers (outline (rule_data r))
-rule_numbers r = (tt, (tt, (texts_numbers r.kept_tags, (tt, (tt, (tt, tt))))))
-
 rules_numbers : (rs : List Rule) → tree.ItemsHaveNumbers (items_outline (items_of (map rule_data rs)))
 rules_numbers [] = tt
-rules_numbers (r ∷ rs) = (rule_numbers r, rules_numbers rs)
-
-numbers : (s : Settings) → tree.HasNumbers (outline (settings_data s))
-numbers s = (tt, (rules_numbers s.rules, tt))
+rules_numbers (r ∷ rs) = ((tt, (tt, (texts_numbers r.kept_tags, (tt, (tt, (tt, tt)))))), rules_numbers rs)
 
 printed_back : (j : json.Json) → tree.HasNumbers j → tree.depth j ≤ max_depth → read (print (tree.json_tokens j)) ≡ of_json j
 printed_back j has flat =
@@ -186,7 +172,7 @@ printed_back j has flat =
 text_read : (s : Settings) → read (settings_text s) ≡ Some (settings_data s)
 text_read s =
     let j = outline (settings_data s) in
-    ap read (sym (print-outline (settings_data s))) ∙ printed_back j (numbers s) (shallow s) ∙ settings_json s
+    ap read (sym (print-outline (settings_data s))) ∙ printed_back j (tt, (rules_numbers s.rules, tt)) (omega (arith, rules_depth s.rules)) ∙ rw (rules_json s.rules) refl
 
 pub settings_read_back : SettingsReadBack
 settings_read_back s w = faultless (settings_text s) (settings_data s) s (text_read s) (data_back s w) w.faultless

@@ -47,38 +47,23 @@ without_name false m i o t l = refl
 
 without_measurement : (b : Bool) (n : Option Text) (i o : Option ℤ) (t : Option (List Text)) (l : Option ℤ) → rule_with b n None i o t l ≡ None
 without_measurement true (Some n) i o t l = refl
-without_measurement true None i o t l = refl
-without_measurement false n i o t l = refl
+without_measurement _ n i o t l = refl
 
 without_interval : (b : Bool) (n m : Option Text) (o : Option ℤ) (t : Option (List Text)) (l : Option ℤ) → rule_with b n m None o t l ≡ None
 without_interval true (Some n) (Some m) o t l = refl
-without_interval true (Some n) None o t l = refl
-without_interval true None m o t l = refl
-without_interval false n m o t l = refl
+without_interval _ n m o t l = refl
 
 without_offset : (b : Bool) (n m : Option Text) (i : Option ℤ) (t : Option (List Text)) (l : Option ℤ) → rule_with b n m i None t l ≡ None
 without_offset true (Some n) (Some m) (Some i) t l = refl
-without_offset true (Some n) (Some m) None t l = refl
-without_offset true (Some n) None i t l = refl
-without_offset true None m i t l = refl
-without_offset false n m i t l = refl
+without_offset _ n m i t l = refl
 
 without_tags : (b : Bool) (n m : Option Text) (i o l : Option ℤ) → rule_with b n m i o None l ≡ None
 without_tags true (Some n) (Some m) (Some i) (Some o) l = refl
-without_tags true (Some n) (Some m) (Some i) None l = refl
-without_tags true (Some n) (Some m) None o l = refl
-without_tags true (Some n) None i o l = refl
-without_tags true None m i o l = refl
-without_tags false n m i o l = refl
+without_tags _ n m i o l = refl
 
 without_duration : (b : Bool) (n m : Option Text) (i o : Option ℤ) (t : Option (List Text)) → rule_with b n m i o t None ≡ None
 without_duration true (Some n) (Some m) (Some i) (Some o) (Some t) = refl
-without_duration true (Some n) (Some m) (Some i) (Some o) None = refl
-without_duration true (Some n) (Some m) (Some i) None t = refl
-without_duration true (Some n) (Some m) None o t = refl
-without_duration true (Some n) None i o t = refl
-without_duration true None m i o t = refl
-without_duration false n m i o t = refl
+without_duration _ n m i o t = refl
 
 pub other_keys : (d : Data) → has_keys 6 d ≡ false → rule_parsed d ≡ None
 unfolding rule_parsed
@@ -150,8 +135,7 @@ without_raw false rs = refl
 
 without_rules : (b : Bool) (raw : Option ℤ) → settings_with b raw None ≡ None
 without_rules true (Some raw) = refl
-without_rules true None = refl
-without_rules false raw = refl
+without_rules _ raw = refl
 
 pub other_settings_keys : (d : Data) → has_keys 2 d ≡ false → settings_parsed d ≡ None
 unfolding settings_parsed

@@ -1,9 +1,8 @@
 -- The properties of settings without a fault.
-use Rattle.std.proofs.Common.{◌≡◌, ℕ, ◌<◌, ◌≤◌, ℤ, pos, int_le, ◌≤ℤ◌, Bool, true, false, ◌&&◌, ◌||◌, not, ◌==◌, map, ap, sym, ◌∙◌, true≢false, nat_lt, nat_le, List, [], ◌∷◌, ◌++◌, length, Option, Some, None, inl, inr, ⊎_elim, arith, refl, cond}
+use Rattle.std.proofs.Common.{◌≡◌, ℕ, ℤ, pos, int_le, ◌≤ℤ◌, Bool, true, false, ◌&&◌, ◌||◌, not, ◌==◌, map, ap, sym, ◌∙◌, true≢false, nat_lt, nat_le, List, [], ◌∷◌, ◌++◌, length, Option, Some, None, inl, inr, ⊎_elim, arith, refl}
 use Rattle.std.proofs.lemmas.Int.{ints}
-use Rattle.std.proofs.lemmas.Bool.Decides.{nat_tests}
 use Rattle.std.specs.List.{AllByRecursion, list_any}
-use Rattle.std.proofs.lemmas.Bool.{and_parts, or_parts, or_cases, not-true}
+use Rattle.std.proofs.lemmas.Bool.{and_parts, or_cases, or_right, not-true, eqb-true, ltb-true, leb-true}
 use Rattle.ts_core.specs.declared.settings.settings_fault.RuleFault.{RuleFault}
 use Rattle.ts_core.specs.declared.settings.settings_fault.SettingsFault.{SettingsFault}
 use Rattle.ts_core.specs.declared.settings.settings_fault.SettingsFault.TheVariants.{TooManyRules, OfRule}
@@ -11,54 +10,29 @@ use Rattle.ts_core.specs.lists.Members.{Among, AllDistinct}
 use Rattle.ts_core.specs.facts.Facts.{Text, same_text}
 use Rattle.ts_core.specs.settings.Settings.{Rule, Settings, Outlasts, AreKeptTags, AreSettings}
 use Rattle.ts_core.specs.settings.SettingsFaults.{unless, is_named, is_interval, are_distinct, are_kept_tags, outlasts, fault_of_rule, or_rule_fault, rules_fault, settings_fault}
-use Rattle.ts_core.proofs.lists.Comparisons.{le_from, same_text-refl}
+use Rattle.ts_core.proofs.lists.Comparisons.{le_from, same_text-refl, texts_among}
 use Rattle.ts_core.proofs.lists.MembersLemmas.{Among-left, Among-right}
 
-pub well : (b : Bool) (f : RuleFault) (next : Option RuleFault) → unless b f next ≡ None → (b ≡ true) × (next ≡ None)
+pub well : {F : Type 0} (b : Bool) (f : F) (next : Option F) → unless b f next ≡ None → (b ≡ true) × (next ≡ None)
 well true f next h = (refl, h)
 well false f next h = absurd (let q : Some f ≡ None = h in cc)
-
-eq_from : (a b : ℕ) → (a == b) ≡ true → a ≡ b
-eq_from a b h = grind (arith, nat_tests)
-
-lt_from : (a b : ℕ) → nat_lt a b ≡ true → a < b
-lt_from a b h = grind (arith, nat_tests)
-
-nat_le_from : (a b : ℕ) → nat_le a b ≡ true → a ≤ b
-nat_le_from a b h = grind (arith, nat_tests)
 
 outlasts_from : (long short : ℕ) → outlasts long short ≡ true → Outlasts long short
 outlasts_from long short h =
     elim (or_cases (long == 0) (nat_lt 0 short && nat_le short long) h) as (λ _. Outlasts long short) [
-      | inl e ↦ inl (eq_from long 0 e)
-      | inr k ↦ let p = and_parts (nat_lt 0 short) _ k in inr (lt_from 0 short p.0, nat_le_from short long p.1)
+      | inl e ↦ inl (eqb-true long 0 e)
+      | inr k ↦ let p = and_parts (nat_lt 0 short) _ k in inr (ltb-true 0 short p.0, leb-true short long p.1)
     ]
-
-not_from : (b : Bool) → b ≡ false → not b ≡ true
-not_from true h = absurd (let n : true ≡ false = h in cc)
-not_from false h = refl
 
 at_least_second : (i : ℤ) → is_interval i ≡ true → pos 1000000000 ≤ℤ i
 at_least_second i h = le_from (pos 1000000000) i (and_parts (int_le (pos 1000000000) i) _ h).0
 
-at_least_one : (i : ℤ) → is_interval i ≡ true → pos 1 ≤ℤ i
-at_least_one i h = let second = at_least_second i h in omega (arith, ints)
-
-not_among : (t : Text) (ts : List Text) → not (list_any (same_text t) ts) ≡ true → Among t ts → ⊥
-not_among t [] h a = a
-not_among t (u ∷ us) h a =
-    let p = or_parts (same_text t u) (list_any (same_text t) us) (not-true _ h) in
-    elim a as (λ _. ⊥) [
-      | inl same ↦ true≢false (sym (ap (same_text t) (sym same) ∙ same_text-refl t) ∙ p.0)
-      | inr more ↦ not_among t us (not_from _ p.1) more
-    ]
-
 distinct_from : (ts : List Text) → are_distinct ts ≡ true → AllDistinct ts
 distinct_from [] h = tt
-distinct_from (t ∷ ts) h = let p = and_parts (not (list_any (same_text t) ts)) _ h in (not_among t ts p.0, distinct_from ts p.1)
+distinct_from (t ∷ ts) h = let p = and_parts (not (list_any (same_text t) ts)) _ h in (λ a. true≢false (sym (texts_among t ts a) ∙ not-true _ p.0), distinct_from ts p.1)
 
 kept_tags_from : (tags : List Text) → are_kept_tags tags ≡ true → AreKeptTags tags
-kept_tags_from tags h = let p = and_parts (nat_le (length tags) 16) _ h in record { few = nat_le_from (length tags) 16 p.0; once = distinct_from tags p.1 }
+kept_tags_from tags h = let p = and_parts (nat_le (length tags) 16) _ h in record { few = leb-true (length tags) 16 p.0; once = distinct_from tags p.1 }
 
 -- the name of a rule without a fault is new
 pub new_name : (raw : ℕ) (earlier : List Rule) (r : Rule) → fault_of_rule raw earlier r ≡ None → not (is_named earlier r.name) ≡ true
@@ -78,33 +52,18 @@ fit_from raw earlier r h =
     let p3 = well _ _ _ p2.1 in
     let p4 = well _ _ _ p3.1 in
     let p5 = well _ _ _ p4.1 in
-    record { wide = at_least_one r.interval p3.0; second = at_least_second r.interval p3.0; kept_tags = kept_tags_from r.kept_tags p4.0; lasting = outlasts_from r.duration raw p5.0 }
+    let second = at_least_second r.interval p3.0 in
+    record { wide = omega (arith, ints); second = second; kept_tags = kept_tags_from r.kept_tags p4.0; lasting = outlasts_from r.duration raw p5.0 }
 
 pub or_none : (n : ℕ) (f : Option RuleFault) (next : Option SettingsFault) → or_rule_fault n f next ≡ None → (f ≡ None) × (next ≡ None)
 or_none n None next h = (refl, h)
 or_none n (Some f) next h = absurd (let q : Some (OfRule f n) ≡ None = h in cc)
 
-rules_wide : (raw : ℕ) (earlier rs : List Rule) → rules_fault raw earlier rs ≡ None → AllByRecursion (λ (r : Rule). pos 1 ≤ℤ r.interval) rs
-rules_wide raw earlier [] h = tt
-rules_wide raw earlier (r ∷ rs) h = let k = or_none (length earlier) (fault_of_rule raw earlier r) _ h in ((fit_from raw earlier r k.0).wide, rules_wide raw (earlier ++ r ∷ []) rs k.1)
-
-rules_long : (raw : ℕ) (earlier rs : List Rule) → rules_fault raw earlier rs ≡ None → AllByRecursion (λ (r : Rule). pos 1000000000 ≤ℤ r.interval) rs
-rules_long raw earlier [] h = tt
-rules_long raw earlier (r ∷ rs) h = let k = or_none (length earlier) (fault_of_rule raw earlier r) _ h in ((fit_from raw earlier r k.0).second, rules_long raw (earlier ++ r ∷ []) rs k.1)
-
-rules_tagged : (raw : ℕ) (earlier rs : List Rule) → rules_fault raw earlier rs ≡ None → AllByRecursion (λ (r : Rule). AreKeptTags r.kept_tags) rs
-rules_tagged raw earlier [] h = tt
-rules_tagged raw earlier (r ∷ rs) h = let k = or_none (length earlier) (fault_of_rule raw earlier r) _ h in ((fit_from raw earlier r k.0).kept_tags, rules_tagged raw (earlier ++ r ∷ []) rs k.1)
-
-rules_lasting : (raw : ℕ) (earlier rs : List Rule) → rules_fault raw earlier rs ≡ None → AllByRecursion (λ (r : Rule). Outlasts r.duration raw) rs
-rules_lasting raw earlier [] h = tt
-rules_lasting raw earlier (r ∷ rs) h = let k = or_none (length earlier) (fault_of_rule raw earlier r) _ h in ((fit_from raw earlier r k.0).lasting, rules_lasting raw (earlier ++ r ∷ []) rs k.1)
+rules_fit : (P : Rule → Type 0) (raw : ℕ) → ((r : Rule) → IsFit raw r → P r) → (earlier rs : List Rule) → rules_fault raw earlier rs ≡ None → AllByRecursion P rs
+rules_fit P raw f earlier [] h = tt
+rules_fit P raw f earlier (r ∷ rs) h = let k = or_none (length earlier) (fault_of_rule raw earlier r) _ h in (f r (fit_from raw earlier r k.0), rules_fit P raw f (earlier ++ r ∷ []) rs k.1)
 
 -- ---- names
-
-or_right : (b c : Bool) → c ≡ true → (b || c) ≡ true
-or_right true c h = refl
-or_right false c h = h
 
 is_named-among : (earlier : List Rule) (e : Rule) (name : Text) → Among e earlier → e.name ≡ name → is_named earlier name ≡ true
 is_named-among [] e name a n = absurd a
@@ -132,29 +91,18 @@ rules_named raw earlier (r ∷ rs) h =
 -- ---- settings
 
 pub few : (s : Settings) → settings_fault s ≡ None → rules_fault s.raw_duration [] s.rules ≡ None
-few s h =
-    elim (nat_le (length s.rules) 32) as (λ b. cond b (rules_fault s.raw_duration [] s.rules) (Some TooManyRules) ≡ None → rules_fault s.raw_duration [] s.rules ≡ None) [
-      | true ↦ λ q. q
-      | false ↦ λ q. absurd (let n : Some TooManyRules ≡ None = q in cc)
-    ] h
+few s h = (well (nat_le (length s.rules) 32) TooManyRules _ h).1
 
 pub settings_wide : (s : Settings) → settings_fault s ≡ None → AllByRecursion (λ (r : Rule). pos 1 ≤ℤ r.interval) s.rules
-settings_wide s h = rules_wide s.raw_duration [] s.rules (few s h)
-
-count_few : (s : Settings) → settings_fault s ≡ None → length s.rules ≤ 32
-count_few s h =
-    elim (nat_le (length s.rules) 32) as (λ b. nat_le (length s.rules) 32 ≡ b → cond b (rules_fault s.raw_duration [] s.rules) (Some TooManyRules) ≡ None → length s.rules ≤ 32) [
-      | true ↦ λ e q. nat_le_from (length s.rules) 32 e
-      | false ↦ λ e q. absurd (let n : Some TooManyRules ≡ None = q in cc)
-    ] refl h
+settings_wide s h = rules_fit _ s.raw_duration (λ r f. f.wide) [] s.rules (few s h)
 
 -- settings without a fault, in other words
 pub settings_are : (s : Settings) → settings_fault s ≡ None → AreSettings s
 settings_are s h = record {
-  few = count_few s h;
+  few = leb-true (length s.rules) 32 (well _ TooManyRules _ h).0;
   names = rules_named s.raw_duration [] s.rules (few s h);
   intervals = settings_wide s h;
-  seconds = rules_long s.raw_duration [] s.rules (few s h);
-  kept_tags = rules_tagged s.raw_duration [] s.rules (few s h);
-  lasting = rules_lasting s.raw_duration [] s.rules (few s h);
+  seconds = rules_fit _ s.raw_duration (λ r f. f.second) [] s.rules (few s h);
+  kept_tags = rules_fit _ s.raw_duration (λ r f. f.kept_tags) [] s.rules (few s h);
+  lasting = rules_fit _ s.raw_duration (λ r f. f.lasting) [] s.rules (few s h);
 }

@@ -26,13 +26,12 @@ begin_keeps opening h now waiting columns e f a =
 raised_lows : (opening : Settings) (h : History) (now : ℤ) (rs after : List RuleCells) → AllZip (IsRaised now) rs after
     → map lowest_of rs ≡ map (low_of opening h) (map rule_of rs) → map lowest_of after ≡ map (low_of opening (Begin now ∷ h)) (map rule_of after)
 raised_lows opening h now [] [] t e = refl
-raised_lows opening h now [] (y ∷ ys) t e = absurd t
-raised_lows opening h now (x ∷ xs) [] t e = absurd t
 raised_lows opening h now (x ∷ xs) (y ∷ ys) t e =
     let top : x.low ≡ low_of opening h x.rule = same_head x.low (low_of opening h x.rule) (map lowest_of xs) (map (low_of opening h) (map rule_of xs)) e in
     let low : y.low ≡ low_of opening (Begin now ∷ h) y.rule =
     sym t.0.low ∙ ap (λ m. int_max m (index_of x.rule (kept_since x.rule.duration now))) top ∙ ap (low_of opening (Begin now ∷ h)) t.0.rule in
     ap₂ (λ m ms. m ∷ ms) low (raised_lows opening h now xs ys t.1 (same_rest x.low (low_of opening h x.rule) (map lowest_of xs) (map (low_of opening h) (map rule_of xs)) e))
+raised_lows opening h now _ _ t e = absurd t
 
 raised_cells : (cut next : Column → ℤ) (fs : List Fact) (now : ℤ) → CutsAgree cut next fs → (r after : RuleCells) → IsRaised now r after → HasCells cut fs r → HasCells next fs after
 raised_cells cut next fs now same r after t p =

@@ -43,10 +43,7 @@ part_step : (x u v w : Aggregate) (p q r : Bool) → Part p q r → w ≡ merged
 part_step x u v w true false true h e = ap (merged x) e ∙ sym (aggregate_laws.assoc x u v)
 part_step x u v w false true true h e = ap (merged x) e ∙ merge-left_comm aggregate_laws one_fact x u v
 part_step x u v w false false false h e = e
-part_step x u v w true true r h e = absurd h
-part_step x u v w true false false h e = absurd h
-part_step x u v w false true false h e = absurd h
-part_step x u v w false false true h e = absurd h
+part_step x u v w _ _ r h e = absurd h
 
 into : (b : Bool) (f : Fact) (fs : List Fact) → aggregate_of (cond b (f ∷ fs) fs) ≡ cond b (merged (one_fact f) (aggregate_of fs)) (aggregate_of fs)
 into true f fs = refl
@@ -61,9 +58,7 @@ aggregate_where-part p q r h (f ∷ fs) =
 
 part_by : (a b : Bool) → Part (a && not b) (a && b) a
 part_by true true = tt
-part_by true false = tt
-part_by false true = tt
-part_by false false = tt
+part_by _ _ = tt
 
 -- the total is the two parts together, wherever the cut
 pub total_of-parts : (cut : Column → ℤ) (r : Rule) (k : Cell) (fs : List Fact) → total_of r k fs ≡ merged (frozen_of cut r k fs) (live_of cut r k fs)
@@ -95,11 +90,9 @@ abbrev pub passed_of : (Column → ℤ) → (Column → ℤ) → Rule → Cell �
 passed_of cut next r k fs = aggregate_where (λ (f : Fact). is_in_cell r k f && is_passed cut next f) fs
 
 part_frozen : (a b c : Bool) → (c ≡ true → b ≡ true) → Part (a && not b) (a && (b && not c)) (a && not c)
-part_frozen true true true h = tt
-part_frozen true true false h = tt
 part_frozen true false true h = absurd (true≢false (sym (h refl)))
-part_frozen true false false h = tt
-part_frozen false b c h = tt
+part_frozen true true true h = tt
+part_frozen _ b c h = tt
 
 -- a cut that rises: the frozen part gains what the live part loses
 pub frozen_of-gains : (cut next : Column → ℤ) → CutRises cut next → (r : Rule) (k : Cell) (fs : List Fact) → frozen_of next r k fs ≡ merged (frozen_of cut r k fs) (passed_of cut next r k fs)

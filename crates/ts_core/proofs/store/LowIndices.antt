@@ -6,7 +6,7 @@ use Rattle.std.proofs.lemmas.Int.{ints, clamps, by_lt_z}
 use Rattle.ts_core.specs.lists.Members.{Among}
 use Rattle.ts_core.specs.facts.Times.{least_time}
 use Rattle.ts_core.specs.settings.Settings.{Rule, Settings, Outlasts}
-use Rattle.ts_core.specs.store.History.{History, Line, Begin, Step, AddRule, DropRule, kept_since, raw_mark}
+use Rattle.ts_core.specs.store.History.{History, Begin, AddRule, kept_since, raw_mark}
 use Rattle.ts_core.specs.store.Marks.{index_of, first_from, low_of, begins, since_added, start_of_rule, IsFirstFrom, IsGreatestOf, IsGreatestLeft}
 use Rattle.ts_core.specs.facts.Facts.{Text, same_text}
 use Rattle.ts_core.specs.aggregates.Buckets.{IsBucketOf, bucket_start}
@@ -33,11 +33,8 @@ raw_mark-is opening [] = record {
   reached = inl refl;
   none_greater = λ y a. ⊎_elim {C = y ≤ℤ least_time} (λ e. subst (λ z. z ≤ℤ least_time) (sym e) (≤ℤ_refl least_time)) (λ b. absurd b) a;
 }
-raw_mark-is opening (Line facts ∷ h) = raw_mark-is opening h
 raw_mark-is opening (Begin now ∷ h) = greatest_more least_time (kept_since opening.raw_duration now) (raw_mark opening h) (map (kept_since opening.raw_duration) (begins h)) (raw_mark-is opening h)
-raw_mark-is opening (Step ended ∷ h) = raw_mark-is opening h
-raw_mark-is opening (AddRule rule ∷ h) = raw_mark-is opening h
-raw_mark-is opening (DropRule name ∷ h) = raw_mark-is opening h
+raw_mark-is opening (_ ∷ h) = raw_mark-is opening h
 
 -- ---- the bucket of the greatest
 
@@ -85,9 +82,6 @@ first_from-after r mark t w l =
 abbrev rule_mark : Rule → History → ℤ
 rule_mark r h = raw_mark (record { raw_duration = r.duration; rules = [] }) h
 
-max_itself : (a : ℤ) → a ≡ int_max a a
-max_itself a = sym (max_first a a (≤ℤ_refl a))
-
 max_again : (a b c : ℤ) → int_max (int_max a b) c ≡ int_max a (int_max b c)
 max_again a b c = omega (arith, ints, clamps)
 
@@ -99,21 +93,19 @@ before_start opening h r w =
 
 -- the greater of where the rule starts and what the begins since then leave
 low_of-mark : (opening : Settings) (h : History) (r : Rule) → pos 1 ≤ℤ r.interval → low_of opening h r ≡ int_max (start_of_rule opening h r) (index_of r (rule_mark r (since_added r.name h)))
-low_of-mark opening [] r w = max_itself (index_of r least_time)
-low_of-mark opening (Line facts ∷ h) r w = low_of-mark opening h r w
+low_of-mark opening [] r w = sym (max_first (index_of r least_time) (index_of r least_time) (≤ℤ_refl (index_of r least_time)))
 low_of-mark opening (Begin now ∷ h) r w =
     let m : ℤ = rule_mark r (since_added r.name h) in
     let k : ℤ = kept_since r.duration now in
     ap (λ x. int_max x (index_of r k)) (low_of-mark opening h r w) ∙ max_again (start_of_rule opening h r) (index_of r m) (index_of r k)
     ∙ ap (int_max (start_of_rule opening h r)) (index_of-max r m k w)
-low_of-mark opening (Step ended ∷ h) r w = low_of-mark opening h r w
 low_of-mark opening (AddRule rule ∷ h) r w =
     elim (same_text rule.name r.name) as (λ b. cond b (first_from r (raw_mark opening h)) (low_of opening h r)
     ≡ int_max (cond b (first_from r (raw_mark opening h)) (start_of_rule opening h r)) (index_of r (rule_mark r (cond b [] (AddRule rule ∷ since_added r.name h))))) [
       | true ↦ sym (max_first (first_from r (raw_mark opening h)) (index_of r least_time) (before_start opening h r w))
       | false ↦ low_of-mark opening h r w
     ]
-low_of-mark opening (DropRule name ∷ h) r w = low_of-mark opening h r w
+low_of-mark opening (_ ∷ h) r w = low_of-mark opening h r w
 
 -- a low index in the field's words
 pub low_of-is : (opening : Settings) (h : History) (r : Rule) → pos 1 ≤ℤ r.interval
@@ -124,11 +116,8 @@ low_of-is opening h r w = (rule_mark r (since_added r.name h), raw_mark-is (reco
 
 for_ever : (rules : List Rule) (h : History) → raw_mark (record { raw_duration = 0; rules = rules }) h ≡ least_time
 for_ever rules [] = refl
-for_ever rules (Line facts ∷ h) = for_ever rules h
 for_ever rules (Begin now ∷ h) = ap (λ x. int_max x least_time) (for_ever rules h)
-for_ever rules (Step ended ∷ h) = for_ever rules h
-for_ever rules (AddRule rule ∷ h) = for_ever rules h
-for_ever rules (DropRule name ∷ h) = for_ever rules h
+for_ever rules (_ ∷ h) = for_ever rules h
 
 least_mark : (opening : Settings) (h : History) → least_time ≤ℤ raw_mark opening h
 least_mark opening h = (raw_mark-is opening h).none_greater least_time (inl refl)
@@ -152,12 +141,9 @@ int_max-le a b c d h k = omega (arith, ints, clamps)
 
 raw_mark-le : (long short : Settings) (h : History) → 0 < short.raw_duration → short.raw_duration ≤ long.raw_duration → raw_mark long h ≤ℤ raw_mark short h
 raw_mark-le long short [] p q = ≤ℤ_refl least_time
-raw_mark-le long short (Line facts ∷ h) p q = raw_mark-le long short h p q
 raw_mark-le long short (Begin now ∷ h) p q =
     int_max-le (raw_mark long h) (kept_since long.raw_duration now) (raw_mark short h) (kept_since short.raw_duration now) (raw_mark-le long short h p q) (kept_since-le long.raw_duration short.raw_duration now p q)
-raw_mark-le long short (Step ended ∷ h) p q = raw_mark-le long short h p q
-raw_mark-le long short (AddRule rule ∷ h) p q = raw_mark-le long short h p q
-raw_mark-le long short (DropRule name ∷ h) p q = raw_mark-le long short h p q
+raw_mark-le long short (_ ∷ h) p q = raw_mark-le long short h p q
 
 rule_mark-le : (opening : Settings) (r : Rule) (h : History) → Outlasts r.duration opening.raw_duration → rule_mark r h ≤ℤ raw_mark opening h
 rule_mark-le opening r h o =
@@ -168,16 +154,14 @@ rule_mark-le opening r h o =
 -- fewer begins leave no later mark
 raw_mark-since : (s : Settings) (name : Text) (h : History) → raw_mark s (since_added name h) ≤ℤ raw_mark s h
 raw_mark-since s name [] = ≤ℤ_refl least_time
-raw_mark-since s name (Line facts ∷ h) = raw_mark-since s name h
 raw_mark-since s name (Begin now ∷ h) =
     int_max-le (raw_mark s (since_added name h)) (kept_since s.raw_duration now) (raw_mark s h) (kept_since s.raw_duration now) (raw_mark-since s name h) (≤ℤ_refl (kept_since s.raw_duration now))
-raw_mark-since s name (Step ended ∷ h) = raw_mark-since s name h
 raw_mark-since s name (AddRule rule ∷ h) =
     elim (same_text rule.name name) as (λ b. raw_mark s (cond b [] (AddRule rule ∷ since_added name h)) ≤ℤ raw_mark s h) [
       | true ↦ least_mark s h
       | false ↦ raw_mark-since s name h
     ]
-raw_mark-since s name (DropRule dropped ∷ h) = raw_mark-since s name h
+raw_mark-since s name (_ ∷ h) = raw_mark-since s name h
 
 max_below : (a b c : ℤ) → a ≤ℤ c → b ≤ℤ c → int_max a b ≤ℤ c
 max_below a b c h k = omega (arith, ints, clamps)
@@ -202,29 +186,24 @@ first_near r t w = one_later_bucket r (t -ℤ pos 1) t w (let e : (t -ℤ pos 1)
 
 start_near : (opening : Settings) (h : History) (r : Rule) → pos 1 ≤ℤ r.interval → start_of_rule opening h r ≤ℤ (index_of r (raw_mark opening h) +ℤ pos 1)
 start_near opening [] r w = let e : index_of r least_time ≤ℤ (index_of r least_time +ℤ pos 1) = omega (arith, ints) in e
-start_near opening (Line facts ∷ h) r w = start_near opening h r w
 start_near opening (Begin now ∷ h) r w =
     le_trans (start_of_rule opening h r) (index_of r (raw_mark opening h) +ℤ pos 1) (index_of r (raw_mark opening (Begin now ∷ h)) +ℤ pos 1) (start_near opening h r w)
     (one_later_bucket r (raw_mark opening h) (raw_mark opening (Begin now ∷ h)) w (int_max-left (raw_mark opening h) (kept_since opening.raw_duration now)))
-start_near opening (Step ended ∷ h) r w = start_near opening h r w
 start_near opening (AddRule rule ∷ h) r w =
     elim (same_text rule.name r.name) as (λ b. cond b (first_from r (raw_mark opening h)) (start_of_rule opening h r) ≤ℤ (index_of r (raw_mark opening h) +ℤ pos 1)) [
       | true ↦ first_near r (raw_mark opening h) w
       | false ↦ start_near opening h r w
     ]
-start_near opening (DropRule name ∷ h) r w = start_near opening h r w
+start_near opening (_ ∷ h) r w = start_near opening h r w
 
 start_least : (opening : Settings) (h : History) (r : Rule) → pos 1 ≤ℤ r.interval → index_of r least_time ≤ℤ start_of_rule opening h r
 start_least opening [] r w = ≤ℤ_refl (index_of r least_time)
-start_least opening (Line facts ∷ h) r w = start_least opening h r w
-start_least opening (Begin now ∷ h) r w = start_least opening h r w
-start_least opening (Step ended ∷ h) r w = start_least opening h r w
 start_least opening (AddRule rule ∷ h) r w =
     elim (same_text rule.name r.name) as (λ b. index_of r least_time ≤ℤ cond b (first_from r (raw_mark opening h)) (start_of_rule opening h r)) [
       | true ↦ before_start opening h r w
       | false ↦ start_least opening h r w
     ]
-start_least opening (DropRule name ∷ h) r w = start_least opening h r w
+start_least opening (_ ∷ h) r w = start_least opening h r w
 
 pub low_of-near : (opening : Settings) (h : History) (r : Rule) → pos 1 ≤ℤ r.interval → Outlasts r.duration opening.raw_duration
     → (index_of r least_time ≤ℤ low_of opening h r) × (low_of opening h r ≤ℤ (index_of r (raw_mark opening h) +ℤ pos 1))

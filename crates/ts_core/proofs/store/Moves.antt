@@ -20,14 +20,10 @@ pub record IsRaised (now : ℤ) (r after : RuleCells) : Type 0 where
   pub parts : (k : Cell) → after.parts k ≡ r.parts k
 
 abbrev pub begun : ℤ → List RuleCells → StoreState → StoreState
-begun now after s = record {
-  settings = s.settings;
+begun now after s = record s {
   marks = record { raw = int_max s.marks.raw (kept_since s.settings.raw_duration now); lows = map lowest_of after };
   running = true;
   waiting = map column_of s.columns;
-  series = s.series;
-  columns = s.columns;
-  accepted = s.accepted;
   rules = after;
 }
 
@@ -52,14 +48,9 @@ abbrev pub columns_left : Column → StoreState → List ColumnPoints
 columns_left c s = map (left_points c s.marks.raw) s.columns
 
 abbrev pub moved : Column → List Column → List RuleCells → StoreState → StoreState
-moved c rest after s = record {
-  settings = s.settings;
-  marks = s.marks;
-  running = s.running;
+moved c rest after s = record s {
   waiting = rest;
-  series = s.series;
   columns = columns_left c s;
-  accepted = s.accepted;
   rules = after;
 }
 
@@ -73,30 +64,12 @@ pub record IsExpired (r after : RuleCells) : Type 0 where
   pub parts : (k : Cell) → r.low ≤ℤ k.index → after.parts k ≡ r.parts k
 
 abbrev pub expired : List RuleCells → StoreState → StoreState
-expired after s = record {
-  settings = s.settings;
-  marks = s.marks;
-  running = s.running;
-  waiting = s.waiting;
-  series = s.series;
-  columns = s.columns;
-  accepted = s.accepted;
-  rules = after;
-}
+expired after s = record s { rules = after }
 
 -- ---- the step that ends a run
 
 abbrev pub closed : StoreState → StoreState
-closed s = record {
-  settings = s.settings;
-  marks = s.marks;
-  running = false;
-  waiting = s.waiting;
-  series = s.series;
-  columns = s.columns;
-  accepted = s.accepted;
-  rules = s.rules;
-}
+closed s = record s { running = false }
 
 -- ---- a write of one fact
 
@@ -125,11 +98,7 @@ pub record IsWritten (f : Fact) (after : List ColumnPoints) (r next : RuleCells)
   pub live_elsewhere : (k : Cell) → r.low ≤ℤ k.index → is_in_cell r.rule k f ≡ false → (next.parts k).live ≡ (r.parts k).live
 
 abbrev pub written : List Series → List ColumnPoints → List RuleCells → StoreState → StoreState
-written series columns rules s = record {
-  settings = s.settings;
-  marks = s.marks;
-  running = s.running;
-  waiting = s.waiting;
+written series columns rules s = record s {
   series = series;
   columns = columns;
   accepted = s.accepted + 1;

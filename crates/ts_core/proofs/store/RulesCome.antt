@@ -1,7 +1,7 @@
 -- Added and dropped rules: a new one starts with the raw facts alone, and a dropped one takes its cells with it.
 use Rattle.std.proofs.Common.{◌≡◌, ℤ, pos, Bool, true, false, cond, not, ◌&&◌, List, [], ◌∷◌, ◌++◌, filter, map, refl, sym, ◌∙◌, ap, ap₂, subst, ◌≤ℤ◌, None, IsTrue}
 use Rattle.std.specs.List.{AllByRecursion}
-use Rattle.std.proofs.lemmas.Bool.{and_parts, or_parts}
+use Rattle.std.proofs.lemmas.Bool.{and_parts, or_parts, cond-true}
 use Rattle.ts_core.specs.lists.Members.{Among, AllDistinct}
 use Rattle.ts_core.specs.facts.Facts.{Text, Column, Fact, same_text}
 use Rattle.ts_core.specs.settings.Settings.{Rule, Settings, with_rule, without_rule, is_unnamed}
@@ -36,14 +36,9 @@ pub record StartsWith (held : List Fact) (r : RuleCells) : Type 0 where
   pub live : (k : Cell) → r.low ≤ℤ k.index → (r.parts k).live ≡ total_of r.rule k held
 
 abbrev pub added : RuleCells → StoreState → StoreState
-added r s = record {
+added r s = record s {
   settings = with_rule r.rule s.settings;
   marks = record { raw = s.marks.raw; lows = s.marks.lows ++ r.low ∷ [] };
-  running = s.running;
-  waiting = s.waiting;
-  series = s.series;
-  columns = s.columns;
-  accepted = s.accepted;
   rules = s.rules ++ r ∷ [];
 }
 
@@ -61,22 +56,15 @@ lows_stay opening h rule (r ∷ rs) n =
     let p = or_parts (same_text r.name rule.name) (is_named rs rule.name) n in
     ap₂ (λ x xs. x ∷ xs) (ap (λ b. cond b (first_from r (raw_mark opening h)) (low_of opening h r)) (same_text-flip rule.name r.name ∙ p.0)) (lows_stay opening h rule rs p.1)
 
-low_new : (opening : Settings) (h : History) (rule : Rule) → low_of opening (AddRule rule ∷ h) rule ≡ first_from rule (raw_mark opening h)
-low_new opening h rule = ap (λ b. cond b (first_from rule (raw_mark opening h)) (low_of opening h rule)) (same_text-refl rule.name)
-
 not_kept : (a b : Bool) → (a ≡ true → b ≡ true) → a && not b ≡ false
 not_kept true b h = ap not (h refl)
 not_kept false b h = refl
-
--- each fact of its cells is raw
-above_start : (opening : Settings) (h : History) (waiting : List Column) (r : Rule) → pos 1 ≤ℤ r.interval → (f : Fact) → first_from r (raw_mark opening h) ≤ℤ index_of r f.time → is_kept (kept_from opening h waiting) f ≡ true
-above_start opening h waiting r w f l = is_kept-above opening h waiting f (first_from-after r (raw_mark opening h) f.time w l)
 
 added_cells : (opening : Settings) (h : History) (waiting : List Column) (held : List Fact) → Holds (kept_from opening h waiting) (latest_of h) held
     → (r : RuleCells) → pos 1 ≤ℤ r.rule.interval → r.low ≡ first_from r.rule (raw_mark opening h) → StartsWith held r → HasCells (kept_from opening h waiting) (latest_of h) r
 added_cells opening h waiting held holds r w e s =
     let cut : Column → ℤ = kept_from opening h waiting in
-    let raw : (f : Fact) → r.low ≤ℤ index_of r.rule f.time → is_kept cut f ≡ true = λ f l. above_start opening h waiting r.rule w f (subst (λ x. x ≤ℤ index_of r.rule f.time) e l) in
+    let raw : (f : Fact) → r.low ≤ℤ index_of r.rule f.time → is_kept cut f ≡ true = λ f l. is_kept-above opening h waiting f (first_from-after r.rule (raw_mark opening h) f.time w (subst (λ x. x ≤ℤ index_of r.rule f.time) e l)) in
     record {
       once = s.once;
       there = λ f a m l. s.there f (holds.all f a (raw f l)) m l;
@@ -98,7 +86,7 @@ added_stands opening h s r st well low starts =
     let old : s.marks.lows ≡ map (low_of opening (AddRule r.rule ∷ h)) (settings_of opening h).rules =
     ap (λ (m : Marks). m.lows) st.marks ∙ sym (lows_stay opening h r.rule (settings_of opening h).rules (added_new (settings_of opening h) r.rule was)) in
     let lows : s.marks.lows ++ r.low ∷ [] ≡ map (low_of opening (AddRule r.rule ∷ h)) ((settings_of opening h).rules ++ r.rule ∷ []) =
-    ap₂ (λ xs x. xs ++ x ∷ []) old (at ∙ sym (low_new opening h r.rule)) ∙ sym (map-push (low_of opening (AddRule r.rule ∷ h)) (settings_of opening h).rules r.rule) in
+    ap₂ (λ xs x. xs ++ x ∷ []) old (at ∙ sym (cond-true _ (first_from r.rule (raw_mark opening h)) (low_of opening h r.rule) (same_text-refl r.rule.name))) ∙ sym (map-push (low_of opening (AddRule r.rule ∷ h)) (settings_of opening h).rules r.rule) in
     record {
       lawful = (st.lawful, was);
       settings = ap (with_rule r.rule) st.settings;
@@ -124,14 +112,9 @@ abbrev pub stays_under : Text → RuleCells → Bool
 stays_under name r = is_unnamed name r.rule
 
 abbrev pub dropped : Text → StoreState → StoreState
-dropped name s = record {
+dropped name s = record s {
   settings = without_rule name s.settings;
   marks = record { raw = s.marks.raw; lows = map lowest_of (filter (stays_under name) s.rules) };
-  running = s.running;
-  waiting = s.waiting;
-  series = s.series;
-  columns = s.columns;
-  accepted = s.accepted;
   rules = filter (stays_under name) s.rules;
 }
 

@@ -1,5 +1,6 @@
 -- The steps of a run. One moves a column, whose facts below the mark go from the live parts to the frozen ones; one
 -- removes cells below the low index; the last one ends the run.
+pub use Rattle.std.proofs.lemmas.List.Elements.{filter-append}
 use Rattle.std.proofs.Common.{◌≡◌, ◌↔◌, IsTrue, ℤ, Bool, true, false, cond, not, ◌&&◌, ◌||◌, List, [], ◌∷◌, ◌++◌, filter, map, refl, sym, ◌∙◌, ap, ap₂, subst, inr, true≢false, int_le, ◌≤ℤ◌}
 use Rattle.std.specs.List.{AllByRecursion, AllZip}
 use Rattle.ts_core.specs.lists.Members.{Among, AllDistinct}
@@ -19,14 +20,10 @@ use Rattle.ts_core.proofs.store.Cuts.{aggregate_where, aggregate_where-agree, Cu
 use Rattle.ts_core.proofs.store.Moves.{is_left, left_points, columns_left, IsMoved, moved, IsExpired, expired, closed}
 use Rattle.ts_core.proofs.store.StateLemmas.{AllZip-all, AllZip-maps, cons_not, same_column-eq, is_waiting-not, earlier_mark-le, le_trans, Holds-raw_of, StandsFor-Holds, HasCells-as}
 
-le_later : (a b t : ℤ) → a ≤ℤ b → int_le b t ≡ true → int_le a t ≡ true
-le_later a b t h k = le_true a t (le_trans a b t h (le_from b t k))
-
 -- one column's cut rises from the earlier mark to the new
 pub cut_rises : (b w : Bool) (old mark t : ℤ) → old ≤ℤ mark → int_le (cond w old mark) t ≡ true → int_le (cond (b || w) old mark) t ≡ true
-cut_rises true true old mark t h k = k
-cut_rises true false old mark t h k = le_later old mark t h k
-cut_rises false w old mark t h k = k
+cut_rises true false old mark t h k = le_true old t (le_trans old mark t h (le_from mark t k))
+cut_rises _ w old mark t h k = k
 
 pub left_is : (b w : Bool) (old mark t : ℤ) → (b ≡ true → w ≡ false) → int_le (cond (b || w) old mark) t ≡ true → (not b || int_le mark t) ≡ int_le (cond w old mark) t
 left_is true true old mark t h k = absurd (true≢false (h refl))
@@ -52,14 +49,6 @@ facts_stay c mark d (p ∷ ps) e =
     let x : Fact = record { column = d; time = p.0; value = p.1 } in
     let rest : List Fact = filter (is_left c mark) (facts_at d ps) in
     ap (λ zs. x ∷ zs) (facts_stay c mark d ps e) ∙ sym (ap (λ b. cond (not b || int_le mark p.0) (x ∷ rest) rest) e)
-
-pub filter-append : {X : Type 0} (p : X → Bool) (xs ys : List X) → filter p (xs ++ ys) ≡ filter p xs ++ filter p ys
-filter-append p [] ys = refl
-filter-append p (x ∷ xs) ys =
-    elim (p x) as (λ b. cond b (x ∷ filter p (xs ++ ys)) (filter p (xs ++ ys)) ≡ cond b (x ∷ filter p xs) (filter p xs) ++ filter p ys) [
-      | true ↦ ap (λ zs. x ∷ zs) (filter-append p xs ys)
-      | false ↦ filter-append p xs ys
-    ]
 
 pub facts_of-left : (c : Column) (mark : ℤ) (cs : List ColumnPoints) → facts_of (map (left_points c mark) cs) ≡ filter (is_left c mark) (facts_of cs)
 facts_of-left c mark [] = refl

@@ -1,15 +1,17 @@
 -- The representation of a history in the words that transitions need, and lists taken item by item.
-use Rattle.std.proofs.Common.{◌≡◌, ℤ, Bool, true, false, cond, ◌&&◌, ◌||◌, List, [], ◌∷◌, map, refl, sym, ◌∙◌, ap, ap₂, subst, inl, inr, ⊎_elim, int_le, ◌≤ℤ◌, arith, is_eq}
+use Rattle.std.proofs.lemmas.Bool.{false_from_ne_true}
+use Rattle.ts_core.proofs.lists.MembersLemmas.{Among-from_any, any-from_Among}
+use Rattle.std.proofs.Common.{◌≡◌, ℤ, Bool, true, false, cond, ◌&&◌, List, [], ◌∷◌, map, refl, ap, ap₂, subst, int_le, ◌≤ℤ◌, arith, is_eq}
 use Rattle.std.proofs.lemmas.Int.{ints, clamps}
 use Rattle.std.proofs.lemmas.Cmp.{tied_itself}
 use Rattle.std.specs.List.{AllByRecursion, AllZip}
 use Rattle.std.specs.Int.{int_max}
-use Rattle.std.proofs.lemmas.Bool.{and_parts, or_right}
+use Rattle.std.proofs.lemmas.Bool.{and_parts}
 use Rattle.ts_core.specs.lists.Members.{Among, AllDistinct}
 use Rattle.ts_core.specs.facts.Times.{least_time}
 use Rattle.ts_core.specs.facts.Facts.{Column, Fact, column_cmp}
 use Rattle.ts_core.specs.settings.Settings.{Settings}
-use Rattle.ts_core.specs.store.History.{History, Line, Begin, Step, AddRule, DropRule, settings_of, kept_since, raw_mark}
+use Rattle.ts_core.specs.store.History.{History, Line, Begin, settings_of, kept_since, raw_mark}
 use Rattle.ts_core.specs.facts.Latest.{latest_of}
 use Rattle.ts_core.specs.store.RawFacts.{same_column, is_waiting, earlier_mark, kept_from, is_kept, raw_of}
 use Rattle.ts_core.specs.store.StoreStates.{RuleCells, StoreState, StandsFor, HasCells, facts_of}
@@ -22,15 +24,13 @@ use Rattle.ts_core.proofs.store.Cuts.{Holds}
 
 pub AllZip-all : {X Y : Type 0} (R : X → Y → Type 0) (P : X → Type 0) (Q : Y → Type 0) → ((x : X) (y : Y) → R x y → P x → Q y) → (xs : List X) (ys : List Y) → AllZip R xs ys → AllByRecursion P xs → AllByRecursion Q ys
 AllZip-all R P Q h [] [] t a = tt
-AllZip-all R P Q h [] (y ∷ ys) t a = absurd t
-AllZip-all R P Q h (x ∷ xs) [] t a = absurd t
 AllZip-all R P Q h (x ∷ xs) (y ∷ ys) t a = (h x y t.0 a.0, AllZip-all R P Q h xs ys t.1 a.1)
+AllZip-all R P Q h _ _ t a = absurd t
 
 pub AllZip-maps : {X Y Z : Type 0} (R : X → Y → Type 0) (f : X → Z) (g : Y → Z) → ((x : X) (y : Y) → R x y → f x ≡ g y) → (xs : List X) (ys : List Y) → AllZip R xs ys → map f xs ≡ map g ys
 AllZip-maps R f g h [] [] t = refl
-AllZip-maps R f g h [] (y ∷ ys) t = absurd t
-AllZip-maps R f g h (x ∷ xs) [] t = absurd t
 AllZip-maps R f g h (x ∷ xs) (y ∷ ys) t = ap₂ (λ a bs. a ∷ bs) (h x y t.0) (AllZip-maps R f g h xs ys t.1)
+AllZip-maps R f g h _ _ t = absurd t
 
 abbrev head_or : {X : Type 0} → X → List X → X
 head_or d [] = d
@@ -62,19 +62,10 @@ pub same_column-eq : (c d : Column) → same_column c d ≡ true → c ≡ d
 same_column-eq c d h = exact_columns c d (equal_of (column_cmp c d) h)
 
 pub is_waiting-there : (c : Column) (ds : List Column) → Among c ds → is_waiting ds c ≡ true
-is_waiting-there c [] h = absurd h
-is_waiting-there c (d ∷ ds) h =
-    ⊎_elim {C = same_column c d || is_waiting ds c ≡ true}
-    (λ e. ap (λ b. b || is_waiting ds c) (ap (same_column c) (sym e) ∙ same_column-refl c))
-    (λ k. ap (λ b. same_column c d || b) (is_waiting-there c ds k) ∙ or_right (same_column c d) true refl) h
+is_waiting-there = any-from_Among same_column same_column-eq same_column-refl
 
 pub is_waiting-not : (c : Column) (ds : List Column) → (Among c ds → ⊥) → is_waiting ds c ≡ false
-is_waiting-not c [] h = refl
-is_waiting-not c (d ∷ ds) h =
-    elim (same_column c d) as (λ b. same_column c d ≡ b → b || is_waiting ds c ≡ false) [
-      | true ↦ λ e. absurd (h (inl (same_column-eq c d e)))
-      | false ↦ λ e. is_waiting-not c ds (λ a. h (inr a))
-    ] refl
+is_waiting-not c ds h = false_from_ne_true _ (λ e. h (Among-from_any same_column same_column-eq same_column-refl c ds e))
 
 -- ---- marks
 
@@ -91,18 +82,12 @@ int_max-right a b = omega (arith, ints, clamps)
 pub raw_duration_of : (opening : Settings) (h : History) → (settings_of opening h).raw_duration ≡ opening.raw_duration
 raw_duration_of opening [] = refl
 raw_duration_of opening (Line facts ∷ h) = raw_duration_of opening h
-raw_duration_of opening (Begin now ∷ h) = raw_duration_of opening h
-raw_duration_of opening (Step ended ∷ h) = raw_duration_of opening h
-raw_duration_of opening (AddRule rule ∷ h) = raw_duration_of opening h
-raw_duration_of opening (DropRule name ∷ h) = raw_duration_of opening h
+raw_duration_of opening (_ ∷ h) = raw_duration_of opening h
 
 pub earlier_mark-le : (opening : Settings) (h : History) → earlier_mark opening h ≤ℤ raw_mark opening h
 earlier_mark-le opening [] = let e : least_time ≤ℤ least_time = omega (arith, ints) in e
-earlier_mark-le opening (Line facts ∷ h) = earlier_mark-le opening h
 earlier_mark-le opening (Begin now ∷ h) = int_max-left (raw_mark opening h) (kept_since opening.raw_duration now)
-earlier_mark-le opening (Step ended ∷ h) = earlier_mark-le opening h
-earlier_mark-le opening (AddRule rule ∷ h) = earlier_mark-le opening h
-earlier_mark-le opening (DropRule name ∷ h) = earlier_mark-le opening h
+earlier_mark-le opening (_ ∷ h) = earlier_mark-le opening h
 
 -- a fact from the raw mark on is raw in every column
 pub is_kept-above : (opening : Settings) (h : History) (waiting : List Column) (f : Fact) → raw_mark opening h ≤ℤ f.time → is_kept (kept_from opening h waiting) f ≡ true

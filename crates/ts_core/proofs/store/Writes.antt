@@ -1,4 +1,5 @@
 -- The effect of an accepted fact: on the points of one column, and on the live part of one cell of each rule.
+use Rattle.std.proofs.lemmas.Bool.{and_right, not_from_false, false_from_ne_true}
 use Rattle.std.proofs.Common.{◌≡◌, ℤ, Bool, true, false, cond, not, ◌&&◌, List, [], ◌∷◌, filter, map, refl, sym, ◌∙◌, ap, ap₂, subst, inl, inr, ◌⊎◌, ⊎_elim, true≢false, int_le, ◌≤ℤ◌, length, ◌+◌, add-one}
 use Rattle.std.specs.List.{AllZip}
 use Rattle.ts_core.specs.lists.Members.{Among}
@@ -29,10 +30,7 @@ pub aggregate_where-untouched : (p : Fact → Bool) (fs : List Fact) (f : Fact) 
 aggregate_where-untouched p fs f o e =
     ap (λ b. aggregate_of (cond b (f ∷ filter p (others f (latest fs))) (filter p (others f (latest fs))))) e
     ∙ ap aggregate_of (filter-filter p (is_other f) (λ g t.
-    elim (same_id (id_of g) (id_of f)) as (λ b. same_id (id_of g) (id_of f) ≡ b → not b ≡ true) [
-      | true ↦ λ s. absurd (true≢false (sym t ∙ o g f (same_id-eq (id_of g) (id_of f) s) ∙ e))
-      | false ↦ λ s. refl
-    ] refl) (latest fs))
+    not_from_false _ (false_from_ne_true _ (λ s. true≢false (sym t ∙ o g f (same_id-eq (id_of g) (id_of f) s) ∙ e)))) (latest fs))
 
 is_kept-id : (cut : Column → ℤ) → OfId (is_kept cut)
 is_kept-id cut f g e = ap (λ (i : Id). int_le (cut i.column) i.time) e
@@ -40,21 +38,14 @@ is_kept-id cut f g e = ap (λ (i : Id). int_le (cut i.column) i.time) e
 and-id : (p q : Fact → Bool) → OfId p → OfId q → OfId (λ (f : Fact). p f && q f)
 and-id p q a b f g e = ap₂ (λ x y. x && y) (a f g e) (b f g e)
 
-not-id : (p : Fact → Bool) → OfId p → OfId (λ (f : Fact). not (p f))
-not-id p a f g e = ap not (a f g e)
-
 is_in_cell-id : (r : Rule) (k : Cell) → OfId (is_in_cell r k)
 is_in_cell-id r k f g e = ap (λ (i : Id). is_in_cell r k (record { column = i.column; time = i.time; value = f.value })) e
-
-and_not_true : (a b : Bool) → b ≡ true → a && not b ≡ false
-and_not_true true b h = ap not h
-and_not_true false b h = refl
 
 -- a raw fact leaves each frozen part
 pub frozen_of-stays : (cut : Column → ℤ) (fs : List Fact) (f : Fact) → is_kept cut f ≡ true → (r : Rule) (k : Cell) → frozen_of cut r k (latest (f ∷ fs)) ≡ frozen_of cut r k (latest fs)
 frozen_of-stays cut fs f e r k =
     aggregate_where-untouched (λ (g : Fact). is_in_cell r k g && not (is_kept cut g)) fs f
-    (and-id (is_in_cell r k) (λ (g : Fact). not (is_kept cut g)) (is_in_cell-id r k) (not-id (is_kept cut) (is_kept-id cut))) (and_not_true (is_in_cell r k f) (is_kept cut f) e)
+    (and-id (is_in_cell r k) (λ (g : Fact). not (is_kept cut g)) (is_in_cell-id r k) (λ g k e. ap not (is_kept-id cut g k e))) (and_right (is_in_cell r k f) _ (ap not e))
 
 -- and each live part but that of its own cell
 pub live_of-stays : (cut : Column → ℤ) (fs : List Fact) (f : Fact) (r : Rule) (k : Cell) → is_in_cell r k f ≡ false → live_of cut r k (latest (f ∷ fs)) ≡ live_of cut r k (latest fs)

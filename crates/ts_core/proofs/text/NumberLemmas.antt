@@ -10,7 +10,7 @@ use Rattle.std.proofs.lemmas.Option.{cond_some}
 use Rattle.ts_core.specs.facts.Facts.{Text}
 use Rattle.ts_core.specs.text.Numbers.{is_number, without_minus, is_from_to, whole_of}
 
-digit_below : (c : ℕ) → is_ascii_digit c ≡ true → digit_value c < 10
+pub digit_below : (c : ℕ) → is_ascii_digit c ≡ true → digit_value c < 10
 digit_below c e = grind (arith, nat_tests)
 
 pub digit_not_plus : (c : ℕ) → is_ascii_digit c ≡ true → eqb c 43 ≡ false

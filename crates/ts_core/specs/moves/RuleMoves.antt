@@ -27,14 +27,9 @@ pub record IsFresh (r : Rule) (low : ℤ) (facts : List Fact) (m : CellMap) : Ty
   pub live : (k : Cell) (p : CellParts) → finmap.get m k ≡ Some p → p.live ≡ total_of r k facts
 
 abbrev pub rule_added : Rule → ℤ → CellMap → StoreData → StoreData
-rule_added r low m k = record {
+rule_added r low m k = record k {
   settings = with_rule r k.settings;
   marks = record { raw = k.marks.raw; lows = k.marks.lows ++ low ∷ [] };
-  running = k.running;
-  waiting = k.waiting;
-  series = k.series;
-  columns = k.columns;
-  accepted = k.accepted;
   cells = k.cells ++ m ∷ [];
 }
 
@@ -49,14 +44,9 @@ pub record IsRuleAt (name : Text) (rules : List Rule) (index : ℕ) : Type 0 whe
   pub cells : (cells : List CellMap) → length cells ≡ length rules → kept_beside (is_unnamed name) rules cells ≡ remove cells index
 
 abbrev pub rule_dropped : Text → StoreData → StoreData
-rule_dropped name k = record {
+rule_dropped name k = record k {
   settings = without_rule name k.settings;
   marks = record { raw = k.marks.raw; lows = kept_beside (is_unnamed name) k.settings.rules k.marks.lows };
-  running = k.running;
-  waiting = k.waiting;
-  series = k.series;
-  columns = k.columns;
-  accepted = k.accepted;
   cells = kept_beside (is_unnamed name) k.settings.rules k.cells;
 }
 
