@@ -1,4 +1,7 @@
 -- The fold of points as their only aggregate, by the definition in the field's words.
+use Rattle.std.proofs.lemmas.List.{map-id}
+use Rattle.ts_core.proofs.lists.MembersLemmas.{map_back}
+use Rattle.ts_core.proofs.lists.Permutations.{pick}
 use Rattle.std.proofs.Common.{◌≡◌, ◌⊎◌, ◌+◌, ◌≤◌, ◌^◌, cond, ℤ, ◌+ℤ◌, ◌≤ℤ◌, List, [], ◌∷◌, length, map, refl, sym, ◌∙◌, ap, subst, inl, inr, ⊎_elim, arith, one-add, Option, Some, None, MatchOption, Ordering, int_cmp}
 use Rattle.std.specs.List.{AllByRecursion}
 use Rattle.std.specs.Cmp.{IsTotalOrder, int_cmp_total}
@@ -35,11 +38,6 @@ module _ {X K : Type 0} {R : K → K → Ordering} (o : IsTotalOrder R) (exact :
         none_before = (lesser-left o exact (key x) k, lower m k xs (lesser-right o exact (key x) k) f.none_before);
       }
 
-module _ {X K : Type 0} (R : K → K → Ordering) (key : X → K) where
-  not_before : (k : K) (x : X) (xs : List X) → AllByRecursion (λ x. IsUpto R k (key x)) xs → Among x xs → IsUpto R k (key x)
-  not_before k x [] a h = absurd h
-  not_before k x (y ∷ ys) a h = ⊎_elim {C = IsUpto R k (key x)} (λ e. subst (λ z. IsUpto R k (key z)) (sym e) a.0) (λ t. not_before k x ys a.1 t) h
-
 abbrev point_of : ℤ × ℤ → ℤ × ℤ
 point_of p = p
 
@@ -73,23 +71,19 @@ firsts_of_fold : (ps : List (ℤ × ℤ)) → MatchOption (aggregate_of_points p
 firsts_of_fold [] = refl
 firsts_of_fold (p ∷ ps) = extremes_more p ps (aggregate_of_points ps).extremes (firsts_of_fold ps)
 
-map-itself : (ps : List (ℤ × ℤ)) → map point_of ps ≡ ps
-map-itself [] = refl
-map-itself (p ∷ ps) = ap (λ qs. p ∷ qs) (map-itself ps)
-
 in_words : (ps : List (ℤ × ℤ)) (e : Extremes) → AreFirst ps e → AreExtremesOf ps e
 in_words ps e f = record {
   reached = record {
     min = f.min.among;
     max = f.max.among;
-    first = subst (Among e.first) (map-itself ps) f.first.among;
-    last = subst (Among e.last) (map-itself ps) f.last.among;
+    first = subst (Among e.first) (map-id ps) f.first.among;
+    last = subst (Among e.last) (map-id ps) f.last.among;
   };
   within = λ p a. record {
-    min = le_from_IsUpto e.min p.1 (not_before int_cmp value_of e.min p ps f.min.none_before a);
-    max = le_from_IsUpto p.1 e.max (not_before down_cmp value_of e.max p ps f.max.none_before a);
-    first = words_from_early e.first p (not_before early_cmp point_of e.first p ps f.first.none_before a);
-    last = words_from_late e.last p (not_before late_cmp point_of e.last p ps f.last.none_before a);
+    min = le_from_IsUpto e.min p.1 (pick (λ x. IsUpto int_cmp e.min (value_of x)) p ps f.min.none_before a);
+    max = le_from_IsUpto p.1 e.max (pick (λ x. IsUpto down_cmp e.max (value_of x)) p ps f.max.none_before a);
+    first = words_from_early e.first p (pick (λ x. IsUpto early_cmp e.first (point_of x)) p ps f.first.none_before a);
+    last = words_from_late e.last p (pick (λ x. IsUpto late_cmp e.last (point_of x)) p ps f.last.none_before a);
   };
 }
 
@@ -131,9 +125,7 @@ Reaches {X} key k xs = (x : X) × (Among x xs × (k ≡ key x))
 
 reaches : {X K : Type 0} (key : X → K) (k : K) (xs : List X) → Among k (map key xs) → Reaches key k xs
 unfolding Reaches
-reaches key k [] h = absurd h
-reaches {X} {K} key k (x ∷ xs) h =
-    ⊎_elim {C = Reaches key k (x ∷ xs)} (λ e. (x, (inl refl, e))) (λ t. let r = reaches key k xs t in (r.0, (inr r.1.0, r.1.1))) h
+reaches key k xs h = let r = map_back key xs k h in (r.0, (r.1, sym r.2))
 
 -- neither of two points comes before the other
 one_point : (B : ℤ → ℤ → Type 0) → ((s t : ℤ) → B s t → B t s → ⊥) → (p q : ℤ × ℤ) → B p.0 q.0 ⊎ ((p.0 ≡ q.0) × (q.1 ≤ℤ p.1)) → B q.0 p.0 ⊎ ((q.0 ≡ p.0) × (p.1 ≤ℤ q.1)) → p ≡ q

@@ -62,9 +62,6 @@ left_over : (m n : ℕ) (s : ℤ) (p w : Option Extremes) → BothAreBeyond w p 
 left_over m n s p None b h = absurd b
 left_over m n s p (Some w) b h = let a = h.some in omega arith
 
-sum_back : (p r w : ℤ) → p +ℤ r ≡ w → r ≡ w -ℤ p
-sum_back p r w e = grind (arith, ints)
-
 pub IsOnlyRest-inner : (whole part : Aggregate) → LiesInside part whole → IsOnlyRest IsSound merged whole part (inner_rest whole part)
 IsOnlyRest-inner whole part l =
     let fewer : part.count < whole.count = left_over whole.count part.count (whole.sum -ℤ part.sum) part.extremes whole.extremes l.beyond l.possible in
@@ -76,7 +73,7 @@ IsOnlyRest-inner whole part l =
       gives = λ i. record { count = count i; sum = sum i; extremes = extremes i };
       only = λ other _ e.
           let c : other.count ≡ whole.count - part.count = (let k : part.count + other.count ≡ whole.count = ap (λ (a : Aggregate). a.count) e in omega arith) in
-          let s : other.sum ≡ whole.sum -ℤ part.sum = sum_back part.sum other.sum whole.sum (ap (λ (a : Aggregate). a.sum) e) in
+          let s : other.sum ≡ whole.sum -ℤ part.sum = (let k : part.sum +ℤ other.sum ≡ whole.sum = ap (λ (a : Aggregate). a.sum) e in grind (arith, ints)) in
           let x : other.extremes ≡ whole.extremes = options_only whole.extremes part.extremes other.extremes l.beyond (ap (λ (a : Aggregate). a.extremes) e) in
           λ i. record { count = c i; sum = s i; extremes = x i };
     }

@@ -1,4 +1,5 @@
 -- The effect of freezing a column's points on each cell.
+use Rattle.ts_core.proofs.lists.MembersLemmas.{filter-none, map_back}
 use Rattle.ts_core.proofs.lists.Comparisons.{and_true}
 use Rattle.std.proofs.lemmas.Bool.{and_right, false_from_ne_true}
 use Rattle.std.proofs.Common.{◌≡◌, ℤ, ◌+◌, ◌≤◌, ◌^◌, Bool, true, false, cond, not, ◌&&◌, ◌||◌, List, [], ◌∷◌, ◌++◌, length, filter, map, refl, sym, ◌∙◌, ap, ap₂, subst, inl, inr, ⊎_elim, int_le, int_lt, arith, Option, Some, None, is_some, is_eq, T, Less, Equal, Greater}
@@ -106,11 +107,17 @@ frozen_none r c k (p ∷ ps) m g =
     let f : CellParts → CellParts = in_frozen (merged_within (aggregate_of_one p.0 p.1)) in
     frozen_none r c k ps (changed m (cell_of r (fact_at c p)) f) (changed_none m (cell_of r (fact_at c p)) k f g)
 
+-- what no change of a frozen part touches
+frozen_as : {X : Type 0} (read : CellMap → X) → ((m : CellMap) (q : Cell) (part : Aggregate) → read (changed m q (in_frozen (merged_within part))) ≡ read m) → (r : Rule) (c : Column) (ps : List (ℤ × ℤ)) (m : CellMap)
+    → read (frozen_points r c ps m) ≡ read m
+frozen_as read same r c [] m = refl
+frozen_as read same r c (p ∷ ps) m =
+    let q : Cell = cell_of r (fact_at c p) in
+    let part : Aggregate = aggregate_of_one p.0 p.1 in
+    frozen_as read same r c ps (changed m q (in_frozen (merged_within part))) ∙ same m q part
+
 pub keys_frozen : (r : Rule) (c : Column) (ps : List (ℤ × ℤ)) (m : CellMap) → finmap.keys (frozen_points r c ps m) ≡ finmap.keys m
-keys_frozen r c [] m = refl
-keys_frozen r c (p ∷ ps) m =
-    let f : CellParts → CellParts = in_frozen (merged_within (aggregate_of_one p.0 p.1)) in
-    keys_frozen r c ps (changed m (cell_of r (fact_at c p)) f) ∙ keys_changed m (cell_of r (fact_at c p)) f
+keys_frozen = frozen_as finmap.keys (λ m q part. keys_changed m q (in_frozen (merged_within part)))
 
 -- ---- live parts
 
@@ -138,19 +145,11 @@ changed_as read f same m q k =
 
 -- the live parts stay
 pub frozen_live : (r : Rule) (c : Column) (k : Cell) (ps : List (ℤ × ℤ)) (m : CellMap) → live_in (finmap.get (frozen_points r c ps m) k) ≡ live_in (finmap.get m k)
-frozen_live r c k [] m = refl
-frozen_live r c k (p ∷ ps) m =
-    let q : Cell = cell_of r (fact_at c p) in
-    let f : CellParts → CellParts = in_frozen (merged_within (aggregate_of_one p.0 p.1)) in
-    frozen_live r c k ps (changed m q f) ∙ changed_as live_in f (λ a. refl) m q k
+frozen_live r c k = frozen_as (λ m. live_in (finmap.get m k)) (λ m q part. changed_as live_in (in_frozen (merged_within part)) (λ a. refl) m q k) r c
 
 -- and each cell is there or not, as it was
 pub frozen_some : (r : Rule) (c : Column) (k : Cell) (ps : List (ℤ × ℤ)) (m : CellMap) → is_some (finmap.get (frozen_points r c ps m) k) ≡ is_some (finmap.get m k)
-frozen_some r c k [] m = refl
-frozen_some r c k (p ∷ ps) m =
-    let q : Cell = cell_of r (fact_at c p) in
-    let f : CellParts → CellParts = in_frozen (merged_within (aggregate_of_one p.0 p.1)) in
-    frozen_some r c k ps (changed m q f) ∙ changed_as is_some f (λ a. refl) m q k
+frozen_some r c k = frozen_as (λ m. is_some (finmap.get m k)) (λ m q part. changed_as is_some (in_frozen (merged_within part)) (λ a. refl) m q k) r c
 
 -- a refolding leaves the frozen parts, and which cells there are
 pub refolded_frozen : (r : Rule) (c : Column) (k : Cell) (facts : List Fact) (ps : List (ℤ × ℤ)) (m : CellMap) → frozen_in (finmap.get (refolded_points r c ps facts m) k) ≡ frozen_in (finmap.get m k)
@@ -215,10 +214,9 @@ module _ (c : Column) (mark : ℤ) (p : Fact → Bool) where
   goes f = p f && not (is_left c mark f)
 
   other_stays : (d : Column) (ps : List (ℤ × ℤ)) → same_column d c ≡ false → filter goes (facts_at d ps) ≡ []
-  other_stays d [] e = refl
-  other_stays d (x ∷ ps) e =
-      ap (λ b. cond b (fact_at d x ∷ filter goes (facts_at d ps)) (filter goes (facts_at d ps))) (ap (λ b. p (fact_at d x) && not (not b || int_le mark x.0)) e ∙ and_right (p (fact_at d x)) false refl)
-      ∙ other_stays d ps e
+  other_stays d ps e =
+      filter-none goes (facts_at d ps) (λ f a. let at : same_column f.column c ≡ false = ap (λ (g : Fact). same_column g.column c) (sym (map_back (fact_at d) ps f a).2) ∙ e in
+      and_right (p f) _ (ap (λ b. not (not b || int_le mark f.time)) at))
 
   own_goes : (ps : List (ℤ × ℤ)) → filter goes (facts_at c ps) ≡ filter p (facts_at c (points_below mark ps))
   own_goes [] = refl

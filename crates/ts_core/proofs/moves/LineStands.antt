@@ -1,4 +1,5 @@
 -- Inserting a line, fact by fact.
+use Rattle.ts_core.proofs.queries.CellsInRows.{all_parts}
 use Rattle.std.proofs.Common.{◌≡◌, ℕ, ◌+◌, ◌≤◌, ◌^◌, List, [], ◌∷◌, ◌++◌, length, map, refl, sym, ◌∙◌, subst, inl, arith}
 use Rattle.std.specs.List.{AllByRecursion}
 use Rattle.std.proofs.lemmas.List.{append-nil, append_assoc, length-append}
@@ -19,15 +20,7 @@ length_before [] older = omega arith
 length_before (f ∷ fs) older = let h = length_before fs (f ∷ older) in omega arith
 
 abbrev put_at : List ColumnPoints → List CellMap → ℕ → StoreData → StoreData
-put_at columns ms n k = record k {
-  columns = columns;
-  accepted = n;
-  cells = ms;
-}
-
-all_front : (P : Fact → Type 0) (us vs : List Fact) → AllByRecursion P (us ++ vs) → AllByRecursion P us
-all_front P [] vs a = tt
-all_front P (u ∷ us) vs a = (a.0, all_front P us vs a.1)
+put_at columns ms n k = record k { columns = columns; accepted = n; cells = ms }
 
 all_middle : (P : Fact → Type 0) (us : List Fact) (f : Fact) (vs : List Fact) → AllByRecursion P (us ++ f ∷ vs) → P f
 all_middle P [] f vs a = a.0
@@ -40,7 +33,7 @@ front_lawful opening h us vs l =
     let b = length_before (us ++ vs) (accepted h) in
     let c = length-append us vs in
     let few : length (put_before (us ++ vs) (accepted h)) ≤ 2 ^ 62 = l.2 in
-    (l.0, all_front (MayBeTaken (raw_mark opening h)) us vs l.1, omega arith)
+    (l.0, (all_parts (MayBeTaken (raw_mark opening h)) us vs l.1).0, omega arith)
 
 same_columns : (before after : List ColumnPoints) (f : Fact) → AllDistinct (map column_of before) → Among f.column (map column_of before) → map column_of after ≡ map column_of before → ColumnsToo before after f
 same_columns before after f d a e = record {

@@ -1,8 +1,8 @@
 -- Three ways to a live part: one more fact, a replaced fact, and a removed part. If the rest of an aggregate is
 -- determined, no other fact is visited.
-use Rattle.ts_core.proofs.lists.Comparisons.{and_true}
-use Rattle.std.proofs.lemmas.Bool.{and_right}
-use Rattle.std.proofs.Common.{◌≡◌, ℤ, Bool, true, false, cond, not, ◌&&◌, List, [], ◌∷◌, filter, map, refl, sym, ◌∙◌, ap, ap₂, subst, inl, inr, ⊎_elim, true≢false}
+use Rattle.std.proofs.lemmas.Bool.{and_parts, not-true}
+use Rattle.ts_core.proofs.queries.AnswersLaws.{filter_both}
+use Rattle.std.proofs.Common.{◌≡◌, ℤ, Bool, true, false, not, ◌&&◌, List, ◌∷◌, filter, map, refl, sym, ◌∙◌, ap, ap₂, subst, inl, inr, ⊎_elim, true≢false}
 use Rattle.ts_core.specs.lists.Members.{Among, AllDistinct}
 use Rattle.ts_core.specs.facts.Facts.{Fact, Column, Id, id_of, same_id}
 use Rattle.ts_core.specs.settings.Settings.{Rule}
@@ -37,10 +37,7 @@ module _ (before after : List ColumnPoints) (f : Fact) (once : AllDistinct (fact
   is_rest g = in_cell g && not (same_id (id_of g) (id_of f))
 
   rest_is : (g : Fact) → is_rest g ≡ true → (in_cell g ≡ true) × (same_id (id_of g) (id_of f) ≡ false)
-  rest_is g e = elim (in_cell g) as (λ a. a && not (same_id (id_of g) (id_of f)) ≡ true → (a ≡ true) × (same_id (id_of g) (id_of f) ≡ false)) [
-    | true ↦ λ q. (refl, elim (same_id (id_of g) (id_of f)) as (λ b. not b ≡ true → b ≡ false) [ true ↦ λ n. absurd (true≢false (sym n)) | false ↦ λ n. refl ] q)
-    | false ↦ λ q. absurd (true≢false (sym q))
-  ] e
+  rest_is g e = let p = and_parts (in_cell g) _ e in (p.0, not-true _ p.1)
 
   rest_of : (g : Fact) → in_cell g ≡ true → same_id (id_of g) (id_of f) ≡ false → is_rest g ≡ true
   rest_of g a b = ap₂ (λ x y. x && not y) a b
@@ -88,28 +85,20 @@ module _ (before after : List ColumnPoints) (f : Fact) (once : AllDistinct (fact
 
 -- ---- points go
 
-both_filters : (p q : Fact → Bool) (fs : List Fact) → filter (λ (f : Fact). p f && q f) fs ≡ filter p (filter q fs)
-both_filters p q [] = refl
-both_filters p q (f ∷ fs) =
-    let ih = both_filters p q fs in
-    elim (q f) as (λ b. cond (p f && b) (f ∷ filter (λ (g : Fact). p g && q g) fs) (filter (λ (g : Fact). p g && q g) fs) ≡ filter p (cond b (f ∷ filter q fs) (filter q fs))) [
-      | true ↦ ap (λ b. cond b (f ∷ filter (λ (g : Fact). p g && q g) fs) (filter (λ (g : Fact). p g && q g) fs)) (and_true (p f)) ∙ ap (λ zs. cond (p f) (f ∷ zs) zs) ih
-      | false ↦ ap (λ b. cond b (f ∷ filter (λ (g : Fact). p g && q g) fs) (filter (λ (g : Fact). p g && q g) fs)) (and_right (p f) false refl) ∙ ih
-    ]
-
 module _ (c : Column) (mark : ℤ) (before : List ColumnPoints) (ps : List (ℤ × ℤ)) (once : AllDistinct (map column_of before)) (there : Among (record { column = c; points = ps }) before) (r : Rule) (k : Cell) where
   abbrev gone : Aggregate
   gone = aggregate_of (filter (is_in_cell r k) (facts_at c (points_below mark ps)))
 
-  part_left : (a b : Bool) → Part (a && not b) (a && b) a
+  part_left : (a b : Bool) → Part (a && not b) (b && a) a
   part_left true true = tt
+  part_left false true = tt
   part_left _ b = tt
 
   whole : merged gone (total_of r k (facts_of (map (left_points c mark) before))) ≡ total_of r k (facts_of before)
   whole =
       ap₂ merged (sym (ap aggregate_of (gone_held c mark (is_in_cell r k) before ps once there)))
-      (ap (λ fs. aggregate_of (filter (is_in_cell r k) fs)) (facts_of-left c mark before) ∙ sym (ap aggregate_of (both_filters (is_in_cell r k) (is_left c mark) (facts_of before))))
-      ∙ sym (aggregate_where-part (λ (f : Fact). is_in_cell r k f && not (is_left c mark f)) (λ (f : Fact). is_in_cell r k f && is_left c mark f) (is_in_cell r k) (λ f. part_left (is_in_cell r k f) (is_left c mark f)) (facts_of before))
+      (ap (λ fs. aggregate_of (filter (is_in_cell r k) fs)) (facts_of-left c mark before) ∙ ap aggregate_of (filter_both (is_in_cell r k) (is_left c mark) (facts_of before)))
+      ∙ sym (aggregate_where-part (λ (f : Fact). is_in_cell r k f && not (is_left c mark f)) (λ (f : Fact). is_left c mark f && is_in_cell r k f) (is_in_cell r k) (λ f. part_left (is_in_cell r k f) (is_left c mark f)) (facts_of before))
 
   -- where the rest is determined, it is what is left
   pub left_total : (rest : Aggregate) → IsOnlyRest IsSound merged (total_of r k (facts_of before)) gone rest → total_of r k (facts_of (map (left_points c mark) before)) ≡ rest

@@ -80,9 +80,6 @@ module _ (p : Rule → Bool) where
       ]
   rules_kept (r ∷ rs) _ ms a b = absurd (omega arith)
 
-  lows_kept : (rs : List Rule) (lows : List ℤ) (ms : List CellMap) → length lows ≡ length rs → length ms ≡ length rs → map lowest_of (filter passes (rules_of rs lows ms)) ≡ kept_beside p rs lows
-  lows_kept rs lows ms a b = ap (map lowest_of) (rules_kept rs lows ms a b) ∙ lows_of (filter p rs) (kept_beside p rs lows) (kept_beside p rs ms) (length-kept p rs lows a) (length-kept p rs ms b)
-
   turns_kept : (rs : List RuleCells) → batches_left (filter passes rs) ≤ batches_left rs
   turns_kept [] = omega arith
   turns_kept (r ∷ rs) =
@@ -91,11 +88,14 @@ module _ (p : Rule → Bool) where
 
 pub rule_goes : (opening : Settings) (h : History) (k : StoreData) (name : Text) → StandsFor opening h (state_of k) → IsEven k → IsTrue (is_named k.settings.rules name) → StandsFor opening (DropRule name ∷ h) (state_of (rule_dropped name k))
 rule_goes opening h k name st even named =
+    let p : Rule → Bool = is_unnamed name in
+    let rules = rules_kept p k.settings.rules k.marks.lows k.cells even.lows even.cells in
+    let lows = ap (map lowest_of) rules ∙ lows_of (filter p k.settings.rules) (kept_beside p k.settings.rules k.marks.lows) (kept_beside p k.settings.rules k.cells) (length-kept p k.settings.rules k.marks.lows even.lows) (length-kept p k.settings.rules k.cells even.cells) in
     subst (StandsFor opening (DropRule name ∷ h))
     (λ i. record (state_of k) {
       settings = without_rule name k.settings;
-      marks = record { raw = k.marks.raw; lows = lows_kept (is_unnamed name) k.settings.rules k.marks.lows k.cells even.lows even.cells i };
-      rules = rules_kept (is_unnamed name) k.settings.rules k.marks.lows k.cells even.lows even.cells i;
+      marks = record { raw = k.marks.raw; lows = lows i };
+      rules = rules i;
     })
     (dropped_stands opening h (state_of k) name st named)
 

@@ -1,6 +1,7 @@
 -- A step that moves a column, on a store's content.
+use Rattle.ts_core.proofs.queries.AnswersLaws.{filter_both}
 use Rattle.ts_core.proofs.settings.FoundLemmas.{none_of}
-use Rattle.std.proofs.lemmas.Bool.{and_right, or_parts}
+use Rattle.std.proofs.lemmas.Bool.{and_left, and_right, and_parts, and_from, or_parts, not_from_false, true_from_ne_false}
 use Rattle.std.proofs.Common.{◌≡◌, ℤ, ◌+◌, ◌≤◌, ◌^◌, Bool, true, false, cond, not, ◌&&◌, ◌||◌, List, [], ◌∷◌, length, filter, map, refl, sym, ◌∙◌, ap, subst, inl, inr, ⊎_elim, true≢false, int_lt, arith, Some, None, ◌≤ℤ◌, is_some}
 use Rattle.std.specs.List.{AllByRecursion, AllZip}
 use Rattle.std.specs.FinMap as finmap
@@ -17,15 +18,15 @@ use Rattle.ts_core.specs.store.RawFacts.{kept_from}
 use Rattle.ts_core.specs.store.Cells.{Cell, cell_cmp, same_cell, cell_of, is_in_cell, total_of, frozen_of, live_of}
 use Rattle.ts_core.specs.store.StoreStates.{ColumnPoints, CellParts, fact_at, StoreState, StandsFor, HasCells, column_of, facts_at, facts_of}
 use Rattle.ts_core.proofs.aggregates.Folds.{fold-count}
-use Rattle.ts_core.proofs.lists.MembersLemmas.{no_members, Among-filter_was, Among-filter_passes}
+use Rattle.ts_core.proofs.lists.MembersLemmas.{no_members, map_back, Among-map, filter-none, Among-filter_was, Among-filter_passes, Among-filter_stays}
 use Rattle.ts_core.proofs.plans.PieceCells.{same_cell-eq, same_cell-refl}
 use Rattle.ts_core.proofs.lists.Comparisons.{same_bool}
 use Rattle.ts_core.proofs.facts.Latests.{latest-distinct}
-use Rattle.ts_core.proofs.store.Cuts.{aggregate_where, one_fact, Holds, total_of-parts, live_of-held}
+use Rattle.ts_core.proofs.store.Cuts.{aggregate_where, filter-agree, one_fact, Holds, total_of-parts, live_of-held}
 use Rattle.ts_core.proofs.store.Moves.{IsMoved, is_left, left_points, columns_left}
 use Rattle.ts_core.proofs.store.ColumnFacts.{facts_of-there}
 use Rattle.ts_core.proofs.lists.ListSteps.{length-filter}
-use Rattle.ts_core.proofs.store.StateLemmas.{cons_not, StandsFor-Holds}
+use Rattle.ts_core.proofs.store.StateLemmas.{StandsFor-Holds}
 use Rattle.ts_core.proofs.store.RunSteps.{facts_of-left, move_stands}
 use Rattle.ts_core.specs.store.StoreData.{CellMap, StoreData, rule_cells, rules_of, state_of}
 use Rattle.ts_core.specs.moves.StoreMoves.{frozen_points, refolded_points, moved_cells, all_moved, points_below, column_moved}
@@ -55,13 +56,10 @@ count_few opening h l p =
     omega arith
 
 fewer_both : (p q : Fact → Bool) (fs : List Fact) → length (filter (λ (f : Fact). p f && q f) fs) ≤ length (filter p fs)
-fewer_both p q [] = omega arith
-fewer_both p q (f ∷ fs) =
-    let h = fewer_both p q fs in
-    elim (p f) as (λ a. length (cond (a && q f) (f ∷ filter (λ (g : Fact). p g && q g) fs) (filter (λ (g : Fact). p g && q g) fs)) ≤ length (cond a (f ∷ filter p fs) (filter p fs))) [
-      | true ↦ elim (q f) as (λ b. length (cond b (f ∷ filter (λ (g : Fact). p g && q g) fs) (filter (λ (g : Fact). p g && q g) fs)) ≤ length (f ∷ filter p fs)) [ true ↦ omega arith | false ↦ omega arith ]
-      | false ↦ h
-    ]
+fewer_both p q fs =
+    let both = ap (λ (gs : List Fact). length gs) (filter_both q p fs) in
+    let fewer = length-filter q (filter p fs) in
+    omega arith
 
 -- ---- a rule's cells, as a column is moved
 
@@ -81,10 +79,9 @@ points_in r k c (p ∷ ps) m =
     ]
 
 pub points_out : (r : Rule) (k : Cell) (c : Column) (ps : List (ℤ × ℤ)) → same_text c.series.measurement r.measurement ≡ false → filter (is_in_cell r k) (facts_at c ps) ≡ []
-points_out r k c [] m = refl
-points_out r k c (p ∷ ps) m =
-    let rest : List Fact = filter (is_in_cell r k) (facts_at c ps) in
-    ap (λ b. cond b (fact_at c p ∷ rest) rest) (ap (λ b. b && same_cell (cell_of r (fact_at c p)) k) m) ∙ points_out r k c ps m
+points_out r k c ps m =
+    filter-none (is_in_cell r k) (facts_at c ps) (λ f a.
+    and_left _ _ (ap (λ (g : Fact). same_text g.column.series.measurement r.measurement) (sym (map_back (fact_at c) ps f a).2) ∙ m))
 
 empty_right : (a : Aggregate) → merged a empty_aggregate ≡ a
 empty_right a = aggregate_laws.comm a empty_aggregate ∙ aggregate_laws.unit a
@@ -134,20 +131,10 @@ none_in r k c (p ∷ ps) h =
 
 -- where nothing that passes goes, what passes is what is left of it
 filter-left : (p q : Fact → Bool) (fs : List Fact) → filter (λ (f : Fact). p f && not (q f)) fs ≡ [] → filter p (filter q fs) ≡ filter p fs
-filter-left p q [] h = refl
-filter-left p q (f ∷ fs) h =
-    let gone : List Fact = filter (λ (g : Fact). p g && not (q g)) fs in
-    elim (q f) as (λ b. cond (p f && not b) (f ∷ gone) gone ≡ [] → filter p (cond b (f ∷ filter q fs) (filter q fs)) ≡ cond (p f) (f ∷ filter p fs) (filter p fs)) [
-      | true ↦ λ e. ap (λ zs. cond (p f) (f ∷ zs) zs) (filter-left p q fs (sym (ap (λ b. cond b (f ∷ gone) gone) (and_right (p f) false refl)) ∙ e))
-      | false ↦ λ e. elim (p f) as (λ b. cond (b && true) (f ∷ gone) gone ≡ [] → filter p (filter q fs) ≡ cond b (f ∷ filter p fs) (filter p fs)) [
-        | true ↦ λ n. absurd (cons_not n)
-        | false ↦ λ n. filter-left p q fs n
-      ] e
-    ] h
-
--- a cell is there after a freezing where it was
-frozen_there : (r : Rule) (c : Column) (k : Cell) (ps : List (ℤ × ℤ)) (m : CellMap) → (finmap.get m k ≡ None → ⊥) → finmap.get (frozen_points r c ps m) k ≡ None → ⊥
-frozen_there r c k ps m h e = h (none_of (finmap.get m k) (sym (frozen_some r c k ps m) ∙ ap is_some e))
+filter-left p q fs h =
+    filter_both p q fs
+    ∙ filter-agree (λ (f : Fact). q f && p f) p fs (λ f a. same_bool (q f && p f) (p f) (λ t. (and_parts (q f) _ t).1)
+    (λ t. and_from _ _ (true_from_ne_false _ (λ n. subst (Among f) h (Among-filter_stays (λ (g : Fact). p g && not (q g)) f fs a (and_from _ _ t (not_from_false _ n))))) t))
 
 module _ (c : Column) (mark : ℤ) (before : List ColumnPoints) (ps : List (ℤ × ℤ)) (once : AllDistinct (map column_of before)) (there : Among (record { column = c; points = ps }) before) where
   abbrev left : List Fact
@@ -169,14 +156,10 @@ module _ (c : Column) (mark : ℤ) (before : List ColumnPoints) (ps : List (ℤ 
   live_moved r k m was spare =
       elim (same_text c.series.measurement r.measurement) as (λ b. same_text c.series.measurement r.measurement ≡ b → live_in (finmap.get (cond b (refolded_points r c below left (frozen_points r c below m)) m) k) ≡ total_of r k left) [
         | true ↦ λ t. refolded_live r c k left below (frozen_points r c below m)
-            (λ y. let f = any_found r c k below y in frozen_there r c k below m (spare f.0 f.1 t f.2))
+            (λ y e. let f = any_found r c k below y in spare f.0 f.1 t f.2 (none_of (finmap.get m k) (sym (frozen_some r c k below m) ∙ ap is_some e)))
             (λ n. frozen_live r c k below m ∙ was ∙ sym (still r k (none_in r k c below n)))
         | false ↦ λ t. was ∙ sym (still r k (points_out r k c below t))
       ] refl
-
-among_at : (c : Column) (p : ℤ × ℤ) (ps : List (ℤ × ℤ)) → Among p ps → Among (fact_at c p) (facts_at c ps)
-among_at c p [] a = absurd a
-among_at c p (q ∷ ps) a = ⊎_elim {C = Among (fact_at c p) (facts_at c (q ∷ ps))} (λ e. inl (ap (fact_at c) e)) (λ b. inr (among_at c p ps b)) a
 
 pub find_among : (k : Cell) (es : List (Cell × CellParts)) → Among k (map (λ (e : Cell × CellParts). e.0) es) → find cell_cmp k es ≡ None → ⊥
 find_among k [] a h = a
@@ -204,7 +187,7 @@ rule_moved opening h lawful cut c mark before ps once there held r low m has =
     let spare : (k : Cell) → low ≤ℤ k.index → (p : ℤ × ℤ) → Among p below → same_text c.series.measurement r.measurement ≡ true → in_points r c k p ≡ true → finmap.get m k ≡ None → ⊥ = λ k l p q t i n.
     let f : Fact = fact_at c p in
     let key : k ≡ cell_of r f = same_cell-eq k (cell_of r f) i in
-    let shown : Among f (facts_of before) = facts_of-there before (record { column = c; points = ps }) f there (among_at c p ps (Among-filter_was (λ (x : ℤ × ℤ). int_lt x.0 mark) p ps q)) in
+    let shown : Among f (facts_of before) = facts_of-there before (record { column = c; points = ps }) f there (Among-map (fact_at c) p ps (Among-filter_was (λ (x : ℤ × ℤ). int_lt x.0 mark) p ps q)) in
     let cell : Among (cell_of r f) (finmap.keys m) = has.there f (held.only f shown).0 t (subst (λ (x : Cell). low ≤ℤ x.index) key l) in
     find_among (cell_of r f) (finmap.entries m) cell (sym (get-entries m (cell_of r f)) ∙ ap (finmap.get m) (sym key) ∙ n) in
     record {

@@ -1,5 +1,5 @@
 -- Coverage by valid pieces: each moment of the range lies in exactly one piece, and no other moment in any.
-use Rattle.std.proofs.Common.{◌≡◌, ℕ, ℤ, ◌≤ℤ◌, ◌<ℤ◌, int_le, int_lt, arith, refl, sym, ap, ◌∙◌, suc, List, [], ◌∷◌, length, filter, Bool, true, false, cond}
+use Rattle.std.proofs.Common.{◌≡◌, ℤ, ◌≤ℤ◌, ◌<ℤ◌, int_le, int_lt, arith, refl, sym, ap, ◌∙◌, suc, List, [], ◌∷◌, length, filter, Bool, true, false, cond}
 use Rattle.std.proofs.lemmas.Int.{ints, by_lt_z}
 use Rattle.std.proofs.lemmas.Bool.{and_parts, and_from}
 use Rattle.ts_core.specs.facts.Facts.{is_within}
@@ -32,11 +32,7 @@ covers_once a b t (p ∷ ps) c =
     let some = c.1 in
     let up = c.2 in
     let ih = covers_once p.to b t ps c.3 in
-    let rest : ℕ = length (filter (holds t) ps) in
-    let step : (z : Bool) → holds t p ≡ z → length (filter (holds t) (p ∷ ps)) ≡ cond z (suc rest) rest = λ z e. elim z as (λ z. holds t p ≡ z → length (filter (holds t) (p ∷ ps)) ≡ cond z (suc rest) rest) [
-      | true ↦ λ e. ap (λ x. length (cond x (p ∷ filter (holds t) ps) (filter (holds t) ps))) e
-      | false ↦ λ e. ap (λ x. length (cond x (p ∷ filter (holds t) ps) (filter (holds t) ps))) e
-    ] e in
+    let step : (z : Bool) → holds t p ≡ z → length (filter (holds t) (p ∷ ps)) ≡ length (cond z (p ∷ filter (holds t) ps) (filter (holds t) ps)) = λ z e. ap (λ x. length (cond x (p ∷ filter (holds t) ps) (filter (holds t) ps))) e in
     by_lt_z t p.to
     (λ l. by_lt_z t p.from
     (λ m. step false (within_below p.from p.to t m) ∙ ih ∙ ap (λ z. cond z 1 0) (within_below p.to b t l) ∙ ap (λ z. cond z 1 0) (sym (within_below a b t (omega (arith, ints)))))

@@ -22,7 +22,7 @@ use Rattle.ts_core.specs.store.StoreStates.{RuleCells, rule_of, lowest_of}
 use Rattle.ts_core.proofs.settings.Intervals.{IsWide}
 use Rattle.ts_core.proofs.facts.Ids.{equal_of, same_text-eq}
 use Rattle.ts_core.proofs.lists.Comparisons.{same_text-from_eq}
-use Rattle.ts_core.proofs.plans.GoodPlaces.{index_of-start}
+use Rattle.ts_core.proofs.plans.GoodPlaces.{number_of, rule_wide, index_of-start}
 use Rattle.ts_core.proofs.aggregates.BucketsOrder.{bucket_le}
 use Rattle.ts_core.proofs.store.StateLemmas.{le_trans}
 use Rattle.ts_core.proofs.queries.Boundaries.{within_parts}
@@ -71,12 +71,7 @@ shown_rule fs name (y ∷ ys) r a e =
     ] e
 
 wide_rule : (name : Text) (rs : List MarkedRule) (r : MarkedRule) → AllByRecursion (λ (x : MarkedRule). pos 1 ≤ℤ x.rule.interval) rs → rule_named name rs ≡ Some r → pos 1 ≤ℤ r.rule.interval
-wide_rule name [] r a e = absurd (let n : None ≡ Some r = e in cc)
-wide_rule name (x ∷ xs) r a e =
-    elim (same_text x.rule.name name) as (λ b. cond b (Some x) (rule_named name xs) ≡ Some r → pos 1 ≤ℤ r.rule.interval) [
-      | true ↦ λ k. subst (λ (y : MarkedRule). pos 1 ≤ℤ y.rule.interval) (same_Some x r k) a.0
-      | false ↦ λ k. wide_rule name xs r a.1 k
-    ] e
+wide_rule name rs r a e = let k = number_of rs name r e in rule_wide rs k.n r a k.there
 
 pub serving : (opening : Settings) (h : History) (seen : ViewState) (q : Query) → Shows opening h seen → IsWide (query_context seen.settings seen.marks q) → (name : Text) (a b : ℤ)
     → SourceServes (query_context seen.settings seen.marks q) (Rollup name) a b → Serving (latest_of h) q (rule_shown name seen.rules) a b

@@ -1,8 +1,9 @@
 -- Pieces of a row joined: each fact of the row is in exactly one of the valid pieces.
+use Rattle.std.proofs.lemmas.Bool.{and_left, and_right}
 use Rattle.std.proofs.Common.{◌≡◌, ℤ, ◌≤ℤ◌, int_lt, Bool, true, false, ◌&&◌, not, List, [], ◌∷◌, filter, refl, sym, ◌∙◌, ap, ap₂, arith}
 use Rattle.std.proofs.lemmas.Int.{ints, by_lt_z}
 use Rattle.std.specs.Ordering.{int_eq}
-use Rattle.ts_core.specs.facts.Facts.{Text, Fact, is_within}
+use Rattle.ts_core.specs.facts.Facts.{Text, Fact}
 use Rattle.ts_core.specs.settings.Settings.{Settings}
 use Rattle.ts_core.specs.store.Marks.{Marks}
 use Rattle.ts_core.specs.aggregates.Partials.{fold_by}
@@ -44,14 +45,8 @@ part_of_row-halves q fs g k a c b l u =
 -- nothing is in an empty range
 nothing_at : (q : Query) (fs : List Fact) (g : List Text) (k a b : ℤ) → a ≡ b → part_of_row q fs g k a b ≡ empty_aggregate
 nothing_at q fs g k a b e =
-    ap aggregate_of (filter-none (is_in_row (over_range q a b) g k) fs (λ f h. ap (λ x. (is_selected q f.column && x) && row_test q g k f) (none_within f.time) ∙ no (is_selected q f.column) (row_test q g k f)))
-  where
-    no : (x y : Bool) → ((x && false) && y) ≡ false
-    no true y = refl
-    no false y = refl
-
-    none_within : (t : ℤ) → is_within a b t ≡ false
-    none_within t = by_lt_z t a (λ l. within_below a b t l) (λ l. within_above a b t (omega (arith, ints)))
+    ap aggregate_of (filter-none (is_in_row (over_range q a b) g k) fs (λ f h.
+    and_left _ _ (and_right (is_selected q f.column) _ (by_lt_z f.time a (λ l. within_below a b f.time l) (λ l. within_above a b f.time (omega (arith, ints)))))))
 
 -- and that of pieces which cover it
 pub part_of_row-pieces : (q : Query) (fs : List Fact) (g : List Text) (k a b : ℤ) (ps : List Piece) → Covers a b ps

@@ -1,4 +1,5 @@
 -- The plan of a query: valid, unique, and existing if some list of pieces is valid.
+use Rattle.std.proofs.lemmas.Option.{same_Some}
 use Rattle.std.proofs.Common.{◌≡◌, ℕ, ℤ, pos, ◌<◌, ◌+ℤ◌, ◌≤ℤ◌, ◌<ℤ◌, arith, refl, sym, ap, ap₂, ◌∙◌, subst, List, [], ◌∷◌, Option, Some, None, Bool, true, false, cond, ◌&&◌, true≢false}
 use Rattle.std.specs.Prelude.{slice_get}
 use Rattle.std.proofs.lemmas.Int.{ints, by_lt_z}
@@ -70,9 +71,6 @@ plan_valid t ps s k = subst (IsValidFrom t t.query.from) (sym k.2) (walk_joined 
 by_order : {P : Type 0} (m n : ℕ) → (m < n → P) → (n < m → P) → (m ≡ n → P) → P
 by_order m n f g h = by_lt_z (pos m) (pos n) (λ l. f (omega (arith, ints))) (λ l. by_lt_z (pos n) (pos m) (λ k. g (omega (arith, ints))) (λ k. h (omega (arith, ints))))
 
-same_rule : (t : QueryContext) (m n : ℕ) (r u : MarkedRule) → m ≡ n → slice_get t.rules m ≡ Some r → slice_get t.rules n ≡ Some u → r ≡ u
-same_rule t m n r u e a b = let q : Some r ≡ Some u = sym a ∙ ap (slice_get t.rules) e ∙ b in cc
-
 record Alike (s u : Source) (d e : ℤ) (bs cs : List Piece) : Type 0 where
   source : s ≡ u
   end : d ≡ e
@@ -84,7 +82,7 @@ first_alike t p d e name other bs cs f a b =
     (λ l. absurd (b.first a.n d l a.leads))
     (λ l. absurd (a.first b.n e l b.leads))
     (λ q.
-    let r : a.leads.rule ≡ b.leads.rule = same_rule t a.n b.n a.leads.rule b.leads.rule q a.leads.there b.leads.there in
+    let r : a.leads.rule ≡ b.leads.rule = same_Some a.leads.rule b.leads.rule (sym a.leads.there ∙ ap (slice_get t.rules) q ∙ b.leads.there) in
     let z : d ≡ e = a.leads.one ∙ ap (λ (x : MarkedRule). p +ℤ x.rule.interval) r ∙ sym b.leads.one in
     let n : name ≡ other = sym a.named ∙ ap (λ (x : MarkedRule). x.rule.name) r ∙ b.named in
     record { source = ap Rollup n; end = z; rest = f z })

@@ -44,7 +44,7 @@ same_meeting r f [] a = refl
 same_meeting r f (c ∷ cs) a =
     ap₂ (λ x y. x && y) (ap (λ x. cond c.negated (not (same_text x c.value)) (same_text x c.value)) (sym (kept_value f.column.series r.kept_tags c.tag a.0))) (same_meeting r f cs a.1)
 
-all_parts : {X : Type 0} (P : X → Type 0) (xs ys : List X) → AllByRecursion P (xs ++ ys) → AllByRecursion P xs × AllByRecursion P ys
+pub all_parts : {X : Type 0} (P : X → Type 0) (xs ys : List X) → AllByRecursion P (xs ++ ys) → AllByRecursion P xs × AllByRecursion P ys
 all_parts P [] ys a = (tt, a)
 all_parts P (x ∷ xs) ys a = let r = all_parts P xs ys a.1 in ((a.0, r.0), r.1)
 

@@ -43,15 +43,9 @@ number_back n lt =
     let worth : digits_value 10 (decimal n) * 1 + 0 ≡ n = omega (arith, is.1) in
     spelled_read (term ∷ []) (record { number = is.0; called = ns_called }, tt) (no_terms term []) ∙ ap Some worth
 
-up : (n : ℕ) → n < 2 ^ 63 → counted_up n ≡ Some (pos n)
-up n lt = grind (arith, nat_tests)
-
-down : (n : ℕ) → suc n ≤ 2 ^ 63 → counted_down (suc n) ≡ Some (negsuc n)
-down n le = grind (arith, nat_tests)
-
 span_back : (n : ℕ) → n < 2 ^ 63 → span_of (decimal n ++ codes "ns") ≡ Some (pos n)
 unfolding span_of
-span_back n lt = ap (option_and_then counted_up) (number_back n (omega arith)) ∙ up n lt
+span_back n lt = ap (option_and_then counted_up) (number_back n (omega arith)) ∙ (let up : counted_up n ≡ Some (pos n) = grind (arith, nat_tests) in up)
 
 -- a text begins with a digit
 record BeginsWithDigit (text : Text) : Type 0 where
@@ -96,7 +90,7 @@ offset_back (pos n) fits =
     offset_plain (decimal n ++ codes "ns") (begins (decimal n) (codes "ns") is.0) ∙ span_back n lt
 offset_back (negsuc n) fits =
     let le = fits_down n fits in
-    minus_back (decimal (suc n) ++ codes "ns") ∙ ap (option_and_then counted_down) (number_back (suc n) (omega arith)) ∙ down n le
+    minus_back (decimal (suc n) ++ codes "ns") ∙ ap (option_and_then counted_down) (number_back (suc n) (omega arith)) ∙ (let down : counted_down (suc n) ≡ Some (negsuc n) = grind (arith, nat_tests) in down)
 
 for_ever_back : keeping_of (codes "INF") ≡ Some (pos 0)
 unfolding keeping_of

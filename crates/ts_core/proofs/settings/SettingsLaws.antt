@@ -1,5 +1,5 @@
 -- The properties of settings without a fault.
-use Rattle.std.proofs.Common.{◌≡◌, ℕ, ℤ, pos, int_le, ◌≤ℤ◌, Bool, true, false, ◌&&◌, ◌||◌, not, ◌==◌, map, ap, sym, ◌∙◌, true≢false, nat_lt, nat_le, List, [], ◌∷◌, ◌++◌, length, Option, Some, None, inl, inr, ⊎_elim, arith, refl}
+use Rattle.std.proofs.Common.{◌≡◌, ℕ, pos, int_le, ◌≤ℤ◌, Bool, true, false, ◌&&◌, ◌||◌, not, ◌==◌, map, ap, sym, ◌∙◌, true≢false, nat_lt, nat_le, List, [], ◌∷◌, ◌++◌, length, Option, Some, None, inl, inr, ⊎_elim, arith, refl}
 use Rattle.std.proofs.lemmas.Int.{ints}
 use Rattle.std.specs.List.{AllByRecursion, list_any}
 use Rattle.std.proofs.lemmas.Bool.{and_parts, or_cases, or_right, not-true, eqb-true, ltb-true, leb-true}
@@ -9,7 +9,7 @@ use Rattle.ts_core.specs.declared.settings.settings_fault.SettingsFault.TheVaria
 use Rattle.ts_core.specs.lists.Members.{Among, AllDistinct}
 use Rattle.ts_core.specs.facts.Facts.{Text, same_text}
 use Rattle.ts_core.specs.settings.Settings.{Rule, Settings, Outlasts, AreKeptTags, AreSettings}
-use Rattle.ts_core.specs.settings.SettingsFaults.{unless, is_named, is_interval, are_distinct, are_kept_tags, outlasts, fault_of_rule, or_rule_fault, rules_fault, settings_fault}
+use Rattle.ts_core.specs.settings.SettingsFaults.{unless, is_named, are_distinct, are_kept_tags, outlasts, fault_of_rule, or_rule_fault, rules_fault, settings_fault}
 use Rattle.ts_core.proofs.lists.Comparisons.{le_from, same_text-refl, texts_among}
 use Rattle.ts_core.proofs.lists.MembersLemmas.{Among-left, Among-right}
 
@@ -23,9 +23,6 @@ outlasts_from long short h =
       | inl e ↦ inl (eqb-true long 0 e)
       | inr k ↦ let p = and_parts (nat_lt 0 short) _ k in inr (ltb-true 0 short p.0, leb-true short long p.1)
     ]
-
-at_least_second : (i : ℤ) → is_interval i ≡ true → pos 1000000000 ≤ℤ i
-at_least_second i h = le_from (pos 1000000000) i (and_parts (int_le (pos 1000000000) i) _ h).0
 
 distinct_from : (ts : List Text) → are_distinct ts ≡ true → AllDistinct ts
 distinct_from [] h = tt
@@ -52,7 +49,7 @@ fit_from raw earlier r h =
     let p3 = well _ _ _ p2.1 in
     let p4 = well _ _ _ p3.1 in
     let p5 = well _ _ _ p4.1 in
-    let second = at_least_second r.interval p3.0 in
+    let second = le_from (pos 1000000000) r.interval (and_parts (int_le (pos 1000000000) r.interval) _ p3.0).0 in
     record { wide = omega (arith, ints); second = second; kept_tags = kept_tags_from r.kept_tags p4.0; lasting = outlasts_from r.duration raw p5.0 }
 
 pub or_none : (n : ℕ) (f : Option RuleFault) (next : Option SettingsFault) → or_rule_fault n f next ≡ None → (f ≡ None) × (next ≡ None)

@@ -1,17 +1,17 @@
 -- The points of each column of a store that represents a history: exactly the column's raw facts.
+use Rattle.ts_core.proofs.lists.MembersLemmas.{Among-map, map_back}
 use Rattle.std.proofs.Common.{◌≡◌, ℕ, ◌+◌, ℤ, List, [], ◌∷◌, ◌++◌, map, length, sym, ◌∙◌, ap, subst, inl, inr, ⊎_elim}
 use Rattle.ts_core.specs.lists.Members.{Among, AllDistinct}
 use Rattle.ts_core.specs.facts.Facts.{Column, Fact}
 use Rattle.ts_core.specs.settings.Settings.{Settings}
 use Rattle.ts_core.specs.store.History.{History}
 use Rattle.ts_core.specs.store.RawFacts.{raw_of}
-use Rattle.ts_core.specs.store.StoreStates.{ColumnPoints, column_of, facts_at, facts_of}
+use Rattle.ts_core.specs.store.StoreStates.{fact_at, ColumnPoints, column_of, facts_at, facts_of}
 use Rattle.ts_core.proofs.lists.MembersLemmas.{Among-left, Among-right, Among-append}
 
 -- a column's facts are of that column
 pub facts_at-column : (c : Column) (ps : List (ℤ × ℤ)) (f : Fact) → Among f (facts_at c ps) → f.column ≡ c
-facts_at-column c [] f a = absurd a
-facts_at-column c (p ∷ ps) f a = ⊎_elim {C = f.column ≡ c} (λ e. ap (λ (g : Fact). g.column) e) (λ k. facts_at-column c ps f k) a
+facts_at-column c ps f a = sym (ap (λ (g : Fact). g.column) (map_back (fact_at c) ps f a).2)
 
 facts_of-column : (cs : List ColumnPoints) (f : Fact) → Among f (facts_of cs) → Among f.column (map column_of cs)
 facts_of-column [] f a = absurd a
@@ -26,8 +26,7 @@ facts_of-there (d ∷ ds) c f m a =
     (λ k. Among-right f (facts_at d.column d.points) (facts_of ds) (facts_of-there ds c f k a)) m
 
 pub column_there : (cs : List ColumnPoints) (c : ColumnPoints) → Among c cs → Among c.column (map column_of cs)
-column_there [] c m = absurd m
-column_there (d ∷ ds) c m = ⊎_elim {C = Among c.column (map column_of (d ∷ ds))} (λ e. inl (ap column_of e)) (λ k. inr (column_there ds c k)) m
+column_there cs c m = Among-map column_of c cs m
 
 -- where columns are distinct, the facts of a column are in that one
 pub facts_of-here : (cs : List ColumnPoints) (c : ColumnPoints) (f : Fact) → AllDistinct (map column_of cs) → Among c cs → f.column ≡ c.column → Among f (facts_of cs) → Among f (facts_at c.column c.points)

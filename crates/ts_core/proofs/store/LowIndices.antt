@@ -82,9 +82,6 @@ first_from-after r mark t w l =
 abbrev rule_mark : Rule → History → ℤ
 rule_mark r h = raw_mark (record { raw_duration = r.duration; rules = [] }) h
 
-max_again : (a b c : ℤ) → int_max (int_max a b) c ≡ int_max a (int_max b c)
-max_again a b c = omega (arith, ints, clamps)
-
 -- the least time is not after a raw mark, so its bucket lies before the first one that starts there
 before_start : (opening : Settings) (h : History) (r : Rule) → pos 1 ≤ℤ r.interval → index_of r least_time ≤ℤ first_from r (raw_mark opening h)
 before_start opening h r w =
@@ -97,7 +94,7 @@ low_of-mark opening [] r w = sym (max_first (index_of r least_time) (index_of r 
 low_of-mark opening (Begin now ∷ h) r w =
     let m : ℤ = rule_mark r (since_added r.name h) in
     let k : ℤ = kept_since r.duration now in
-    ap (λ x. int_max x (index_of r k)) (low_of-mark opening h r w) ∙ max_again (start_of_rule opening h r) (index_of r m) (index_of r k)
+    ap (λ x. int_max x (index_of r k)) (low_of-mark opening h r w) ∙ (let again : int_max (int_max (start_of_rule opening h r) (index_of r m)) (index_of r k) ≡ int_max (start_of_rule opening h r) (int_max (index_of r m) (index_of r k)) = omega (arith, ints, clamps) in again)
     ∙ ap (int_max (start_of_rule opening h r)) (index_of-max r m k w)
 low_of-mark opening (AddRule rule ∷ h) r w =
     elim (same_text rule.name r.name) as (λ b. cond b (first_from r (raw_mark opening h)) (low_of opening h r)

@@ -48,11 +48,7 @@ abbrev pub columns_left : Column → StoreState → List ColumnPoints
 columns_left c s = map (left_points c s.marks.raw) s.columns
 
 abbrev pub moved : Column → List Column → List RuleCells → StoreState → StoreState
-moved c rest after s = record s {
-  waiting = rest;
-  columns = columns_left c s;
-  rules = after;
-}
+moved c rest after s = record s { waiting = rest; columns = columns_left c s; rules = after }
 
 -- ---- a step that removes cells, all below the low index
 
@@ -98,9 +94,4 @@ pub record IsWritten (f : Fact) (after : List ColumnPoints) (r next : RuleCells)
   pub live_elsewhere : (k : Cell) → r.low ≤ℤ k.index → is_in_cell r.rule k f ≡ false → (next.parts k).live ≡ (r.parts k).live
 
 abbrev pub written : List Series → List ColumnPoints → List RuleCells → StoreState → StoreState
-written series columns rules s = record s {
-  series = series;
-  columns = columns;
-  accepted = s.accepted + 1;
-  rules = rules;
-}
+written series columns rules s = record s { series = series; columns = columns; accepted = s.accepted + 1; rules = rules }

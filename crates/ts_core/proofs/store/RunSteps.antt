@@ -1,5 +1,6 @@
 -- The steps of a run. One moves a column, whose facts below the mark go from the live parts to the frozen ones; one
 -- removes cells below the low index; the last one ends the run.
+use Rattle.ts_core.proofs.lists.ListSteps.{filter-map}
 pub use Rattle.std.proofs.lemmas.List.Elements.{filter-append}
 use Rattle.std.proofs.Common.{◌≡◌, ◌↔◌, IsTrue, ℤ, Bool, true, false, cond, not, ◌&&◌, ◌||◌, List, [], ◌∷◌, ◌++◌, filter, map, refl, sym, ◌∙◌, ap, ap₂, subst, inr, true≢false, int_le, ◌≤ℤ◌}
 use Rattle.std.specs.List.{AllByRecursion, AllZip}
@@ -12,8 +13,8 @@ use Rattle.ts_core.specs.store.Marks.{Marks}
 use Rattle.ts_core.specs.aggregates.Aggregates.{merged}
 use Rattle.ts_core.specs.store.RawFacts.{same_column, is_waiting, earlier_mark, kept_from, is_kept}
 use Rattle.ts_core.specs.store.Cells.{Cell, cell_of, is_in_cell}
-use Rattle.ts_core.specs.store.StoreStates.{ColumnPoints, RuleCells, StoreState, StandsFor, HasCells, column_of, rule_of, lowest_of, facts_at, facts_of}
-use Rattle.ts_core.proofs.lists.MembersLemmas.{AllDistinct-filter, Among-filter_passes, Among-filter_was, Among-filter_stays}
+use Rattle.ts_core.specs.store.StoreStates.{ColumnPoints, RuleCells, StoreState, StandsFor, HasCells, column_of, rule_of, lowest_of, fact_at, facts_at, facts_of}
+use Rattle.ts_core.proofs.lists.MembersLemmas.{filter-all, AllDistinct-filter, Among-filter_passes, Among-filter_was, Among-filter_stays}
 use Rattle.ts_core.proofs.facts.Latests.{latest-distinct}
 use Rattle.ts_core.proofs.lists.Comparisons.{le_true, le_from}
 use Rattle.ts_core.proofs.store.Cuts.{aggregate_where, aggregate_where-agree, CutRises, passed_of, frozen_of-gains, aggregate_where-held, live_of-held, Holds}
@@ -34,21 +35,11 @@ left_is false w old mark t h k = sym k
 
 facts_left : (c : Column) (mark : ℤ) (d : Column) (ps : List (ℤ × ℤ)) → same_column d c ≡ true
     → facts_at d (filter (λ (p : ℤ × ℤ). int_le mark p.0) ps) ≡ filter (is_left c mark) (facts_at d ps)
-facts_left c mark d [] e = refl
-facts_left c mark d (p ∷ ps) e =
-    let x : Fact = record { column = d; time = p.0; value = p.1 } in
-    let rest : List Fact = filter (is_left c mark) (facts_at d ps) in
-    elim (int_le mark p.0) as (λ b. facts_at d (cond b (p ∷ filter (λ (q : ℤ × ℤ). int_le mark q.0) ps) (filter (λ (q : ℤ × ℤ). int_le mark q.0) ps)) ≡ cond b (x ∷ rest) rest) [
-      | true ↦ ap (λ zs. x ∷ zs) (facts_left c mark d ps e)
-      | false ↦ facts_left c mark d ps e
-    ] ∙ sym (ap (λ b. cond (not b || int_le mark p.0) (x ∷ rest) rest) e)
+facts_left c mark d ps e = sym (filter-map (is_left c mark) (fact_at d) ps ∙ (λ i. facts_at d (filter (λ p. not (e i) || int_le mark p.0) ps)))
 
 facts_stay : (c : Column) (mark : ℤ) (d : Column) (ps : List (ℤ × ℤ)) → same_column d c ≡ false → facts_at d ps ≡ filter (is_left c mark) (facts_at d ps)
-facts_stay c mark d [] e = refl
-facts_stay c mark d (p ∷ ps) e =
-    let x : Fact = record { column = d; time = p.0; value = p.1 } in
-    let rest : List Fact = filter (is_left c mark) (facts_at d ps) in
-    ap (λ zs. x ∷ zs) (facts_stay c mark d ps e) ∙ sym (ap (λ b. cond (not b || int_le mark p.0) (x ∷ rest) rest) e)
+facts_stay c mark d ps e =
+    sym (filter-map (is_left c mark) (fact_at d) ps ∙ (λ i. facts_at d (filter (λ p. not (e i) || int_le mark p.0) ps)) ∙ ap (facts_at d) (filter-all (λ p. true) ps (λ p a. refl)))
 
 pub facts_of-left : (c : Column) (mark : ℤ) (cs : List ColumnPoints) → facts_of (map (left_points c mark) cs) ≡ filter (is_left c mark) (facts_of cs)
 facts_of-left c mark [] = refl
