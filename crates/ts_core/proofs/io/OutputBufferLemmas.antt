@@ -97,14 +97,11 @@ puts_join a b c k l m (Err y) bytes more p q = record {
   failures = let f = p.failures in let g = q.failures in omega (arith, f, g);
 }
 
-refused_with_more : (a c : Option Text) (k bytes more : Text) → AppendsFront a c (k ++ bytes) → AppendsFront a c (k ++ (bytes ++ more))
-refused_with_more a c k bytes more w = (w.0, w.1 ++ more, sym (append_assoc k bytes more) ∙ ap (λ l. l ++ more) w.2 ∙ append_assoc w.0 w.1 more, w.3)
-
 -- a refused put is a refused put of more bytes
 pub refused_part : (a c : Output) (k m : Text) (e d : Refused) (bytes more : Text) → IsBuffered a k (refused e) bytes c m → IsBuffered a k (refused d) (bytes ++ more) c m
 refused_part a c k m e d bytes more p = record {
   ok = tt;
-  err = refused_with_more a.contents c.contents k bytes more p.err;
+  err = let w = p.err in (w.0, w.1 ++ more, sym (append_assoc k bytes more) ∙ ap (λ l. l ++ more) w.2 ∙ append_assoc w.0 w.1 more, w.3);
   lost = p.lost;
   failures = p.failures;
 }

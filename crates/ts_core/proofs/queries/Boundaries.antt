@@ -1,7 +1,9 @@
 -- Boundaries of a rule's buckets and of a query's: a cell that fits a query lies in one of its buckets.
-use Rattle.std.proofs.Common.{◌≡◌, ℕ, zero, suc, ℤ, pos, negsuc, ◌-◌, ◌/◌, ◌%◌, ◌<◌, ◌+ℤ◌, ◌-ℤ◌, ◌*ℤ◌, ◌≤ℤ◌, ◌<ℤ◌, true, false, ◌&&◌, arith, refl, sym, ap, ap₂, ◌∙◌, subst, div-add-mod', mod-lt, int_le, int_lt, ◌⊎◌, ⊎_elim}
+use borrow.Author.Differences.{up, down, product_is}
+use Rattle.std.proofs.lemmas.Bool.{and_parts}
+use Rattle.std.proofs.Common.{◌≡◌, ℕ, ◌+◌, ◌*◌, ℤ, pos, negsuc, ◌-◌, ◌/◌, ◌%◌, ◌<◌, ◌+ℤ◌, ◌-ℤ◌, ◌*ℤ◌, ◌≤ℤ◌, ◌<ℤ◌, true, ◌&&◌, arith, sym, ap, ap₂, ◌∙◌, subst, div-add-mod', mod-lt, int_le, int_lt, ◌⊎◌, ⊎_elim}
 use Rattle.std.specs.Int.{int_rem_euclid}
-use Rattle.std.proofs.Math.IntN.{suc_ℤ-*ℤ, pos-*ℤ-pos, negsuc-*ℤ-pos, zero-*ℤ}
+use Rattle.std.proofs.Math.IntN.{pos-*ℤ-pos, negsuc-*ℤ-pos}
 use Rattle.std.proofs.lemmas.Int.{ints, by_lt_z}
 use Rattle.ts_core.specs.facts.Facts.{is_within}
 use Rattle.ts_core.specs.settings.Settings.{Rule}
@@ -9,40 +11,28 @@ use Rattle.ts_core.specs.aggregates.Buckets.{IsBucketOf, bucket_of}
 use Rattle.ts_core.specs.store.Marks.{index_of}
 use Rattle.ts_core.specs.queries.Queries.{Query}
 use Rattle.ts_core.specs.plans.Pieces.{start_of, IsBoundary, IsAligned, IsInOneBucket}
-use Rattle.ts_core.proofs.aggregates.BucketsOrder.{bucket_same, bucket_is, one_more, times_le, bucket_le}
+use Rattle.ts_core.proofs.aggregates.BucketsOrder.{bucket_same, bucket_is, times_le, bucket_le}
 use Rattle.ts_core.proofs.lists.Comparisons.{le_from, le_true, lt_from, lt_true, same_bool}
 use Rattle.ts_core.proofs.plans.GoodPlaces.{index_of-start}
 
 -- ---- products
 
-one_up : (n : ℕ) (i : ℤ) → negsuc n *ℤ i ≡ (negsuc (suc n) *ℤ i) +ℤ i
-one_up n i = let e : negsuc (suc n) +ℤ pos 1 ≡ negsuc n = omega (arith, ints) in sym (ap (λ x. x *ℤ i) e) ∙ one_more (negsuc (suc n)) i
-
 times_sum : (j d i : ℤ) → (j +ℤ d) *ℤ i ≡ (j *ℤ i) +ℤ (d *ℤ i)
-times_sum j (pos zero) i =
-    let e : j +ℤ pos 0 ≡ j = omega (arith, ints) in
-    let z : pos zero *ℤ i ≡ pos 0 = zero-*ℤ i in
-    ap (λ x. x *ℤ i) e ∙ (let s : j *ℤ i ≡ (j *ℤ i) +ℤ (pos zero *ℤ i) = omega (arith, ints) in s)
-times_sum j (pos (suc n)) i =
-    let e : j +ℤ pos (suc n) ≡ (j +ℤ pos n) +ℤ pos 1 = omega (arith, ints) in
-    let ih = times_sum j (pos n) i in
-    let m = one_more (j +ℤ pos n) i in
-    let p : pos (suc n) *ℤ i ≡ (pos n *ℤ i) +ℤ i = suc_ℤ-*ℤ (pos n) i in
-    ap (λ x. x *ℤ i) e ∙ (let s : ((j +ℤ pos n) +ℤ pos 1) *ℤ i ≡ (j *ℤ i) +ℤ (pos (suc n) *ℤ i) = omega (arith, ints) in s)
-times_sum j (negsuc zero) i =
-    let e : (j +ℤ negsuc zero) +ℤ pos 1 ≡ j = omega (arith, ints) in
-    let m : ((j +ℤ negsuc zero) +ℤ pos 1) *ℤ i ≡ ((j +ℤ negsuc zero) *ℤ i) +ℤ i = one_more (j +ℤ negsuc zero) i in
-    let k : j *ℤ i ≡ ((j +ℤ negsuc zero) *ℤ i) +ℤ i = sym (ap (λ x. x *ℤ i) e) ∙ m in
-    let z : pos 0 *ℤ i ≡ (negsuc zero *ℤ i) +ℤ i = one_more (negsuc zero) i in
-    let o : pos 0 *ℤ i ≡ pos 0 = zero-*ℤ i in
-    omega (arith, ints)
-times_sum j (negsuc (suc n)) i =
-    let e : (j +ℤ negsuc (suc n)) +ℤ pos 1 ≡ j +ℤ negsuc n = omega (arith, ints) in
-    let m : ((j +ℤ negsuc (suc n)) +ℤ pos 1) *ℤ i ≡ ((j +ℤ negsuc (suc n)) *ℤ i) +ℤ i = one_more (j +ℤ negsuc (suc n)) i in
-    let k : (j +ℤ negsuc n) *ℤ i ≡ ((j +ℤ negsuc (suc n)) *ℤ i) +ℤ i = sym (ap (λ x. x *ℤ i) e) ∙ m in
-    let ih = times_sum j (negsuc n) i in
-    let z : negsuc n *ℤ i ≡ (negsuc (suc n) *ℤ i) +ℤ i = one_up n i in
-    omega (arith, ints)
+times_sum j d i =
+    let both : up (j +ℤ d) + (down j + down d) ≡ (up j + up d) + down (j +ℤ d) = omega (arith, ints) in
+    let whole = product_is (j +ℤ d) i in
+    let first = product_is j i in
+    let second = product_is d i in
+    omega (arith, ints, whole.0, whole.1, first.0, first.1, second.0, second.1, ap (λ x. x * up i) both, ap (λ x. x * down i) both)
+
+times_again : (k d i : ℤ) → k *ℤ (d *ℤ i) ≡ (k *ℤ d) *ℤ i
+times_again k d i =
+    let a = product_is k d in
+    let b = product_is d i in
+    let left = product_is k (d *ℤ i) in
+    let right = product_is (k *ℤ d) i in
+    let by = λ (x m n : ℕ) (e : m ≡ n). ap (λ y. y * x) e in
+    omega (arith, ints, left.0, left.1, right.0, right.1, by (up k) _ _ b.0, by (down k) _ _ b.0, by (up k) _ _ b.1, by (down k) _ _ b.1, by (up i) _ _ a.0, by (down i) _ _ a.0, by (up i) _ _ a.1, by (down i) _ _ a.1)
 
 -- where nothing remains, it is a multiple
 pub multiple_of : (x i : ℤ) → pos 1 ≤ℤ i → int_rem_euclid x i ≡ pos 0 → (d : ℤ) × (x ≡ d *ℤ i)
@@ -60,45 +50,15 @@ multiple_of x (negsuc n) h e = absurd (omega (arith, ints))
 StartsOf : Rule → ℤ → Type 0
 StartsOf r p = (j : ℤ) × (p ≡ start_of r j)
 
-starts_more : (r : Rule) (p d : ℤ) → StartsOf r p → StartsOf r (p +ℤ (d *ℤ r.interval))
-unfolding StartsOf
-starts_more r p d s = let e : p ≡ start_of r s.0 = s.1 in let t = times_sum s.0 d r.interval in (s.0 +ℤ d, omega (arith, ints))
-
-starts_less : (r : Rule) (p d : ℤ) → StartsOf r p → StartsOf r (p -ℤ (d *ℤ r.interval))
-unfolding StartsOf
-starts_less r p d s =
-    let e : p ≡ start_of r s.0 = s.1 in
-    let t = times_sum (s.0 -ℤ d) d r.interval in
-    let u : (s.0 -ℤ d) +ℤ d ≡ s.0 = omega (arith, ints) in
-    let m : s.0 *ℤ r.interval ≡ ((s.0 -ℤ d) *ℤ r.interval) +ℤ (d *ℤ r.interval) = sym (ap (λ x. x *ℤ r.interval) u) ∙ t in
-    (s.0 -ℤ d, omega (arith, ints))
-
-query_starts : (r : Rule) (q : Query) (d : ℤ) → q.interval ≡ d *ℤ r.interval → StartsOf r q.offset → (k : ℤ) → StartsOf r ((k *ℤ q.interval) +ℤ q.offset)
-query_starts r q d e s (pos zero) =
-    let z : pos zero *ℤ q.interval ≡ pos 0 = zero-*ℤ q.interval in
-    let m : q.offset ≡ (pos zero *ℤ q.interval) +ℤ q.offset = omega (arith, ints) in
-    subst (StartsOf r) m s
-query_starts r q d e s (pos (suc n)) =
-    let m : pos (suc n) *ℤ q.interval ≡ (pos n *ℤ q.interval) +ℤ q.interval = suc_ℤ-*ℤ (pos n) q.interval in
-    let f : ((pos n *ℤ q.interval) +ℤ q.offset) +ℤ (d *ℤ r.interval) ≡ (pos (suc n) *ℤ q.interval) +ℤ q.offset = omega (arith, ints) in
-    subst (StartsOf r) f (starts_more r ((pos n *ℤ q.interval) +ℤ q.offset) d (query_starts r q d e s (pos n)))
-query_starts r q d e s (negsuc zero) =
-    let m : pos 0 *ℤ q.interval ≡ (negsuc zero *ℤ q.interval) +ℤ q.interval = one_more (negsuc zero) q.interval in
-    let o : pos 0 *ℤ q.interval ≡ pos 0 = zero-*ℤ q.interval in
-    let f : q.offset -ℤ (d *ℤ r.interval) ≡ (negsuc zero *ℤ q.interval) +ℤ q.offset = omega (arith, ints) in
-    subst (StartsOf r) f (starts_less r q.offset d s)
-query_starts r q d e s (negsuc (suc n)) =
-    let m : negsuc n *ℤ q.interval ≡ (negsuc (suc n) *ℤ q.interval) +ℤ q.interval = one_up n q.interval in
-    let f : ((negsuc n *ℤ q.interval) +ℤ q.offset) -ℤ (d *ℤ r.interval) ≡ (negsuc (suc n) *ℤ q.interval) +ℤ q.offset = omega (arith, ints) in
-    subst (StartsOf r) f (starts_less r ((negsuc n *ℤ q.interval) +ℤ q.offset) d (query_starts r q d e s (negsuc n)))
-
 divided_starts : (r : Rule) (q : Query) → pos 1 ≤ℤ r.interval → IsAligned r q → (k : ℤ) → StartsOf r ((k *ℤ q.interval) +ℤ q.offset)
 unfolding StartsOf
 divided_starts r q w v k =
     let d = multiple_of q.interval r.interval w v.interval in
     let o = multiple_of (q.offset -ℤ r.offset) r.interval w v.offset in
     let e : q.offset -ℤ r.offset ≡ o.0 *ℤ r.interval = o.1 in
-    query_starts r q d.0 d.1 (o.0, omega (arith, ints)) k
+    let m : k *ℤ q.interval ≡ (k *ℤ d.0) *ℤ r.interval = ap (λ x. k *ℤ x) d.1 ∙ times_again k d.0 r.interval in
+    let t = times_sum (k *ℤ d.0) o.0 r.interval in
+    ((k *ℤ d.0) +ℤ o.0, omega (arith, ints))
 
 -- ---- a time and the start of its cell
 
@@ -131,11 +91,7 @@ within_cell r a b t w e f =
     (λ h. lt_true t b (by_lt_z t b (λ l. l) (λ n. absurd (let k = lt_from u b h in let m = boundary_le r b t w f n in omega (arith, ints))))))
 
 pub within_parts : (a b t : ℤ) → is_within a b t ≡ true → (a ≤ℤ t) × (t <ℤ b)
-within_parts a b t h =
-    elim (int_le a t) as (λ x. int_le a t ≡ x → (x && int_lt t b) ≡ true → (a ≤ℤ t) × (t <ℤ b)) [
-      | true ↦ λ e k. (le_from a t e, lt_from t b k)
-      | false ↦ λ e k. absurd (let n : false ≡ true = k in cc)
-    ] refl h
+within_parts a b t h = let p = and_parts (int_le a t) _ h in (le_from a t p.0, lt_from t b p.1)
 
 -- ---- and so do the query's buckets
 

@@ -69,14 +69,8 @@ keeping_plain : (text : Text) → BeginsWithDigit text → keeping_of text ≡ s
 unfolding keeping_of
 keeping_plain text d = let no = not_i d.first d.digit in rw d.is (rw no refl)
 
-fits_up : (n : ℕ) → FitsSigned w64 (pos n) → n < 2 ^ 63
-fits_up n h = omega (arith, ints)
-
-fits_down : (n : ℕ) → FitsSigned w64 (negsuc n) → suc n ≤ 2 ^ 63
-fits_down n h = omega (arith, ints)
-
 interval_back : (i : ℤ) → pos 1 ≤ℤ i → FitsSigned w64 i → span_of (nanoseconds_text i) ≡ Some i
-interval_back (pos n) some fits = span_back n (fits_up n fits)
+interval_back (pos n) some fits = span_back n (omega (arith, ints))
 interval_back (negsuc n) some fits = absurd (omega (arith, ints, some))
 
 minus_back : (text : Text) → offset_of (45 ∷ text) ≡ option_and_then counted_down (duration_of text)
@@ -85,11 +79,11 @@ minus_back text = refl
 
 offset_back : (o : ℤ) → FitsSigned w64 o → offset_of (nanoseconds_text o) ≡ Some o
 offset_back (pos n) fits =
-    let lt = fits_up n fits in
+    let lt : n < 2 ^ 63 = omega (arith, ints) in
     let is = decimal_is_IsNumeral n (omega arith) in
     offset_plain (decimal n ++ codes "ns") (begins (decimal n) (codes "ns") is.0) ∙ span_back n lt
 offset_back (negsuc n) fits =
-    let le = fits_down n fits in
+    let le : suc n ≤ 2 ^ 63 = omega (arith, ints) in
     minus_back (decimal (suc n) ++ codes "ns") ∙ ap (option_and_then counted_down) (number_back (suc n) (omega arith)) ∙ (let down : counted_down (suc n) ≡ Some (negsuc n) = grind (arith, nat_tests) in down)
 
 for_ever_back : keeping_of (codes "INF") ≡ Some (pos 0)
