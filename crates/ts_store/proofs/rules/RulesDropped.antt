@@ -1,5 +1,5 @@
 -- A store without one of its rules: its invariant, and the history that it represents.
-use Rattle.std.proofs.Common.{◌≡◌, ℕ, zero, suc, ℤ, Bool, true, false, cond, List, [], ◌∷◌, length, map, filter, Option, Ok, refl, sym, ◌∙◌, ap, subst, true≢false, arith}
+use Rattle.std.proofs.Common.{◌≡◌, ℕ, zero, suc, ℤ, Bool, List, [], ◌∷◌, length, map, filter, Option, Ok, refl, sym, ◌∙◌, ap, subst, true≢false}
 use Rattle.std.specs.FinMap as finmap
 use Rattle.std.specs.List.{AllByRecursion, remove}
 use Rattle.ts_core.specs.facts.Facts.{Text, Column}
