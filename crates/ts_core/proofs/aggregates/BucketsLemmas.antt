@@ -1,7 +1,8 @@
 -- Existence and uniqueness of the bucket of a time.
-use Rattle.std.proofs.Common.{◌≡◌, ℕ, ℤ, pos, negsuc, ◌*◌, ◌/◌, ◌<◌, ◌+ℤ◌, ◌-ℤ◌, ◌*ℤ◌, ◌≤ℤ◌, ◌<ℤ◌, arith, refl, sym, ap, ◌∙◌, suc, subst, neg_ℤ, div-add-mod', mod-lt, zero-mul, zero}
+use borrow.Author.Differences.{up, down, product_is}
+use Rattle.std.proofs.Common.{◌≡◌, ◌+◌, ℕ, ℤ, pos, negsuc, ◌*◌, ◌/◌, ◌<◌, ◌+ℤ◌, ◌-ℤ◌, ◌*ℤ◌, ◌≤ℤ◌, ◌<ℤ◌, arith, refl, sym, ap, ◌∙◌, suc, subst, neg_ℤ, div-add-mod', mod-lt, zero-mul, zero}
 use Rattle.std.proofs.Common.{unsigned_abs}
-use Rattle.std.specs.Int.Signed.{≤ℤ_refl, yes_non_neg, pos-nat_abs}
+use Rattle.std.specs.Int.Signed.{yes_non_neg, pos-nat_abs}
 use Rattle.std.proofs.Math.IntN.{+ℤ-suc_ℤ, suc_ℤ-*ℤ, +ℤ_idr}
 use Rattle.std.proofs.lemmas.Int.{ints, by_lt_z}
 use Rattle.std.proofs.Math.IntN.{negsuc-*ℤ-pos, pos-*ℤ-pos}
@@ -37,25 +38,29 @@ IsBucketOf-from_index t (negsuc i) o k h e = absurd (omega (arith, ints))
 
 -- ---- and there is one alone
 
-pub not_less : (x : ℤ) (n i : ℕ) → (x *ℤ pos i) ≤ℤ ((x +ℤ pos n) *ℤ pos i)
-not_less x zero i = rw +ℤ_idr (≤ℤ_refl (x *ℤ pos i))
-not_less x (suc n) i =
-    let ih = not_less x n i in
-    let e : (x +ℤ pos (suc n)) *ℤ pos i ≡ (x +ℤ pos n) *ℤ pos i +ℤ pos i = ap (λ z. z *ℤ pos i) (+ℤ-suc_ℤ x (pos n)) ∙ suc_ℤ-*ℤ (x +ℤ pos n) (pos i) in
-    rw e (omega (arith, ints))
+pub times_sum : (j d i : ℤ) → (j +ℤ d) *ℤ i ≡ (j *ℤ i) +ℤ (d *ℤ i)
+times_sum j d i =
+    let both : up (j +ℤ d) + (down j + down d) ≡ (up j + up d) + down (j +ℤ d) = omega (arith, ints) in
+    let whole = product_is (j +ℤ d) i in
+    let first = product_is j i in
+    let second = product_is d i in
+    omega (arith, ints, whole.0, whole.1, first.0, first.1, second.0, second.1, ap (λ x. x * up i) both, ap (λ x. x * down i) both)
+
+pub times_up : (j k : ℤ) (i : ℕ) → j ≤ℤ k → (j *ℤ pos i) ≤ℤ (k *ℤ pos i)
+times_up j k i l =
+    let z : ℤ = k -ℤ j in
+    let e : pos (unsigned_abs z) ≡ z = pos-nat_abs z (yes_non_neg (omega (arith, ints))) in
+    let sum = times_sum j (pos (unsigned_abs z)) (pos i) in
+    let above = pos-*ℤ-pos (unsigned_abs z) i in
+    let s : j +ℤ pos (unsigned_abs z) ≡ k = ap (λ x. j +ℤ x) e ∙ omega (arith, ints) in
+    subst (λ x. (j *ℤ pos i) ≤ℤ (x *ℤ pos i)) s (omega (arith, ints))
 
 -- one more of the first factor is one more of the second
 pub one_more_of : (j : ℤ) (i : ℕ) → (j +ℤ pos 1) *ℤ pos i ≡ j *ℤ pos i +ℤ pos i
 one_more_of j i = ap (λ z. z *ℤ pos i) (+ℤ-suc_ℤ j (pos 0)) ∙ suc_ℤ-*ℤ (j +ℤ pos 0) (pos i) ∙ ap (λ z. z *ℤ pos i +ℤ pos i) (+ℤ_idr j)
 
 pub times_above : (j k : ℤ) (i : ℕ) → j <ℤ k → ((j +ℤ pos 1) *ℤ pos i) ≤ℤ (k *ℤ pos i)
-times_above j k i l =
-    let z : ℤ = k -ℤ (j +ℤ pos 1) in
-    let low : pos 0 ≤ℤ z = omega (arith, ints) in
-    let e : pos (unsigned_abs z) ≡ z = pos-nat_abs z (yes_non_neg low) in
-    let m : ((j +ℤ pos 1) *ℤ pos i) ≤ℤ (((j +ℤ pos 1) +ℤ pos (unsigned_abs z)) *ℤ pos i) = not_less (j +ℤ pos 1) (unsigned_abs z) i in
-    let s : (j +ℤ pos 1) +ℤ pos (unsigned_abs z) ≡ k = ap (λ x. (j +ℤ pos 1) +ℤ x) e ∙ omega (arith, ints) in
-    subst (λ x. ((j +ℤ pos 1) *ℤ pos i) ≤ℤ (x *ℤ pos i)) s m
+times_above j k i l = times_up (j +ℤ pos 1) k i (omega (arith, ints))
 
 apart : (t o j k : ℤ) (i : ℕ) → IsBucketOf t (pos i) o j → IsBucketOf t (pos i) o k → j <ℤ k → ⊥
 apart t o j k i a b l =

@@ -1,10 +1,9 @@
 -- Order of buckets: with an interval of 1 or more, later times have no earlier bucket.
-use Rattle.std.proofs.Common.{◌≡◌, ℤ, pos, negsuc, ◌+ℤ◌, ◌-ℤ◌, ◌*ℤ◌, ◌≤ℤ◌, arith, refl, ap, ◌∙◌, subst, unsigned_abs}
-use Rattle.std.specs.Int.Signed.{yes_non_neg, pos-nat_abs}
+use Rattle.std.proofs.Common.{◌≡◌, ℤ, pos, negsuc, ◌+ℤ◌, ◌*ℤ◌, ◌≤ℤ◌, arith, refl, ap, ◌∙◌}
 use Rattle.std.proofs.Math.IntN.{suc_ℤ-*ℤ, +ℤ_one}
 use Rattle.std.proofs.lemmas.Int.{ints, by_lt_z}
 use Rattle.ts_core.specs.aggregates.Buckets.{IsBucketOf, bucket_of}
-use Rattle.ts_core.proofs.aggregates.BucketsLemmas.{IsBucketOf-from_index, bucket_unique, not_less}
+use Rattle.ts_core.proofs.aggregates.BucketsLemmas.{IsBucketOf-from_index, bucket_unique, times_up}
 
 pub bucket_same : (t i o j k : ℤ) → pos 1 ≤ℤ i → IsBucketOf t i o j → IsBucketOf t i o k → j ≡ k
 bucket_same t (pos i) o j k h a b = bucket_unique t o j k i a b
@@ -18,12 +17,7 @@ one_more k i = ap (λ z. z *ℤ i) (+ℤ_one k) ∙ suc_ℤ-*ℤ k i
 
 pub times_le : (j k i : ℤ) → pos 1 ≤ℤ i → j ≤ℤ k → (j *ℤ i) ≤ℤ (k *ℤ i)
 times_le j k (negsuc i) h l = absurd (omega (arith, ints))
-times_le j k (pos i) h l =
-    let z : ℤ = k -ℤ j in
-    let low : pos 0 ≤ℤ z = omega (arith, ints) in
-    let e : pos (unsigned_abs z) ≡ z = pos-nat_abs z (yes_non_neg low) in
-    let s : j +ℤ pos (unsigned_abs z) ≡ k = ap (λ x. j +ℤ x) e ∙ omega (arith, ints) in
-    subst (λ x. (j *ℤ pos i) ≤ℤ (x *ℤ pos i)) s (not_less j (unsigned_abs z) i)
+times_le j k (pos i) h l = times_up j k i l
 
 pub bucket_le : (t u i o : ℤ) → pos 1 ≤ℤ i → t ≤ℤ u → bucket_of t i o ≤ℤ bucket_of u i o
 bucket_le t u i o h l =

@@ -16,9 +16,9 @@ last_below-same p q zero h = refl
 last_below-same p q (suc n) h =
     ap (λ b. cond b (Some n) (last_below p n)) (h n (omega arith)) ∙ ap (λ o. cond (q n) (Some n) o) (last_below-same p q n (λ i l. h i (omega (arith, l))))
 
-some_case : (p : ℕ → Bool) (n i : ℕ) (b : Bool) (o : Option ℕ) → p n ≡ b → cond b (Some n) o ≡ Some i → ((i ≡ n) × (p i ≡ true)) ⊎ (o ≡ Some i)
-some_case p n i true o e h = inl (sym (same_Some n i h), ap p (sym (same_Some n i h)) ∙ e)
-some_case p n i false o e h = inr h
+found_case : (p : ℕ → Bool) (n i : ℕ) (b : Bool) (o : Option ℕ) → p n ≡ b → cond b (Some n) o ≡ Some i → ((i ≡ n) × (p i ≡ true)) ⊎ ((p n ≡ false) × (o ≡ Some i))
+found_case p n i true o e h = inl (sym (same_Some n i h), ap p (sym (same_Some n i h)) ∙ e)
+found_case p n i false o e h = inr (e, h)
 
 -- a number that is found is below, and passes
 pub last_below-some : (p : ℕ → Bool) (n i : ℕ) → last_below p n ≡ Some i → (i < n) × (p i ≡ true)
@@ -26,7 +26,7 @@ unfolding last_below
 last_below-some p zero i h = absurd (cc)
 last_below-some p (suc n) i h =
     ⊎_elim {C = (i < suc n) × (p i ≡ true)} (λ s. (omega (arith, s.0), s.1))
-    (λ r. let s = last_below-some p n i r in (omega (arith, s.0), s.1)) (some_case p n i (p n) (last_below p n) refl h)
+    (λ r. let s = last_below-some p n i r.1 in (omega (arith, s.0), s.1)) (found_case p n i (p n) (last_below p n) refl h)
 
 none_case : (p : ℕ → Bool) (n : ℕ) (b : Bool) (o : Option ℕ) → p n ≡ b → cond b (Some n) o ≡ None → (p n ≡ false) × (o ≡ None)
 none_case p n true o e h = absurd (cc)
@@ -41,20 +41,16 @@ last_below-none p (suc n) h j l =
     let most : j ≤ n = omega arith in
     ⊎_elim {C = p j ≡ false} (λ (e : j ≡ n). ap p e ∙ s.0) (λ k. last_below-none p n s.1 j k) (eq-or-lt_of_le most)
 
-gap_case : (p : ℕ → Bool) (n i : ℕ) (b : Bool) (o : Option ℕ) → p n ≡ b → cond b (Some n) o ≡ Some i → (i ≡ n) ⊎ ((p n ≡ false) × (o ≡ Some i))
-gap_case p n i true o e h = inl (sym (same_Some n i h))
-gap_case p n i false o e h = inr (e, h)
-
 -- and none between what is found and the end
 pub last_below-gap : (p : ℕ → Bool) (n i : ℕ) → last_below p n ≡ Some i → (j : ℕ) → i < j → j < n → p j ≡ false
 unfolding last_below
 last_below-gap p zero i h j a l = absurd (omega arith)
 last_below-gap p (suc n) i h j a l =
-    ⊎_elim {C = p j ≡ false} (λ (e : i ≡ n). absurd (omega arith))
+    ⊎_elim {C = p j ≡ false} (λ e. absurd (omega (arith, e.0)))
     (λ s.
     let most : j ≤ n = omega arith in
     ⊎_elim {C = p j ≡ false} (λ (e : j ≡ n). ap p e ∙ s.0) (λ k. last_below-gap p n i s.1 j a k) (eq-or-lt_of_le most))
-    (gap_case p n i (p n) (last_below p n) refl h)
+    (found_case p n i (p n) (last_below p n) refl h)
 
 module _ {X : Type 0} (d : X) (p : X → Bool) (xs : List X) (x : X) where
   -- a member after the others changes nothing before it

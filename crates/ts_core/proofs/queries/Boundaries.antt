@@ -1,7 +1,8 @@
 -- Boundaries of a rule's buckets and of a query's: a cell that fits a query lies in one of its buckets.
 use borrow.Author.Differences.{up, down, product_is}
+use Rattle.ts_core.proofs.aggregates.BucketsLemmas.{times_sum}
 use Rattle.std.proofs.lemmas.Bool.{and_parts}
-use Rattle.std.proofs.Common.{◌≡◌, ℕ, ◌+◌, ◌*◌, ℤ, pos, negsuc, ◌-◌, ◌/◌, ◌%◌, ◌<◌, ◌+ℤ◌, ◌-ℤ◌, ◌*ℤ◌, ◌≤ℤ◌, ◌<ℤ◌, true, ◌&&◌, arith, sym, ap, ap₂, ◌∙◌, subst, div-add-mod', mod-lt, int_le, int_lt, ◌⊎◌, ⊎_elim}
+use Rattle.std.proofs.Common.{◌≡◌, ℕ, ◌*◌, ℤ, pos, negsuc, ◌-◌, ◌/◌, ◌%◌, ◌<◌, ◌+ℤ◌, ◌-ℤ◌, ◌*ℤ◌, ◌≤ℤ◌, ◌<ℤ◌, true, ◌&&◌, arith, sym, ap, ap₂, ◌∙◌, subst, div-add-mod', mod-lt, int_le, int_lt, ◌⊎◌, ⊎_elim}
 use Rattle.std.specs.Int.{int_rem_euclid}
 use Rattle.std.proofs.Math.IntN.{pos-*ℤ-pos, negsuc-*ℤ-pos}
 use Rattle.std.proofs.lemmas.Int.{ints, by_lt_z}
@@ -16,14 +17,6 @@ use Rattle.ts_core.proofs.lists.Comparisons.{le_from, le_true, lt_from, lt_true,
 use Rattle.ts_core.proofs.plans.GoodPlaces.{index_of-start}
 
 -- ---- products
-
-times_sum : (j d i : ℤ) → (j +ℤ d) *ℤ i ≡ (j *ℤ i) +ℤ (d *ℤ i)
-times_sum j d i =
-    let both : up (j +ℤ d) + (down j + down d) ≡ (up j + up d) + down (j +ℤ d) = omega (arith, ints) in
-    let whole = product_is (j +ℤ d) i in
-    let first = product_is j i in
-    let second = product_is d i in
-    omega (arith, ints, whole.0, whole.1, first.0, first.1, second.0, second.1, ap (λ x. x * up i) both, ap (λ x. x * down i) both)
 
 times_again : (k d i : ℤ) → k *ℤ (d *ℤ i) ≡ (k *ℤ d) *ℤ i
 times_again k d i =
