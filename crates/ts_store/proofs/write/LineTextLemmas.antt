@@ -2,25 +2,18 @@
 use Rattle.std.proofs.Common.{◌≡◌, ◌⊎◌, ⊎_elim, ℤ, int_le, ◌+◌, ◌^◌, nat_le, length, List, Bool, true, false, not, Option, Some, None, Result, Ok, Err, IfSome, IsNone, refl, sym, ap, ◌∙◌, subst}
 use Rattle.ts_core.specs.facts.Facts.{Text, Series}
 use Rattle.ts_core.specs.settings.SettingsFaults.{unless}
+use Rattle.ts_core.specs.lists.Numbered.{Gains}
 use Rattle.ts_core.specs.store.StoreData.{StoreData}
 use Rattle.ts_core.specs.declared.facts.time_unit.TimeUnit.{TimeUnit}
 use Rattle.ts_line.specs.Parts.{Parts, series_of, line_facts}
-use Rattle.ts_store.specs.write.LinesPut.{Leaves}
-use Rattle.ts_store.specs.write.LineTexts.{LineState, IsStateOf, WritesParts, WritesText, RunsOutOfMemory, WritesFrom, refusal_in, parts_in, with_line, with_series}
+use Rattle.ts_store.specs.write.LinesPut.{Accepts, Leaves}
+use Rattle.ts_store.specs.write.LineTexts.{LineState, IsStateOf, WritesText, RunsOutOfMemory, refusal_in, parts_in, with_line, with_series}
 use Rattle.ts_store.specs.write.Refusals.{is_too_many, write_fault}
 use Rattle.ts_store.specs.write.Registered.{MayGain}
 use Rattle.ts_store.specs.declared.write.fault.WriteFault.{WriteFault}
 use Rattle.ts_store.specs.declared.write.fault.WriteFault.TheVariants as write
-use Rattle.ts_store.specs.declared.write.write_text.LineOutcome.{LineOutcome}
-use Rattle.ts_store.specs.declared.write.write_text.LineOutcome.TheVariants.{Accepted, NoLine, Refused}
-use Rattle.ts_store.specs.declared.write.write_text.LineRefusal.TheVariants.{Parse, Write}
-
-pub wrote_parts : {E : Type 0} (precision : TimeUnit) (now : ℤ) (s : LineState) (text : Text) (parts : Parts) (r : Result LineOutcome E) (k : StoreData) → parts_in precision now text ≡ Ok (Some parts) → WritesParts s parts r k → WritesFrom precision now s text r k
-wrote_parts precision now s text parts (Ok Accepted) k e w = (with_line parts w.1.0 s, WritesText.accepts parts w.1.0 e w.0 w.1.1, w.1.2)
-wrote_parts precision now s text parts (Ok NoLine) k e w = absurd w
-wrote_parts precision now s text parts (Ok (Refused (Parse fault))) k e w = absurd w
-wrote_parts precision now s text parts (Ok (Refused (Write fault))) k e w = (s, WritesText.refuses parts fault e w.0, w.1)
-wrote_parts precision now s text parts (Err x) k e w = (with_series w.1.0 s, RunsOutOfMemory.in_writing parts w.1.0 e w.0 w.1.1, w.1.2)
+use Rattle.ts_store.specs.declared.write.write_text.LineOutcome.TheVariants.{Accepted, Refused}
+use Rattle.ts_store.specs.declared.write.write_text.LineRefusal.TheVariants.{Write}
 
 -- ---- the store's answer
 
@@ -29,6 +22,9 @@ Written = Result (Unit {0}) WriteFault
 
 abbrev pub refused_by : WriteFault → Written
 refused_by f = Err f
+
+abbrev pub accepted_by : Written
+accepted_by = Ok tt
 
 err_same : (f g : WriteFault) → refused_by f ≡ refused_by g → f ≡ g
 err_same f g e = cc
@@ -50,10 +46,25 @@ module _ (parts : Parts) (old new : StoreData) (fault : WriteFault) (refused : I
   pub refused_same : new ≡ old
   refused_same = (refused_now (write_fault old.marks.raw old.series old.accepted parts) old new parts fault refused taken other).1
 
-  pub wrote_refused : (s : LineState) → IsStateOf s old → (refusal_in s parts ≡ Some fault) × IsStateOf s new
-  wrote_refused s i =
-      let now = refused_now (write_fault old.marks.raw old.series old.accepted parts) old new parts fault refused taken other in
-      (sym (same_refusal s parts old i) ∙ now.0, subst (IsStateOf s) (sym now.1) i)
+  pub wrote_refused : (precision : TimeUnit) (now : ℤ) (text : Text) → parts_in precision now text ≡ Ok (Some parts) → (s : LineState) → IsStateOf s old → (x : LineState) × WritesText precision now s text (Refused (Write fault)) x × IsStateOf x new
+  wrote_refused precision now text reads s i =
+      let found = refused_now (write_fault old.marks.raw old.series old.accepted parts) old new parts fault refused taken other in
+      (s, WritesText.refuses parts fault reads (sym (same_refusal s parts old i) ∙ found.0), subst (IsStateOf s) (sym found.1) i)
+
+-- ---- a line that is accepted
+
+none_found : (o : Option WriteFault) (old new : StoreData) → IfSome o (λ f. (accepted_by ≡ Err f) × (new ≡ old)) → o ≡ None
+none_found None old new h = refl
+none_found (Some f) old new h = absurd (let e : accepted_by ≡ Err f = h.0 in cc)
+
+pub wrote_accepted : (precision : TimeUnit) (now : ℤ) (text : Text) (parts : Parts) (old new : StoreData) → parts_in precision now text ≡ Ok (Some parts) → Accepts old new parts
+    → IfSome (write_fault old.marks.raw old.series old.accepted parts) (λ f. (accepted_by ≡ Err f) × (new ≡ old)) → (s : LineState) → IsStateOf s old → (x : LineState) × WritesText precision now s text Accepted x × IsStateOf x new
+wrote_accepted precision now text parts old new reads a refused s i = (
+  with_line parts new.series s,
+  WritesText.accepts parts new.series reads (sym (same_refusal s parts old i) ∙ none_found (write_fault old.marks.raw old.series old.accepted parts) old new refused)
+      (subst (λ (before : List Series). Gains before new.series (series_of parts)) i.series a.series),
+  record { stands = a.history s.opening s.history i.stands; series = refl },
+)
 
 -- ---- out of memory
 
@@ -78,9 +89,10 @@ module _ (parts : Parts) (old new : StoreData) (fault : WriteFault) (refused : I
   pub left_without_memory : Leaves old new parts
   left_without_memory = (left_by_cases (write_fault old.marks.raw old.series old.accepted parts) refl).1
 
-  pub wrote_without_memory : (s : LineState) → IsStateOf s old → (refusal_in s parts ≡ None) × ((series : List Series) × MayGain s.series series (series_of parts) × IsStateOf (with_series series s) new)
-  wrote_without_memory s i =
+  pub wrote_without_memory : (precision : TimeUnit) (now : ℤ) (text : Text) → parts_in precision now text ≡ Ok (Some parts) → (s : LineState) → IsStateOf s old → (x : LineState) × RunsOutOfMemory precision now s text x × IsStateOf x new
+  wrote_without_memory precision now text reads s i =
       let none = (left_by_cases (write_fault old.marks.raw old.series old.accepted parts) refl).0 in (
-        sym (same_refusal s parts old i) ∙ none,
-        (new.series, subst (λ (before : List Series). MayGain before new.series (series_of parts)) i.series left_without_memory.series, record { stands = left_without_memory.history s.opening s.history i.stands; series = refl }),
+        with_series new.series s,
+        RunsOutOfMemory.in_writing parts new.series reads (sym (same_refusal s parts old i) ∙ none) (subst (λ (before : List Series). MayGain before new.series (series_of parts)) i.series left_without_memory.series),
+        record { stands = left_without_memory.history s.opening s.history i.stands; series = refl },
       )

@@ -95,11 +95,3 @@ module _ (precision : TimeUnit) (now : ℤ) where
   abbrev pub WritesFrom : LineState → Text → {E : Type 0} → Result LineOutcome E → StoreData → Type 0
   WritesFrom old text (Ok outcome) k = (new : LineState) × WritesText old text outcome new × IsStateOf new k
   WritesFrom old text (Err e) k = (new : LineState) × RunsOutOfMemory old text new × IsStateOf new k
-
--- the effect of a call with the parts of a text on a store that was in this state
-abbrev pub WritesParts : LineState → Parts → {E : Type 0} → Result LineOutcome E → StoreData → Type 0
-WritesParts s parts (Ok Accepted) k = (refusal_in s parts ≡ None) × ((series : List Series) × Gains s.series series (series_of parts) × IsStateOf (with_line parts series s) k)
-WritesParts s parts (Ok NoLine) k = ⊥
-WritesParts s parts (Ok (Refused (Parse fault))) k = ⊥
-WritesParts s parts (Ok (Refused (Write fault))) k = (refusal_in s parts ≡ Some fault) × IsStateOf s k
-WritesParts s parts (Err e) k = (refusal_in s parts ≡ None) × ((series : List Series) × MayGain s.series series (series_of parts) × IsStateOf (with_series series s) k)

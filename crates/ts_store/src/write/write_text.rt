@@ -1,15 +1,14 @@
 //! Writes the text of a line: parses it, and writes its parts.
 ghost use Rattle.std.specs.Prelude.{◌≡◌, ◌≢◌, ◌≤◌, length, IfOk};
 ghost use Rattle.ts_core.specs.text.FaultTexts.{IsAppended};
-ghost use Rattle.ts_line.specs.Parts.{line_facts};
 ghost use Rattle.ts_store.specs.store.Inventories.{inventory_of, facts_of_text, GrowsAfter};
-ghost use Rattle.ts_store.specs.write.LineTexts.{LineState, IsStateOf, WritesFrom, WritesParts, parts_in, refusal_of, line_refusal_text};
+ghost use Rattle.ts_store.specs.write.LineTexts.{LineState, IsStateOf, WritesFrom, parts_in, refusal_of, line_refusal_text};
 
 use crate::store::Store;
 use crate::write::WriteFault;
 use std::alloc::{AllocError, Allocator};
 use ts_core::{Time, TimeUnit};
-use ts_line::{Line, LineFault, ReadLineError, read_line};
+use ts_line::{LineFault, ReadLineError, read_line};
 
 /// Error of a text that wasn't accepted.
 #[derive(Clone, Copy, Debug, PartialEq, Eq)]
@@ -73,25 +72,16 @@ impl<A: Allocator + Copy> Store<A> {
         ensures unchanged { IfOk result (λ outcome. outcome ≢ LineOutcome.Accepted → self.new ≡ self.old) }
     {
         match read_line(arena, text, precision, now) {
-            Ok(Some(line)) => self.write_parts(&line),
+            Ok(Some(line)) => match self.write(&line) {
+                Ok(()) => Ok(LineOutcome::Accepted),
+                Err(fault) => match fault {
+                    WriteFault::OutOfMemory => Err(AllocError),
+                    _ => Ok(LineOutcome::Refused(LineRefusal::Write(fault))),
+                },
+            },
             Ok(None) => Ok(LineOutcome::NoLine),
             Err(ReadLineError::Fault(fault)) => Ok(LineOutcome::Refused(LineRefusal::Parse(fault))),
             Err(ReadLineError::OutOfMemory) => Err(AllocError),
-        }
-    }
-
-    /// Writes a line; returns the outcome of its text.
-    fn write_parts<L: Allocator>(&mut self, line: &Line<'_, L>) -> Result<LineOutcome, AllocError>
-        ensures written { (s : LineState) → IsStateOf s self.old → WritesParts s line.now result self.new }
-        ensures inventory { GrowsAfter self.old.settings.rules self.old.marks.lows (line_facts line.now) result (inventory_of self.old) (inventory_of self.new) }
-        ensures unchanged { IfOk result (λ outcome. outcome ≢ LineOutcome.Accepted → self.new ≡ self.old) }
-    {
-        match self.write(line) {
-            Ok(()) => Ok(LineOutcome::Accepted),
-            Err(fault) => match fault {
-                WriteFault::OutOfMemory => Err(AllocError),
-                _ => Ok(LineOutcome::Refused(LineRefusal::Write(fault))),
-            },
         }
     }
 }
