@@ -12,7 +12,7 @@ ghost use Rattle.ts_core.specs.lists.Numbered.{IsAt};
 ghost use Rattle.ts_cells.specs.Grids.{rollup_series_of, rollup_series_named, borrowed_texts, cell_at, cell_in};
 ghost use Rattle.ts_cells.specs.Walks.{entry_of, entries_within};
 ghost use Rattle.ts_store.specs.rollup.ColumnLists.{HasCapacityAt};
-ghost use Rattle.ts_store.specs.rollup.Rollups.{new_rollup, Extends, KeepsLists, KeepsCells, HasNext, with_next, with_grid_cells, cell_created_in, frozen_in, added_in, corrected_in, live_part, rollup_series_at, columns_of_rollup_series};
+ghost use Rattle.ts_store.specs.rollup.Rollups.{new_rollup, Extends, KeepsLists, KeepsCells, HasNext, with_next, with_grid_cells, cell_created_in, added_in, live_part, rollup_series_at, columns_of_rollup_series};
 
 use series_columns::SeriesColumns;
 use std::alloc::{AllocError, Allocator};
@@ -30,7 +30,7 @@ mod series_columns;
 /// Cells of a rule, with the rollup series of each column and the columns of each rollup series.
 #[derive(Drop)]
 pub(crate) struct Rollup<A: Allocator> {
-    cells: Cells<Agg, A>,
+    pub(crate) cells: Cells<Agg, A>,
     /// Rollup series of each column; `None` if the column is of another measurement.
     series_of_column: Vec<Option<RollupSeriesId>, A>,
     /// Columns of each rollup series.
@@ -235,17 +235,6 @@ impl<A: Allocator + Copy> Rollup<A> {
         add_frozen(&mut self.cells, index, series, frozen)
     }
 
-    /// Merges a part into the frozen part of the cell of a column in a bucket. Does nothing if the cell doesn't exist,
-    /// or if the counts add up to more than 2^62. Does not allocate.
-    pub(crate) fn freeze(&mut self, column: usize, index: &i128, part: Agg)
-        requires { column < length self.old.series_of_column }
-        ensures { self.new ≡ with_grid_cells (frozen_in self.old (rollup_series_at self.old column) index.now part) self.old }
-    {
-        if let Some(series) = self.series_of_column[column] {
-            self.cells.freeze(index, series, part);
-        }
-    }
-
     /// Merges a part into the live part of the cell of a bucket in a rollup series. Does nothing if the cell doesn't
     /// exist, or if the counts add up to more than 2^62. Does not allocate.
     pub(crate) fn add(&mut self, index: &i128, series: RollupSeriesId, part: Agg)
@@ -253,14 +242,6 @@ impl<A: Allocator + Copy> Rollup<A> {
         ensures { self.new ≡ with_grid_cells (added_in self.old series index.now part) self.old }
     {
         self.cells.add(index, series, part);
-    }
-
-    /// Replaces the live part of the cell of a bucket in a rollup series, if the cell exists. Does not allocate.
-    pub(crate) fn correct(&mut self, index: &i128, series: RollupSeriesId, live: Agg)
-        requires { series < length self.old.grid.rollup_series }
-        ensures { self.new ≡ with_grid_cells (corrected_in self.old series index.now live) self.old }
-    {
-        self.cells.correct(index, series, live);
     }
 
     /// Returns the live part of the cell of a bucket in a rollup series, if the cell exists.

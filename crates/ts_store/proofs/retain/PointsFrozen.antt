@@ -14,6 +14,7 @@ use Rattle.ts_core.specs.store.StoreData.{CellMap, no_parts}
 use Rattle.ts_core.proofs.aggregates.AggregatesLemmas.{merged_within-fits}
 use Rattle.ts_core.proofs.plans.PieceCells.{cells_total, exact_cells, same_cell-eq, same_cell-refl}
 use Rattle.ts_core.proofs.lists.Comparisons.{same_bool}
+use Rattle.ts_cells.specs.Grids.{Grid}
 use Rattle.ts_cells.proofs.GridMoves.{get-changed}
 use Rattle.ts_store.specs.store.CellCounts.{frozen_count}
 use Rattle.ts_store.specs.rollup.Rollups.{RollupState, with_grid_cells}
@@ -69,6 +70,10 @@ frozen_most m q part k =
 
 pub grid_kept_then : (before s t : RollupState) (m : CellMap) → s ≡ with_grid_cells s.grid.cells before → t ≡ with_grid_cells m s → t ≡ with_grid_cells t.grid.cells before
 grid_kept_then before s t m e f = f ∙ ap (with_grid_cells m) e ∙ ap (λ (x : CellMap). with_grid_cells x before) (sym (ap (λ (x : RollupState). x.grid.cells) f))
+
+-- cells are changed in place
+pub with_grid : (v s : RollupState) (grid : Grid CellParts) → v ≡ s → grid.rollup_series ≡ v.grid.rollup_series → record v { grid = grid } ≡ with_grid_cells grid.cells s
+with_grid v s grid is kept = (λ i. record { grid = record { rollup_series = kept i; cells = grid.cells }; series_of_column = v.series_of_column; next = v.next }) ∙ ap (with_grid_cells grid.cells) is
 
 -- ---- the points of a column in a cell
 

@@ -20,12 +20,12 @@ use Rattle.ts_core.proofs.lists.NumberedLemmas.{at_among}
 use Rattle.ts_core.proofs.moves.LiveWays.{left_total}
 use Rattle.ts_core.proofs.plans.PieceCells.{cells_total, exact_cells, same_cell-refl}
 use Rattle.ts_cells.proofs.GridMoves.{get-changed}
-use Rattle.ts_cells.specs.Grids.{no_rollup_series, cell_at, cell_in}
+use Rattle.ts_cells.specs.Grids.{Grid, no_rollup_series, cell_at, cell_in}
 use Rattle.ts_raw.specs.Columns.{PointMap, ColumnState, points_from}
 use Rattle.ts_store.specs.store.ColumnStates.{with_points, point_maps, no_column}
 use Rattle.ts_store.specs.rollup.LivePoints.{rollup_series_total, left_state, left_states}
 use Rattle.ts_store.specs.write.LivePuts.{IsOver}
-use Rattle.ts_store.specs.rollup.Rollups.{RollupState, IsRollupSeriesOf, rollup_series_under, rollup_series_at, with_grid_cells, frozen_in, corrected_in, live_part}
+use Rattle.ts_store.specs.rollup.Rollups.{RollupState, IsRollupSeriesOf, rollup_series_under, rollup_series_at, live_part}
 use Rattle.ts_store.specs.retain.RollupSteps.{HasLive, bucket_moved, facts_left}
 use Rattle.ts_store.proofs.image.ColumnsInTurn.{its_at}
 use Rattle.ts_store.proofs.store.ColumnsLemmas.{names_of}
@@ -101,14 +101,14 @@ module _ (r : Rule) (mark : ℤ) (cs : List Column) (c : Column) (ss : List Colu
       (subst (λ x. IsOnlyRest IsSound merged x (total_of r its_cell (facts_at c below)) rest) whole (subst (λ x. IsOnlyRest IsSound merged live x rest) gone only)))
 
   -- the part is frozen, and the rest replaces the live part
-  pub bucket_replaced : (part rest : Aggregate) (t u : RollupState) → t ≡ with_grid_cells (frozen_in s (rollup_series_at s n) index part) s → u ≡ with_grid_cells (corrected_in t l index rest) t → rest ≡ total_of r its_cell left
-      → u.grid.cells ≡ bucket_moved r its_cell part left s.grid.cells
-  bucket_replaced part rest t u frozen new total =
+  pub bucket_replaced : (part rest : Aggregate) (v : RollupState) (t u : Grid CellParts) → v ≡ s → t.rollup_series ≡ v.grid.rollup_series → t.cells ≡ changed v.grid.cells (cell_in v.grid.rollup_series index l) (in_frozen (merged_within part))
+      → u.cells ≡ changed t.cells (cell_in t.rollup_series index l) (with_live rest) → rest ≡ total_of r its_cell left → u.cells ≡ bucket_moved r its_cell part left s.grid.cells
+  bucket_replaced part rest v t u same kept frozen new total =
       let m : CellMap = changed s.grid.cells its_cell (in_frozen (merged_within part)) in
-      let cells : t.grid.cells ≡ m = ap (λ (x : RollupState). x.grid.cells) frozen ∙ ap (λ o. frozen_in s o index part) series ∙ ap (λ k. changed s.grid.cells k (in_frozen (merged_within part))) key in
-      let key' : cell_in t.grid.rollup_series index l ≡ its_cell = ap (λ (x : RollupState). cell_in x.grid.rollup_series index l) frozen ∙ key in
-      ap (λ (x : RollupState). x.grid.cells) new
-      ∙ ap (λ k. changed t.grid.cells k (with_live rest)) key'
+      let key' : cell_in v.grid.rollup_series index l ≡ its_cell = ap (λ (x : RollupState). cell_in x.grid.rollup_series index l) same ∙ key in
+      let cells : t.cells ≡ m = frozen ∙ ap (λ k. changed v.grid.cells k (in_frozen (merged_within part))) key' ∙ ap (λ (x : RollupState). changed x.grid.cells its_cell (in_frozen (merged_within part))) same in
+      new
+      ∙ ap (λ k. changed t.cells k (with_live rest)) (ap (λ ls. cell_in ls index l) kept ∙ key')
       ∙ ap (λ (x : CellMap). changed x its_cell (with_live rest)) cells
       ∙ ap (λ a. changed m its_cell (with_live a)) total
 

@@ -13,6 +13,7 @@ use Rattle.ts_core.specs.store.Cells.{cell_of, is_rolled, is_in_cell, total_of}
 use Rattle.ts_core.specs.lists.Changes.{changed, with_change}
 use Rattle.ts_core.specs.store.TwoParts.{in_live, with_live}
 use Rattle.ts_core.specs.store.StoreStates.{ColumnPoints, facts_of}
+use Rattle.ts_core.specs.store.StoreData.{CellMap}
 use Rattle.ts_core.specs.moves.StoreMoves.{refolded, put_cell}
 use Rattle.ts_core.proofs.store.Cuts.{one_fact}
 use Rattle.ts_core.proofs.aggregates.Folds.{fold-count}
@@ -24,9 +25,13 @@ use Rattle.ts_store.specs.store.ColumnStates.{with_points, point_maps}
 use Rattle.ts_store.specs.rollup.LivePoints.{rollup_series_total}
 use Rattle.ts_store.specs.write.LivePuts.{WasThere, IsLivePut}
 use Rattle.ts_store.specs.write.PointPuts.{AreLiveOver}
-use Rattle.ts_store.specs.rollup.Rollups.{RollupState, IsRollupSeriesOf, rollup_series_under, rollup_series_at, added_in, corrected_in, live_part}
+use Rattle.ts_store.specs.rollup.Rollups.{RollupState, IsRollupSeriesOf, rollup_series_under, rollup_series_at, added_in, live_part}
 use Rattle.ts_store.proofs.rollup.LiveParts.{cell_total}
 use Rattle.ts_store.proofs.write.CellsCreatedLemmas.{rollup_series_known}
+
+-- replaces the live part of a cell
+abbrev pub corrected_in : RollupState → ℕ → ℤ → Aggregate → CellMap
+corrected_in s l index live = changed s.grid.cells (cell_in s.grid.rollup_series index l) (with_live live)
 
 -- ---- the cell of a fact under a rule
 

@@ -22,10 +22,10 @@ use Rattle.ts_core.proofs.lists.Sorted.{found_among, among_found}
 use Rattle.ts_core.specs.store.Cells.{cell_of, is_rolled, total_of}
 use Rattle.ts_line.specs.Parts.{LinePart, Parts, fact_of}
 use Rattle.ts_raw.specs.Columns.{PointMap, ColumnState}
-use Rattle.ts_store.specs.store.ColumnStates.{facts_in, facts_of_columns, with_points, point_maps, no_column, with_staged, committed, all_committed, AreReady, AreStaged}
+use Rattle.ts_store.specs.store.ColumnStates.{facts_in, facts_of_columns, with_points, point_maps, no_column, with_staged, committed, all_committed, AreReady, IsStaged, AreStaged}
 use Rattle.ts_store.specs.write.CellsCreated.{KeepsRollupSeries}
 use Rattle.ts_store.specs.write.LivePuts.{WasThere, IsLivePut, AreOfFields}
-use Rattle.ts_store.specs.write.PointPuts.{AreLiveOver, PutsPoint, CommitsPoint, ArePointsStaged}
+use Rattle.ts_store.specs.write.PointPuts.{AreLiveOver, PutsPoint, ArePointsStaged}
 use Rattle.ts_store.specs.read.PointsRead.{number_of_points}
 use Rattle.ts_store.specs.rollup.ChangedLists.{ChangesBeside}
 use Rattle.ts_store.specs.rollup.Rollups.{RollupState, IsRollupSeriesOf, AreRollups, rollup_series_at, with_grid_cells, cells_of}
@@ -121,7 +121,7 @@ module _ (ss : List ColumnState) (n m : ℕ) (x : ColumnState) (ready : AreReady
   pub now_committed : (t : ColumnState) → IfSome x.staged (λ (p : ℤ × ℤ). t.points ≡ finmap.insert x.points p.0 p.1) → t.staged ≡ None → set ss m t ≡ set ss n (committed (get_or ss n no_column))
   now_committed t put none = ap₂ (λ k (u : ColumnState). set ss k u) same (committed_is x t put ready_staged none ∙ ap (λ (u : ColumnState). committed u) its_column)
 
-module _ (cs : List Column) (ss : List ColumnState) (n : ℕ) (f : Fact) (once : AllDistinct cs) (each : length ss ≡ length cs) (staged : AreStaged cs ss (n ∷ []) (f ∷ [])) where
+module _ (cs : List Column) (ss : List ColumnState) (n : ℕ) (f : Fact) (once : AllDistinct cs) (each : length ss ≡ length cs) (staged : IsStaged cs ss n f) where
   abbrev next : List ColumnState
   next = set ss n (committed (get_or ss n no_column))
 
@@ -193,7 +193,19 @@ wide_still n ss ts e all = subst (AllByRecursion (λ (s : RollupState). length s
 
 -- ---- one after another
 
-pub puts_more : (rs : List Rule) (cs : List Column) (ss ss' : List ColumnState) (n : ℕ) (f : Fact) (fs : List Fact) (after : List ColumnPoints) (ms ms' ns : List CellMap) → AllDistinct cs → length ss ≡ length cs → AreStaged cs ss (n ∷ []) (f ∷ [])
+-- a fact of this time and value is staged in the column with this index
+pub record IsPointStaged (cs : List Column) (states : List ColumnState) (column : ℕ) (time value : ℤ) (f : Fact) : Type 0 where
+  pub same_time : f.time ≡ time
+  pub same_value : f.value ≡ value
+  pub staged : IsStaged cs states column f
+
+-- the fact that is staged is put into its cells
+abbrev pub CommitsPoint : List Rule → ℕ → ℤ → ℤ → List ColumnState → List RollupState → List ColumnState → List RollupState → Type 0
+CommitsPoint rules column time value states us states' us' =
+    (cs : List Column) (f : Fact) → AreLiveOver rules cs states (with_points cs (point_maps states)) us → IsPointStaged cs states column time value f
+    → cells_of us' ≡ put_cells rules f (facts_of (with_points cs (point_maps states'))) (cells_of us)
+
+pub puts_more : (rs : List Rule) (cs : List Column) (ss ss' : List ColumnState) (n : ℕ) (f : Fact) (fs : List Fact) (after : List ColumnPoints) (ms ms' ns : List CellMap) → AllDistinct cs → length ss ≡ length cs → IsStaged cs ss n f
     → ss' ≡ set ss n (committed (get_or ss n no_column)) → ms' ≡ put_cells rs f (facts_of (with_points cs (point_maps ss'))) ms → AreLive (with_points cs (point_maps ss)) rs ms
     → (AreLive (with_points cs (point_maps ss')) rs ms' → PutsFacts rs (with_points cs (point_maps ss')) ms' after ns fs)
     → PutsFacts rs (with_points cs (point_maps ss)) ms after ns (f ∷ fs)
@@ -202,6 +214,20 @@ puts_more rs cs ss ss' n f fs after ms ms' ns once each staged is made live rest
     let lives : AreLive (with_points cs (point_maps ss')) rs ms' =
     lives_line rs (f ∷ []) (with_points cs (point_maps ss)) (with_points cs (point_maps ss')) ms ms' (facts-distinct cs (point_maps ss) once) (with_points cs (point_maps ss'), put, (refl, made)) live in
     (with_points cs (point_maps ss'), put, subst (λ (xs : List CellMap). PutsFacts rs (with_points cs (point_maps ss')) xs after ns fs) made (rest lives))
+
+-- no rule rolls the column up
+pub commits_alone : (rs : List Rule) (n : ℕ) (time value : ℤ) (ss ss' : List ColumnState) (us : List RollupState) → AllByRecursion (λ (s : RollupState). rollup_series_at s n ≡ None) us → CommitsPoint rs n time value ss us ss' us
+commits_alone rs n time value ss ss' us none = λ cs f over put. unrolled_put rs cs us n f (facts_of (with_points cs (point_maps ss'))) over.rollups put.staged.0 none
+
+-- a rule does, and the cells are updated
+pub commits_rolled : (rs : List Rule) (n : ℕ) (time value : ℤ) (old : Option ℤ) (ss ss' : List ColumnState) (us us' : List RollupState) → ss' ≡ set ss n (committed (get_or ss n no_column)) → number_of_points ss + 1 ≤ 2 ^ 62
+    → old ≡ finmap.get (get_or ss n no_column).points time → PutsPoint rs ss' n time value old us us' → CommitsPoint rs n time value ss us ss' us'
+commits_rolled rs n time value old ss ss' us us' is few was puts = λ cs f over put.
+    let before : List ColumnPoints = with_points cs (point_maps ss) in
+    let inserted : IsLivePut cs ss' before n f old =
+    subst (λ (xs : List ColumnState). IsLivePut cs xs before n f old) (sym is) (is_put cs ss n f over.once over.each put.staged old few (was ∙ ap (finmap.get (get_or ss n no_column).points) (sym put.same_time))) in
+    puts cs before f (record { each = ap length is ∙ length-set ss n (committed (get_or ss n no_column)) ∙ over.each; once = over.once; rollups = over.rollups; live = over.live })
+    (record { same_time = put.same_time; same_value = put.same_value; put = inserted })
 
 -- the next column is ready, and so are the others after it
 pub next_ready : (ss ss' : List ColumnState) (n : ℕ) (ns ns' : List ℕ) → ns' ≡ n ∷ ns → ss' ≡ set ss n (committed (get_or ss n no_column)) → AreReady ss ns' → number_of_points ss + length ns' ≤ 2 ^ 62
@@ -231,11 +257,10 @@ line_puts rs cs ss ss' n ns ns' x xs xs' time value after us us' ends (f ∷ fs)
     let s : ColumnState = committed (get_or ss n no_column) in
     let of : AreOfFields time (x ∷ xs) (f ∷ fs) = subst (λ (ys : List (LinePart × ℤ)). AreOfFields time ys (f ∷ fs)) d put.values in
     let all : AreStaged cs ss (n ∷ ns) (f ∷ fs) = subst (λ (ms : List ℕ). AreStaged cs ss ms (f ∷ fs)) e put.staged in
-    let first : AreStaged cs ss (n ∷ []) (f ∷ []) = (all.0, all.1, tt) in
-    puts_more rs cs ss ss' n f fs after (cells_of us) (cells_of us') ends over.once over.each first is (one cs f over (record { same_time = of.0.0; same_value = of.0.1 ∙ sym v; staged = first })) over.live
+    puts_more rs cs ss ss' n f fs after (cells_of us) (cells_of us') ends over.once over.each all.0 is (one cs f over (record { same_time = of.0.0; same_value = of.0.1 ∙ sym v; staged = all.0 })) over.live
     (λ lives. others fs
     (record { each = ap length is ∙ length-set ss n s ∙ over.each; once = over.once; rollups = subst (AreRollups rs cs) (sym kept) (rollups_with rs cs (cells_of us') us over.rollups); live = lives })
-    (record { values = of.1; staged = subst (λ (ys : List ColumnState). AreStaged cs ys ns fs) (sym is) (staged_others cs ss ns fs n s away all.2) }))
+    (record { values = of.1; staged = subst (λ (ys : List ColumnState). AreStaged cs ys ns fs) (sym is) (staged_others cs ss ns fs n s away all.1) }))
 
 -- nothing is staged
 none_puts : (rs : List Rule) (cs : List Column) (ss : List ColumnState) (ns : List ℕ) (columns : List ColumnPoints) (ms : List CellMap) (fs : List Fact) → length ns ≡ 0 → AreStaged cs ss ns fs → PutsFacts rs columns ms columns ms fs
@@ -248,6 +273,45 @@ pub rest_put : (rs : List Rule) (time : ℤ) (cs : List Column) (ss ss' : List C
     → ns' ≡ n ∷ ns → xs' ≡ x ∷ xs → value ≡ x.1 → ss' ≡ set ss n (committed (get_or ss n no_column)) → us' ≡ with_all_grid_cells (cells_of us') us → (Among n ns → ⊥)
     → CommitsPoint rs n time value ss us ss' us' → PutsRest rs ns time xs cs ss' us' after ends → PutsRest rs ns' time xs' cs ss us after ends
 rest_put rs time cs ss ss' us us' n ns ns' x xs xs' value after ends e d v is kept away one others = λ gs over put. line_puts rs cs ss ss' n ns ns' x xs xs' time value after us us' ends gs e d v is kept away one others over put
+
+-- ---- the loop over the columns of a line
+
+module _ (rs : List Rule) (time : ℤ) (all : List ℕ) (fields : List (LinePart × ℤ)) (first : List ColumnState) (firsts : List RollupState) where
+  -- the points of these columns and fields are left to commit
+  pub record AreLeft (ns : List ℕ) (xs : List (LinePart × ℤ)) (ss : List ColumnState) (us : List RollupState) : Type 0 where
+    pub ready : AreReady ss ns
+    pub few : number_of_points ss + length ns ≤ 2 ^ 62
+    pub same : length xs ≡ length ns
+    pub long : length ss ≡ length first
+    pub columns : all_committed ss ns ≡ all_committed first all
+    pub kept : us ≡ with_all_grid_cells (cells_of us) firsts
+    pub cells : (cs : List Column) (after : List ColumnPoints) (ends : List CellMap) → PutsRest rs ns time xs cs ss us after ends → PutsRest rs all time fields cs first firsts after ends
+
+  module _ (n : ℕ) (ns ns' : List ℕ) (xs' : List (LinePart × ℤ)) (ss : List ColumnState) (us : List RollupState) (ids : ns' ≡ n ∷ ns) (left : AreLeft ns' xs' ss us) where
+    pub next_is_ready : AreReady ss (n ∷ [])
+    next_is_ready = let ready = subst (AreReady ss) ids left.ready in (ready.0, ready.1, (λ none. none), tt)
+
+    pub next_fits : number_of_points ss + 1 ≤ 2 ^ 62
+    next_fits = let longer : length ns' ≡ suc (length ns) = ap length ids in omega (arith, longer, left.few)
+
+    pub next_left : (x : LinePart × ℤ) (xs : List (LinePart × ℤ)) (ss' : List ColumnState) (us' : List RollupState) → xs' ≡ x ∷ xs → ss' ≡ set ss n (committed (get_or ss n no_column)) → us' ≡ with_all_grid_cells (cells_of us') us → CommitsPoint rs n time x.1 ss us ss' us' → AreLeft ns xs ss' us'
+    next_left x xs ss' us' values is kept one =
+        let longer : length ns' ≡ suc (length ns) = ap length ids in
+        let wider : length xs' ≡ suc (length xs) = ap length values in
+        let next = next_ready ss ss' n ns ns' ids is left.ready left.few in
+        record {
+          ready = next.0;
+          few = next.2;
+          same = omega (arith, longer, wider, left.same);
+          long = next.1 ∙ left.long;
+          columns = ap (λ (zs : List ColumnState). all_committed zs ns) is ∙ sym (ap (all_committed ss) ids) ∙ left.columns;
+          kept = grids_kept_then firsts us us' left.kept kept;
+          cells = λ cs after ends others. left.cells cs after ends (rest_put rs time cs ss ss' us us' n ns ns' x xs xs' x.1 after ends ids values refl is kept next.3 one others);
+        }
+
+  pub wide_left : (ns : List ℕ) (xs : List (LinePart × ℤ)) (ss : List ColumnState) (us : List RollupState) → AreLeft ns xs ss us → AllByRecursion (λ (s : RollupState). length s.series_of_column ≡ length first) firsts
+      → AllByRecursion (λ (s : RollupState). length s.series_of_column ≡ length ss) us
+  wide_left ns xs ss us left each = wide_still (length ss) firsts us left.kept (subst (λ n. AllByRecursion (λ (s : RollupState). length s.series_of_column ≡ n) firsts) (sym left.long) each)
 
 -- none are left
 pub none_left : {X Y : Type 0} (xs : List X) (ys : List Y) → length ys ≡ length xs → (xs ≡ []) ⊎ (ys ≡ []) → length xs ≡ 0
@@ -266,12 +330,6 @@ none_committed ss (n ∷ ns) e = absurd (omega arith)
 pub of_fields : (p : Parts) (time : ℤ) → p.time ≡ time → (xs : List (LinePart × ℤ)) → AreOfFields time xs (map (fact_of p) xs)
 of_fields p time e [] = tt
 of_fields p time e (x ∷ xs) = ((e, refl), of_fields p time e xs)
-
-pub staged_length : (cs : List Column) (ss : List ColumnState) (ns : List ℕ) (fs : List Fact) → AreStaged cs ss ns fs → length ns ≡ length fs
-staged_length cs ss [] [] a = refl
-staged_length cs ss [] (f ∷ fs) a = absurd a
-staged_length cs ss (n ∷ ns) [] a = absurd a
-staged_length cs ss (n ∷ ns) (f ∷ fs) a = ap suc (staged_length cs ss ns fs a.2)
 
 pub wide_of : (rs : List Rule) (cs : List Column) (n : ℕ) (ss : List RollupState) → AreRollups rs cs ss → n ≡ length cs → AllByRecursion (λ (s : RollupState). length s.series_of_column ≡ n) ss
 wide_of [] cs n [] a e = tt

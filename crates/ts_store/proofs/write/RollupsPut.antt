@@ -27,7 +27,7 @@ rollups_held rs index ss us each h = subst (λ (cs : List Column). AreRollups rs
 pub staged_inside : (cs : List Column) (ss : List ColumnState) (ns : List ℕ) (fs : List Fact) → AreStaged cs ss ns fs → AllByRecursion (λ n. n < length cs) ns
 staged_inside cs ss [] fs a = tt
 staged_inside cs ss (n ∷ ns) [] a = absurd a
-staged_inside cs ss (n ∷ ns) (f ∷ fs) a = (slice_get_within cs n f.column a.0, staged_inside cs ss ns fs a.2)
+staged_inside cs ss (n ∷ ns) (f ∷ fs) a = (slice_get_within cs n f.column a.0.0, staged_inside cs ss ns fs a.1)
 
 -- ---- the facts of a line
 
@@ -39,7 +39,7 @@ staged_at : (cs : List Column) (ss : List ColumnState) (time : ℤ) (ns : List �
 staged_at cs ss time [] [] same a = tt
 staged_at cs ss time [] (f ∷ fs) same a = absurd a
 staged_at cs ss time (n ∷ ns) [] same a = absurd a
-staged_at cs ss time (n ∷ ns) (f ∷ fs) same a = (a.0, same f (inl refl), staged_at cs ss time ns fs (λ g k. same g (inr k)) a.2)
+staged_at cs ss time (n ∷ ns) (f ∷ fs) same a = (a.0.0, same f (inl refl), staged_at cs ss time ns fs (λ g k. same g (inr k)) a.1)
 
 -- capacity is reserved for those that are staged
 pub line_rooms : (rs : List Rule) (lows : List ℤ) (cs : List Column) (ss : List ColumnState) (p : Parts) (time : ℤ) (ns : List ℕ) (old : List CellMap) (us ts : List RollupState) → AreRollups rs cs us → AreStaged cs ss ns (line_facts p) → time ≡ p.time

@@ -13,10 +13,11 @@ use Rattle.ts_raw.specs.Columns.{PointMap, ColumnState}
 use Rattle.ts_raw.specs.Indexed.{Indexed, no_series, column_in}
 use Rattle.ts_core.specs.store.StoreStates.{ColumnPoints, column_of, facts_at, facts_of}
 use Rattle.ts_core.specs.moves.StoreMoves.{Puts}
-use Rattle.ts_store.specs.store.ColumnStates.{with_points, columns_in, facts_of_columns, point_maps, no_column, with_staged, with_point_staged, committed, all_committed, AreReady, AreStaged, MayGrow}
+use Rattle.ts_store.specs.store.ColumnStates.{with_points, columns_in, facts_of_columns, point_maps, no_column, with_staged, with_point_staged, committed, all_committed, AreReady, IsStaged, AreStaged, MayGrow}
 use Rattle.ts_store.specs.write.Registered.{new_columns, without_points, with_columns, MakesAll, MakesFirst}
 use Rattle.ts_store.proofs.store.ColumnsLemmas.{columns_puts, names_of, grown_behind}
 use Rattle.ts_core.specs.store.RawFacts.{is_waiting}
+use Rattle.ts_core.proofs.lists.BesideLemmas.{AllZip-weaker}
 use Rattle.ts_core.proofs.lists.MembersLemmas.{Among-left, Among-append, Among-map, Among-filter_was}
 use Rattle.ts_core.proofs.store.StateLemmas.{is_waiting-there, is_waiting-not}
 use Rattle.ts_core.proofs.lists.NumberedLemmas.{at_among}
@@ -45,9 +46,8 @@ staged_others cs ss [] [] n s away a = tt
 staged_others cs ss [] (f ∷ fs) n s away a = absurd a
 staged_others cs ss (m ∷ ns) [] n s away a = absurd a
 staged_others cs ss (m ∷ ns) (f ∷ fs) n s away a = (
-  a.0,
-  ap (λ (t : ColumnState). t.staged) (get_or-set_other ss n m s no_column (λ e. away (inl (sym e)))) ∙ a.1,
-  staged_others cs ss ns fs n s (λ k. away (inr k)) a.2,
+  (a.0.0, ap (λ (t : ColumnState). t.staged) (get_or-set_other ss n m s no_column (λ e. away (inl (sym e)))) ∙ a.0.1),
+  staged_others cs ss ns fs n s (λ k. away (inr k)) a.1,
 )
 
 -- the column of a number that has a staged point is the column of one of the facts
@@ -56,13 +56,13 @@ column_of_number : (cs : List Column) (ss : List ColumnState) (ns : List ℕ) (f
 column_of_number cs ss [] fs n c a at k = absurd k
 column_of_number cs ss (m ∷ ns) [] n c a at k = absurd a
 column_of_number cs ss (m ∷ ns) (f ∷ fs) n c a at k =
-    ⊎_elim {C = Among c (map (λ (g : Fact). g.column) (f ∷ fs))} (λ e. inl (same_Some c f.column (sym at ∙ ap (slice_get cs) e ∙ a.0)))
-    (λ q. inr (column_of_number cs ss ns fs n c a.2 at q)) k
+    ⊎_elim {C = Among c (map (λ (g : Fact). g.column) (f ∷ fs))} (λ e. inl (same_Some c f.column (sym at ∙ ap (slice_get cs) e ∙ a.0.0)))
+    (λ q. inr (column_of_number cs ss ns fs n c a.1 at q)) k
 
 pub numbers_distinct : (cs : List Column) (ss : List ColumnState) (ns : List ℕ) (fs : List Fact) → AreStaged cs ss ns fs → AllDistinct (map (λ (f : Fact). f.column) fs) → AllDistinct ns
 numbers_distinct cs ss [] fs a d = tt
 numbers_distinct cs ss (n ∷ ns) [] a d = absurd a
-numbers_distinct cs ss (n ∷ ns) (f ∷ fs) a d = (λ k. d.0 (column_of_number cs ss ns fs n f.column a.2 a.0 k), numbers_distinct cs ss ns fs a.2 d.1)
+numbers_distinct cs ss (n ∷ ns) (f ∷ fs) a d = (λ k. d.0 (column_of_number cs ss ns fs n f.column a.1 a.0.0 k), numbers_distinct cs ss ns fs a.1 d.1)
 
 pub same_names : (cs : List Column) (ss : List ColumnState) (n : ℕ) (s : ColumnState) → length ss ≡ length cs → map column_of (with_points cs (point_maps (set ss n s))) ≡ map column_of (with_points cs (point_maps ss))
 same_names cs ss n s l =
@@ -76,10 +76,10 @@ all_committed-length ss (n ∷ ns) = all_committed-length (set ss n (committed (
 
 pub staged_push : (cs : List Column) (ss : List ColumnState) (ns : List ℕ) (fs : List Fact) (n : ℕ) (f : Fact) → AreStaged cs ss ns fs → slice_get cs n ≡ Some f.column
     → (get_or ss n no_column).staged ≡ Some (f.time, f.value) → AreStaged cs ss (ns ++ n ∷ []) (fs ++ f ∷ [])
-staged_push cs ss [] [] n f a at is = (at, is, tt)
+staged_push cs ss [] [] n f a at is = ((at, is), tt)
 staged_push cs ss [] (g ∷ fs) n f a at is = absurd a
 staged_push cs ss (m ∷ ns) [] n f a at is = absurd a
-staged_push cs ss (m ∷ ns) (g ∷ fs) n f a at is = (a.0, a.1, staged_push cs ss ns fs n f a.2 at is)
+staged_push cs ss (m ∷ ns) (g ∷ fs) n f a at is = (a.0, staged_push cs ss ns fs n f a.1 at is)
 
 pub slice_get_left : {X : Type 0} (xs ys : List X) (n : ℕ) (x : X) → slice_get xs n ≡ Some x → slice_get (xs ++ ys) n ≡ Some x
 slice_get_left [] ys n x e = absurd (none-some x e)
@@ -88,15 +88,11 @@ slice_get_left (y ∷ xs) ys (suc n) x e = slice_get_left xs ys n x e
 
 -- columns created after them leave the staged points
 pub staged_grown : (cs : List Column) (ss : List ColumnState) (ns : List ℕ) (fs : List Fact) (c : Column) (s : ColumnState) → length ss ≡ length cs → AreStaged cs ss ns fs → AreStaged (cs ++ c ∷ []) (ss ++ s ∷ []) ns fs
-staged_grown cs ss [] [] c s l a = tt
-staged_grown cs ss [] (f ∷ fs) c s l a = absurd a
-staged_grown cs ss (n ∷ ns) [] c s l a = absurd a
-staged_grown cs ss (n ∷ ns) (f ∷ fs) c s l a =
-    let within : n < length ss = let w = slice_get_within cs n f.column a.0 in omega (arith, w, l) in (
-      slice_get_left cs (c ∷ []) n f.column a.0,
-      ap (λ (t : ColumnState). t.staged) (get_or_append_left ss (s ∷ []) no_column n within) ∙ a.1,
-      staged_grown cs ss ns fs c s l a.2,
-    )
+staged_grown cs ss ns fs c s l a =
+    AllZip-weaker (IsStaged cs ss) (IsStaged (cs ++ c ∷ []) (ss ++ s ∷ []))
+    (λ n f one.
+    let within : n < length ss = let w = slice_get_within cs n f.column one.0 in omega (arith, w, l) in
+    (slice_get_left cs (c ∷ []) n f.column one.0, ap (λ (t : ColumnState). t.staged) (get_or_append_left ss (s ∷ []) no_column n within) ∙ one.1)) ns fs a
 
 -- staging a point changes no points
 pub staged_leaves : (ss : List ColumnState) (n : ℕ) (old new : ColumnState) → old ≡ get_or ss n old → new.points ≡ old.points → point_maps (set ss n new) ≡ point_maps ss
@@ -147,10 +143,10 @@ pub ready_of : (cs : List Column) (ss : List ColumnState) (ns : List ℕ) (fs : 
 ready_of cs ss [] fs l a d = tt
 ready_of cs ss (n ∷ ns) [] l a d = absurd a
 ready_of cs ss (n ∷ ns) (f ∷ fs) l a d = (
-  let w = slice_get_within cs n f.column a.0 in omega (arith, w, l),
-  subst (λ (o : Option (ℤ × ℤ)). IsSome o) (sym a.1) refl,
+  let w = slice_get_within cs n f.column a.0.0 in omega (arith, w, l),
+  subst (λ (o : Option (ℤ × ℤ)). IsSome o) (sym a.0.1) refl,
   d.0,
-  ready_of cs ss ns fs l a.2 d.1,
+  ready_of cs ss ns fs l a.1 d.1,
 )
 
 -- ---- one field after another
@@ -285,7 +281,7 @@ pub columns_there : (cs : List Column) (ss : List ColumnState) (ns : List ℕ) (
 columns_there cs ss ns [] a f k = absurd k
 columns_there cs ss [] (g ∷ fs) a f k = absurd a
 columns_there cs ss (n ∷ ns) (g ∷ fs) a f k =
-    ⊎_elim {C = Among f.column cs} (λ e. subst (λ (x : Fact). Among x.column cs) (sym e) (at_among cs n g.column a.0)) (λ q. columns_there cs ss ns fs a.2 f q) k
+    ⊎_elim {C = Among f.column cs} (λ e. subst (λ (x : Fact). Among x.column cs) (sym e) (at_among cs n g.column a.0.0)) (λ q. columns_there cs ss ns fs a.1 f q) k
 
 -- ---- columns without points
 

@@ -10,7 +10,7 @@ use Rattle.ts_core.specs.facts.Tags.{tag_values}
 use Rattle.ts_core.specs.settings.Settings.{Rule}
 use Rattle.ts_core.specs.aggregates.Aggregates.{Aggregate, merged_within}
 use Rattle.ts_core.specs.lists.Changes.{changed}
-use Rattle.ts_core.specs.store.TwoParts.{coded_parts, in_frozen, in_live, with_live}
+use Rattle.ts_core.specs.store.TwoParts.{coded_parts, in_live}
 use Rattle.ts_core.specs.store.StoreStates.{CellParts}
 use Rattle.ts_core.specs.store.StoreCodes.{coded_aggregate}
 use Rattle.ts_core.specs.store.StoreData.{CellMap, no_parts}
@@ -134,18 +134,9 @@ abbrev pub cell_created_in : RollupState → Option ℕ → ℤ → CellMap
 cell_created_in s None index = s.grid.cells
 cell_created_in s (Some l) index = inserted_if_absent s.grid.cells (cell_in s.grid.rollup_series index l) no_parts
 
--- merges a part into the frozen part of the cell of a bucket in a rollup series; does nothing without a rollup series
-abbrev pub frozen_in : RollupState → Option ℕ → ℤ → Aggregate → CellMap
-frozen_in s None index part = s.grid.cells
-frozen_in s (Some l) index part = changed s.grid.cells (cell_in s.grid.rollup_series index l) (in_frozen (merged_within part))
-
 -- merges a part into the live part of a cell
 abbrev pub added_in : RollupState → ℕ → ℤ → Aggregate → CellMap
 added_in s l index part = changed s.grid.cells (cell_in s.grid.rollup_series index l) (in_live (merged_within part))
-
--- replaces the live part of a cell
-abbrev pub corrected_in : RollupState → ℕ → ℤ → Aggregate → CellMap
-corrected_in s l index live = changed s.grid.cells (cell_in s.grid.rollup_series index l) (with_live live)
 
 -- the rollup series of the column with this index
 abbrev pub rollup_series_at : RollupState → ℕ → Option ℕ

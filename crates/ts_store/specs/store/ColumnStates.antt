@@ -1,6 +1,6 @@
 -- Columns with their points, and the effect of committing staged points. (Own rule.)
 use Rattle.std.specs.Prelude.{◌≡◌, ◌⊎◌, ℕ, ℤ, List, [], ◌∷◌, ◌++◌, ◌<◌, length, map, IsSome, Option, Some, None, Result, IfOk, OnOk, OnErr, slice_get, set, get_or, refl}
-use Rattle.std.specs.List.{zip}
+use Rattle.std.specs.List.{AllZip, zip}
 use Rattle.std.specs.FinMap as finmap
 use Rattle.ts_core.specs.lists.Members.{Among, AllDistinct}
 use Rattle.ts_core.specs.facts.Facts.{Series, Column, Fact}
@@ -70,13 +70,13 @@ abbrev pub AreReady : List ColumnState → List ℕ → Type 0
 AreReady states [] = Unit {0}
 AreReady states (n ∷ ns) = (n < length states) × IsSome (get_or states n no_column).staged × (Among n ns → ⊥) × AreReady states ns
 
--- the facts are staged, each in its column; the columns are those with these indices
+-- the fact is staged in its column, which has this index
+abbrev pub IsStaged : List Column → List ColumnState → ℕ → Fact → Type 0
+IsStaged columns states n f = (slice_get columns n ≡ Some f.column) × ((get_or states n no_column).staged ≡ Some (f.time, f.value))
+
+-- the same for each index and fact
 abbrev pub AreStaged : List Column → List ColumnState → List ℕ → List Fact → Type 0
-AreStaged columns states [] [] = Unit {0}
-AreStaged columns states [] (f ∷ fs) = ⊥
-AreStaged columns states (n ∷ ns) [] = ⊥
-AreStaged columns states (n ∷ ns) (f ∷ fs) =
-    (slice_get columns n ≡ Some f.column) × ((get_or states n no_column).staged ≡ Some (f.time, f.value)) × AreStaged columns states ns fs
+AreStaged columns states = AllZip (IsStaged columns states)
 
 -- ---- an index with the points of its columns, and with rollups
 

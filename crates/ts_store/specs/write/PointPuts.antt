@@ -1,5 +1,5 @@
 -- Points that are committed to their columns, and the cells that then hold them. (Own rules.)
-use Rattle.std.specs.Prelude.{◌≡◌, ℕ, ℤ, List, [], ◌∷◌, length, Option}
+use Rattle.std.specs.Prelude.{◌≡◌, ℕ, ℤ, List, length, Option}
 use Rattle.ts_core.specs.lists.Members.{AllDistinct}
 use Rattle.ts_core.specs.facts.Facts.{Column, Fact}
 use Rattle.ts_core.specs.settings.Settings.{Rule}
@@ -30,18 +30,6 @@ abbrev pub PutsPoint : List Rule → List ColumnState → ℕ → ℤ → ℤ �
 PutsPoint rules states column time value old us us' =
     (cs : List Column) (before : List ColumnPoints) (f : Fact) → AreLiveOver rules cs states before us → IsPointPut cs states before column time value old f
     → cells_of us' ≡ put_cells rules f (facts_of (with_points cs (point_maps states))) (cells_of us)
-
--- a fact of this time and value is staged in the column with this index
-pub record IsPointStaged (cs : List Column) (states : List ColumnState) (column : ℕ) (time value : ℤ) (f : Fact) : Type 0 where
-  pub same_time : f.time ≡ time
-  pub same_value : f.value ≡ value
-  pub staged : AreStaged cs states (column ∷ []) (f ∷ [])
-
--- the fact that is staged is put into its cells
-abbrev pub CommitsPoint : List Rule → ℕ → ℤ → ℤ → List ColumnState → List RollupState → List ColumnState → List RollupState → Type 0
-CommitsPoint rules column time value states us states' us' =
-    (cs : List Column) (f : Fact) → AreLiveOver rules cs states (with_points cs (point_maps states)) us → IsPointStaged cs states column time value f
-    → cells_of us' ≡ put_cells rules f (facts_of (with_points cs (point_maps states'))) (cells_of us)
 
 -- facts of this time with the values of fields are staged in the columns with these indices
 pub record ArePointsStaged (cs : List Column) (states : List ColumnState) (columns : List ℕ) (time : ℤ) (fields : List (LinePart × ℤ)) (fs : List Fact) : Type 0 where

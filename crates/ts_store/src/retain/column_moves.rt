@@ -11,7 +11,7 @@ ghost use Rattle.ts_store.specs.rollup.Rollups.{AreRollups, cells_of};
 ghost use Rattle.ts_store.specs.retain.RollupSteps.{with_all_grid_cells, content_with_cells, FreezeFit, content_moved};
 ghost use Rattle.ts_store.specs.retain.WholeRuns.{AreAbove, FirstLoses};
 
-use crate::retain::freezing::move_all;
+use crate::retain::freezing::move_points;
 use crate::rollup::Rollup;
 use crate::store::column_facts::ColumnFacts;
 use std::alloc::Allocator;
@@ -53,7 +53,10 @@ impl<A: Allocator + Copy> ColumnFacts<A> {
         ensures { (s : ColumnPoints) → IsAt self.old.columns column s → FreezeFit rules.now s.column (points_below mark s.points) (cells_of self.old.rollups) → self.new ≡ content_moved rules.now s mark self.old }
     {
         let columns = self.columns.as_slice();
-        move_all(rules, self.rollups.as_mut_slice(), columns, column, mark);
+        let rollups = self.rollups.as_mut_slice();
+        for (i, rollup) in rollups.iter_mut().enumerate() {
+            move_points(&rules[i], rollup, columns, column, mark);
+        }
         self.columns[column].drop_below(mark);
     }
 

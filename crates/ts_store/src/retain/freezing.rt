@@ -1,6 +1,5 @@
 //! Moves a column's points below a mark from the live to the frozen parts of cells.
 ghost use Rattle.std.specs.Prelude.{◌≡◌, ◌<◌, ◌≤◌, ◌^◌, pos, ◌≤ℤ◌, [], ◌∷◌, length};
-ghost use Rattle.std.specs.List.{AllByRecursion};
 ghost use Rattle.ts_store.specs.read.PointsRead.{number_of_points};
 ghost use Rattle.ts_store.specs.retain.PointMoves.{MovesBucket, MovesPoints};
 ghost use Rattle.ts_store.specs.rollup.Rollups.{with_grid_cells};
@@ -40,13 +39,13 @@ fn move_bucket<A: Allocator + Copy>(
         Some(rest) => rest,
         None => rollup_series_left(rule, rollup, columns, series, index, column, mark),
     };
-    rollup.freeze(column, index, part);
-    rollup.correct(index, series, rest);
+    rollup.cells.freeze(index, series, part);
+    rollup.cells.correct(index, series, rest);
 }
 
 /// Moves a column's points below a mark under a rule from the live to the frozen parts of their cells. The points of a
 /// bucket follow one another: folds them, and moves them at once. Does nothing if the column is of another measurement.
-fn move_points<A: Allocator + Copy>(
+pub(crate) fn move_points<A: Allocator + Copy>(
     rule: &Rule<A>,
     rollup: &mut Rollup<A>,
     columns: &[StoredColumn<A>],
@@ -80,24 +79,4 @@ fn move_points<A: Allocator + Copy>(
         }
     }
     move_bucket(rule, rollup, columns, column, mark, &bucket, folded);
-}
-
-/// Moves a column's points below a mark under each rule. Does not allocate.
-pub(crate) fn move_all<A: Allocator + Copy>(
-    rules: &[Rule<A>],
-    rollups: &mut [Rollup<A>],
-    columns: &[StoredColumn<A>],
-    column: usize,
-    mark: Time,
-)
-    requires intervals { AllByRecursion (λ r. pos 1 ≤ℤ r.interval) rules.now }
-    requires rules { length rollups.old ≡ length rules.now }
-    requires column { column < length columns.now }
-    requires each { AllByRecursion (λ s. length s.series_of_column ≡ length columns.now) rollups.old }
-    requires few { number_of_points columns.now ≤ 2 ^ 62 }
-    ensures { MovesPoints rules.now columns.now column mark rollups.old rollups.new }
-{
-    for (i, rollup) in rollups.iter_mut().enumerate() {
-        move_points(&rules[i], rollup, columns, column, mark);
-    }
 }

@@ -1,11 +1,11 @@
 //! Commits the staged points of a line to their columns, and adds them to the cells of rules.
-ghost use Rattle.std.specs.Prelude.{◌≡◌, ◌+◌, ◌<◌, ◌≤◌, ◌^◌, pos, ◌≤ℤ◌, [], ◌∷◌, length, get_or, set};
+ghost use Rattle.std.specs.Prelude.{◌≡◌, ◌+◌, ◌<◌, ◌≤◌, ◌^◌, pos, ◌≤ℤ◌, [], ◌∷◌, length};
 ghost use Rattle.std.specs.Bool.{OnFalse};
 ghost use Rattle.std.specs.List.{AllByRecursion};
 ghost use Rattle.ts_core.specs.store.Marks.{index_of};
-ghost use Rattle.ts_store.specs.store.ColumnStates.{no_column, committed, all_committed, AreReady};
+ghost use Rattle.ts_store.specs.store.ColumnStates.{all_committed, AreReady};
 ghost use Rattle.ts_store.specs.write.CellsCreated.{bucket_indices};
-ghost use Rattle.ts_store.specs.write.PointPuts.{PutsPoint, CommitsPoint, CommitsPoints};
+ghost use Rattle.ts_store.specs.write.PointPuts.{PutsPoint, CommitsPoints};
 ghost use Rattle.ts_store.specs.read.PointsRead.{number_of_points};
 ghost use Rattle.ts_store.specs.rollup.Rollups.{rollup_series_at, with_grid_cells, cells_of};
 ghost use Rattle.ts_store.specs.retain.RollupSteps.{with_all_grid_cells};
@@ -56,7 +56,7 @@ fn update_cell<A: Allocator + Copy>(
         return;
     };
     let Some(old) = old else {
-        rollup.add(index, series, Agg::single(time, value));
+        rollup.cells.add(index, series, Agg::single(time, value));
         return;
     };
     let Some(live) = rollup.live(index, series) else {
@@ -66,7 +66,7 @@ fn update_cell<A: Allocator + Copy>(
         Some(rest) => Agg::single(time, value).merge(rest),
         None => rollup_series_total(rule, rollup, columns, series, index),
     };
-    rollup.correct(index, series, live);
+    rollup.cells.correct(index, series, live);
 }
 
 /// Does the same under each rule.
@@ -103,48 +103,8 @@ fn update_cells<A: Allocator + Copy>(
     }
 }
 
-/// Commits the staged point of a column, which has this time and value, and corrects the cells of the rules. Searches
-/// for the value that it replaces only if a rule rolls the column up.
-fn commit_point<A: Allocator + Copy>(
-    columns: &mut Vec<StoredColumn<A>, A>,
-    rules: &[Rule<A>],
-    buckets: &[i128],
-    rollups: &mut [Rollup<A>],
-    column: ColumnId,
-    time: Time,
-    value: i64,
-)
-    requires intervals { AllByRecursion (λ r. pos 1 ≤ℤ r.interval) rules.now }
-    requires buckets { buckets.now ≡ bucket_indices rules.now time }
-    requires ready { AreReady columns.old.items (column ∷ []) }
-    requires rules { length rollups.old ≡ length rules.now }
-    requires each { AllByRecursion (λ s. length s.series_of_column ≡ length columns.old.items) rollups.old }
-    requires few { number_of_points columns.old.items + 1 ≤ 2 ^ 62 }
-    ensures columns { columns.new.items ≡ set columns.old.items column (committed (get_or columns.old.items column no_column)) }
-    ensures kept { rollups.new ≡ with_all_grid_cells (cells_of rollups.new) rollups.old }
-    ensures cells { CommitsPoint rules.now column time value columns.old.items rollups.old columns.new.items rollups.new }
-{
-    let at = column.number();
-    if !is_rolled(rollups, at) {
-        columns[at].commit();
-        return;
-    }
-    let old = columns[at].value_at(time);
-    columns[at].commit();
-    update_cells(
-        rules,
-        buckets,
-        rollups,
-        columns.as_slice(),
-        column,
-        time,
-        value,
-        old,
-    );
-}
-
-/// Commits the staged points of the columns with these ids: points of this time with the values of fields. Does not
-/// allocate.
+/// Commits the staged points of the columns with these ids, points of this time with the values of fields, and corrects
+/// the cells of the rules. Searches for a value that is replaced only if a rule rolls the column up. Does not allocate.
 pub(crate) fn commit_points<A: Allocator + Copy, L: Allocator>(
     columns: &mut Vec<StoredColumn<A>, A>,
     rules: &[Rule<A>],
@@ -166,14 +126,22 @@ pub(crate) fn commit_points<A: Allocator + Copy, L: Allocator>(
     ensures cells { CommitsPoints rules.now numbers.now time fields.now columns.old.items rollups.old columns.new.items rollups.new }
 {
     for (number, field) in numbers.iter().zip(fields) {
-        commit_point(
-            columns,
+        let at = number.number();
+        if !is_rolled(rollups, at) {
+            columns[at].commit();
+            continue;
+        }
+        let old = columns[at].value_at(time);
+        columns[at].commit();
+        update_cells(
             rules,
             buckets,
             rollups,
+            columns.as_slice(),
             *number,
             time,
             field.value(),
+            old,
         );
     }
 }

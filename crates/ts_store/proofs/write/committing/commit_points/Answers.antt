@@ -1,12 +1,14 @@
-use Rattle.std.proofs.Common.{rules, ◌≡◌, ◌∙◌, ◌+◌, ◌≤◌, ◌^◌, ℕ, ℤ, suc, List, length, ap, sym, subst, refl, arith, SFits, w64, to_z-of_z}
+use Rattle.std.proofs.Common.{rules, ◌≡◌, ◌∙◌, ◌+◌, ◌≤◌, ◌^◌, ℕ, ℤ, None, List, length, ap, sym, subst, refl, arith, SFits, w64, to_z-of_z}
 use Rattle.std.proofs.lemmas.Slice.Zip.{either_empty_from_Zip}
+use Rattle.std.proofs.lemmas.List.{length-set}
 use Rattle.std.specs.List.{AllByRecursion}
 use Rattle.ts_line.specs.Parts.{LinePart}
 use Rattle.ts_raw.specs.Columns.{ColumnState}
 use Rattle.ts_store.specs.store.ColumnStates.{with_points, point_maps, all_committed, AreReady}
 use Rattle.ts_store.specs.read.PointsRead.{number_of_points}
-use Rattle.ts_store.specs.rollup.Rollups.{RollupState, cells_of}
-use Rattle.ts_store.proofs.write.PointsPut.{PutsRest, next_ready, rest_put, rest_done, none_left, none_committed, grids_kept_then, wide_still}
+use Rattle.ts_store.specs.write.PointPuts.{PutsPoint}
+use Rattle.ts_store.specs.rollup.Rollups.{RollupState, rollup_series_at, cells_of}
+use Rattle.ts_store.proofs.write.PointsPut.{PutsRest, ready_staged, point_found, now_committed, committed-more, inside_each, commits_alone, commits_rolled, next_is_ready, next_fits, next_left, wide_left, rest_done, none_left, none_committed}
 use Rattle.ts_store.proofs.retain.RollupExpiry.{grids_kept}
 use Rattle.ts_store.proofs.write.committing.commit_points.Goals as goal
 
@@ -29,42 +31,59 @@ loop-number-init g c =
           (subst (λ (xs : List (LinePart × ℤ)). PutsRest c.args.rules.now ns c.args.time xs cs ss us after ends) values rest);
     }
 
-pub commit_point-requires-clause-ready : goal.commit_point-requires-clause-ready
-commit_point-requires-clause-ready g c =
-    let ready = subst (AreReady c.loop-number.columns.items) c.in-Some.ensures.steps.0 c.loop-number.invariant.ready in
-    (ready.0, ready.1, (λ none. none), tt)
+pub is_rolled-requires : goal.is_rolled-requires
+is_rolled-requires g c =
+    inside_each _ _ c.number-at.result c.loop-number.rollups c.number-at.ensures (next_is_ready _ _ _ _ _ _ _ _ _ _ _ _ c.in-Some.ensures.steps.0 c.loop-number.invariant).0 (wide_left _ _ _ _ _ _ _ _ _ _ c.loop-number.invariant c.requires.each)
 
-pub commit_point-requires-clause-each : goal.commit_point-requires-clause-each
-commit_point-requires-clause-each g c =
-    wide_still _ _ _ c.loop-number.invariant.kept
-    (subst (λ n. AllByRecursion (λ (s : RollupState). length s.series_of_column ≡ n) c.args.rollups.now) (sym c.loop-number.invariant.long) c.requires.each)
+-- ---- no rule rolls the column up
 
-pub commit_point-requires-clause-few : goal.commit_point-requires-clause-few
-commit_point-requires-clause-few g c =
-    let longer : length c.loop-number.number-iterator.a.rest.now ≡ suc (length c.next.new.self.a.rest.now) = ap length c.in-Some.ensures.steps.0 in
-    let few = c.loop-number.invariant.few in
-    omega (arith, longer, few)
+pub commit-requires : goal.commit-requires
+commit-requires g c = ready_staged c.loop-number.columns.items _ c.number-at.result c.index_mut.result.now (next_is_ready _ _ _ _ _ _ _ _ _ _ _ _ c.in-Some.ensures.steps.0 c.loop-number.invariant) c.number-at.ensures c.index_mut.ensures.value
+
+pub loop-number-preserved-then-not-is_rolled : goal.loop-number-preserved-then-not-is_rolled
+loop-number-preserved-then-not-is_rolled g c =
+    let ss : List ColumnState = c.loop-number.columns.items in
+    let ready = next_is_ready _ _ _ _ _ _ _ _ _ _ _ _ c.in-Some.ensures.steps.0 c.loop-number.invariant in
+    next_left _ _ _ _ _ _ _ _ _ _ _ _ c.in-Some.ensures.steps.0 c.loop-number.invariant _ _ _ c.loop-number.rollups c.in-Some.ensures.steps.1
+    (now_committed ss _ c.number-at.result c.index_mut.result.now ready c.number-at.ensures c.index_mut.ensures.value c.commit.new.self c.commit.ensures.put c.commit.ensures.none_staged) (grids_kept c.loop-number.rollups)
+    (commits_alone _ _ _ _ _ _ _ (subst (λ k. AllByRecursion (λ (s : RollupState). rollup_series_at s k ≡ None) c.loop-number.rollups) c.number-at.ensures c.if-not-is_rolled.ensures))
+
+-- ---- a rule does
+
+pub commit-requires-in-loop-number : goal.commit-requires-in-loop-number
+commit-requires-in-loop-number g c = ready_staged c.loop-number.columns.items _ c.number-at.result c.index_mut-in-loop-number.result.now (next_is_ready _ _ _ _ _ _ _ _ _ _ _ _ c.in-Some.ensures.steps.0 c.loop-number.invariant) c.number-at.ensures c.index_mut-in-loop-number.ensures.value
+
+pub update_cells-requires : goal.update_cells-requires
+update_cells-requires g c =
+    let ss : List ColumnState = c.loop-number.columns.items in
+    let ready = next_is_ready _ _ _ _ _ _ _ _ _ _ _ _ c.in-Some.ensures.steps.0 c.loop-number.invariant in
+    let is = now_committed ss _ c.number-at.result c.index_mut-in-loop-number.result.now ready c.number-at.ensures c.index_mut-in-loop-number.ensures.value c.commit-in-loop-number.new.self c.commit-in-loop-number.ensures.put c.commit-in-loop-number.ensures.none_staged in
+    let long : length c.as_slice.result.now ≡ length ss = ap length c.as_slice.ensures.value ∙ length-set ss c.number-at.result c.commit-in-loop-number.new.self in
+    let within = ready.0 in
+    let more = committed-more ss c.in-Some.number.now in
+    let same = ap number_of_points (c.as_slice.ensures.value ∙ is) in
+    let few = next_fits _ _ _ _ _ _ _ _ _ _ _ _ c.in-Some.ensures.steps.0 c.loop-number.invariant in
+    record {
+      intervals = c.requires.intervals;
+      buckets = c.requires.buckets;
+      column = omega (arith, within, long);
+      rules = search rules;
+      each = subst (λ n. AllByRecursion (λ (s : RollupState). length s.series_of_column ≡ n) c.loop-number.rollups) (sym long) (wide_left _ _ _ _ _ _ _ _ _ _ c.loop-number.invariant c.requires.each);
+      few = omega (arith, more, same, few);
+    }
 
 pub loop-number-preserved : goal.loop-number-preserved
 loop-number-preserved g c =
     let ss : List ColumnState = c.loop-number.columns.items in
-    let ns : List ℕ = c.next.new.self.a.rest.now in
-    let ids = c.in-Some.ensures.steps.0 in
-    let values = c.in-Some.ensures.steps.1 in
-    let longer : length c.loop-number.number-iterator.a.rest.now ≡ suc (length ns) = ap length ids in
-    let wider : length c.loop-number.number-iterator.b.rest.now ≡ suc (length c.next.new.self.b.rest.now) = ap length values in
+    let ready = next_is_ready _ _ _ _ _ _ _ _ _ _ _ _ c.in-Some.ensures.steps.0 c.loop-number.invariant in
+    let is = now_committed ss _ c.number-at.result c.index_mut-in-loop-number.result.now ready c.number-at.ensures c.index_mut-in-loop-number.ensures.value c.commit-in-loop-number.new.self c.commit-in-loop-number.ensures.put c.commit-in-loop-number.ensures.none_staged in
+    let few = next_fits _ _ _ _ _ _ _ _ _ _ _ _ c.in-Some.ensures.steps.0 c.loop-number.invariant in
+    let was = point_found ss _ c.number-at.result c.index.result.now ready c.number-at.ensures c.index.ensures c.value_at-old.result c.args.time c.args.time refl c.value_at-old.ensures in
     let fits : SFits w64 c.value.result = search rules in
-    let next = next_ready _ _ _ _ _ ids c.commit_point.ensures.columns c.loop-number.invariant.ready c.loop-number.invariant.few in
-    record {
-      ready = next.0;
-      few = next.2;
-      same = omega (arith, longer, wider, c.loop-number.invariant.same);
-      long = next.1 ∙ c.loop-number.invariant.long;
-      columns = ap (λ (zs : List ColumnState). all_committed zs ns) c.commit_point.ensures.columns ∙ sym (ap (all_committed ss) ids) ∙ c.loop-number.invariant.columns;
-      kept = grids_kept_then _ _ _ c.loop-number.invariant.kept c.commit_point.ensures.kept;
-      cells = λ cs after ends others. c.loop-number.invariant.cells cs after ends
-          (rest_put c.args.rules.now _ cs _ _ _ _ _ _ _ _ _ _ _ after ends ids values (to_z-of_z fits ∙ c.value.ensures) c.commit_point.ensures.columns c.commit_point.ensures.kept next.3 c.commit_point.ensures.cells others);
-    }
+    next_left _ _ _ _ _ _ _ _ _ _ _ _ c.in-Some.ensures.steps.0 c.loop-number.invariant _ _ _ c.update_cells.new.rollups c.in-Some.ensures.steps.1 is c.update_cells.ensures.kept
+    (commits_rolled _ _ _ _ c.value_at-old.result ss _ c.loop-number.rollups c.update_cells.new.rollups is few was
+    (subst (λ (xs : List ColumnState). PutsPoint c.args.rules.now xs c.in-Some.number.now c.args.time c.in-Some.field.now.1 c.value_at-old.result c.loop-number.rollups c.update_cells.new.rollups) c.as_slice.ensures.value
+    (subst (λ (v : ℤ). PutsPoint c.args.rules.now c.as_slice.result.now c.in-Some.number.now c.args.time v c.value_at-old.result c.loop-number.rollups c.update_cells.new.rollups) (to_z-of_z fits ∙ c.value.ensures) c.update_cells.ensures.cells)))
 
 pub returns-clause-columns : goal.returns-clause-columns
 returns-clause-columns g c =

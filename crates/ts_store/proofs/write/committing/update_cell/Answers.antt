@@ -1,12 +1,12 @@
-use Rattle.std.proofs.Common.{rules, ◌≡◌, ◌∙◌, [], ◌∷◌, Some, None, refl, arith, ap, ap₂, sym, subst, w64, SFits, to_z-of_z}
+use Rattle.std.proofs.Common.{rules, ◌≡◌, ◌∙◌, ◌<◌, [], ◌∷◌, length, Some, None, refl, arith, ap, ap₂, sym, subst, w64, SFits, to_z-of_z}
 use Rattle.ts_core.specs.settings.Settings.{Rule}
 use Rattle.ts_core.specs.store.Marks.{index_of}
 use Rattle.ts_core.specs.aggregates.Aggregates.{Aggregate, aggregate_of_one, merged, IsSound}
 use Rattle.ts_core.specs.aggregates.Remainders.{IsOnlyRest}
 use Rattle.ts_core.specs.store.StoreData.{CellMap}
-use Rattle.ts_store.specs.rollup.Rollups.{RollupState, rollup_series_at, added_in, corrected_in}
-use Rattle.ts_store.proofs.retain.PointsFrozen.{grid_kept_then}
-use Rattle.ts_store.proofs.write.CellsPut.{put_passed, put_added, put_missing, put_corrected, put_folded}
+use Rattle.ts_store.specs.rollup.Rollups.{RollupState, rollup_series_at, added_in}
+use Rattle.ts_store.proofs.retain.PointsFrozen.{with_grid}
+use Rattle.ts_store.proofs.write.CellsPut.{corrected_in, put_passed, put_added, put_missing, put_corrected, put_folded}
 use Rattle.ts_store.proofs.write.committing.update_cell.Goals.{in-Some-without, in-None}
 use Rattle.ts_store.proofs.write.committing.update_cell.Goals as goal
 
@@ -24,12 +24,10 @@ returns-in_default-clause-cells g c = λ cs before f over put.
 -- ---- a new fact
 
 pub add-requires : goal.add-requires
-add-requires g c = c.in-Some.ensures.inside
+add-requires g c = subst (λ (t : RollupState). c.in-Some.series < length t.grid.rollup_series) (sym c.rollup.view_is) c.in-Some.ensures.inside
 
 pub returns-in_default-old-clause-kept : goal.returns-in_default-old-clause-kept
-returns-in_default-old-clause-kept g c =
-    let s : RollupState = c.args.rollup.now in
-    grid_kept_then s s c.add.new.self (added_in s c.in-Some.series c.args.index.now c.single.result) refl c.add.ensures
+returns-in_default-old-clause-kept g c = with_grid _ _ c.add.new.self c.rollup.view_is c.add.ensures.kept
 
 pub returns-in_default-old-clause-cells : goal.returns-in_default-old-clause-cells
 returns-in_default-old-clause-cells g c = λ cs before f over put.
@@ -40,7 +38,8 @@ returns-in_default-old-clause-cells g c = λ cs before f over put.
     let in_64 : SFits w64 c.args.value = search rules in
     let single : c.single.result ≡ aggregate_of_one c.args.time c.args.value = c.single.ensures ∙ ap (aggregate_of_one c.args.time) (to_z-of_z in_64) in
     let part : c.single.result ≡ aggregate_of_one f.time f.value = single ∙ ap₂ aggregate_of_one (sym put.same_time) (sym put.same_value) in
-    ap (λ (m : CellMap). m ∷ []) (ap (λ (t : RollupState). t.grid.cells) c.add.ensures
+    ap (λ (m : CellMap). m ∷ []) (c.add.ensures.cells
+    ∙ ap (λ (t : RollupState). added_in t c.in-Some.series c.args.index.now c.single.result) c.rollup.view_is
     ∙ put_added c.args.rule.now cs c.args.columns.now before s c.args.column f c.args.old over put.put c.in-Some.series at c.args.index.now index c.single.result none part)
 
 -- ---- a fact in the place of another
@@ -63,12 +62,10 @@ pub rollup_series_total-live-requires : goal.rollup_series_total-live-requires
 rollup_series_total-live-requires g c = record { interval = c.requires.interval; series = c.in-Some.ensures.inside; each = c.requires.each; few = c.requires.few }
 
 pub correct-requires : goal.correct-requires
-correct-requires g c = c.in-Some.ensures.inside
+correct-requires g c = subst (λ (t : RollupState). c.in-Some.series < length t.grid.rollup_series) (sym c.rollup.view_is) c.in-Some.ensures.inside
 
 pub returns-clause-kept : goal.returns-clause-kept
-returns-clause-kept g c =
-    let s : RollupState = c.args.rollup.now in
-    grid_kept_then s s c.correct.new.self (corrected_in s c.in-Some.series c.args.index.now c.match-without.live) refl c.correct.ensures
+returns-clause-kept g c = with_grid _ _ c.correct.new.self c.rollup.view_is c.correct.ensures.kept
 
 pub returns-clause-cells : goal.returns-clause-cells
 returns-clause-cells g c = λ cs before f over put.
@@ -78,7 +75,8 @@ returns-clause-cells g c = λ cs before f over put.
     let index : c.args.index.now ≡ index_of c.args.rule.now f.time = c.requires.index ∙ ap (index_of c.args.rule.now) (sym put.same_time) in
     let some : c.live.result ≡ Some c.in-Some-live.live = search rules in
     let was : c.args.old ≡ Some c.in-Some-old.old = search rules in
-    ap (λ (m : CellMap). m ∷ []) (ap (λ (t : RollupState). t.grid.cells) c.correct.ensures
+    ap (λ (m : CellMap). m ∷ []) (c.correct.ensures.cells
+    ∙ ap (λ (t : RollupState). corrected_in t c.in-Some.series c.args.index.now c.match-without.live) c.rollup.view_is
     ∙ elim c.match-without.branch [
       | in-Some-without w ↦
           let in_64 : SFits w64 c.args.value = search rules in
