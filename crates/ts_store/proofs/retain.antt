@@ -13,4 +13,3 @@ pub mod CountsMoved
 pub mod Refolds
 pub mod BucketsMoved
 pub mod MarkReached
--- Freezing: times within bounds

@@ -248,16 +248,16 @@ next_ready ss ss' n ns ns' e is ready few =
 abbrev pub PutsRest : List Rule → List ℕ → ℤ → List (LinePart × ℤ) → List Column → List ColumnState → List RollupState → List ColumnPoints → List CellMap → Type 0
 PutsRest rs ns time xs cs ss us after ends = (gs : List Fact) → AreLiveOver rs cs ss (with_points cs (point_maps ss)) us → ArePointsStaged cs ss ns time xs gs → PutsFacts rs (with_points cs (point_maps ss)) (cells_of us) after ends gs
 
-line_puts : (rs : List Rule) (cs : List Column) (ss ss' : List ColumnState) (n : ℕ) (ns ns' : List ℕ) (x : LinePart × ℤ) (xs xs' : List (LinePart × ℤ)) (time value : ℤ) (after : List ColumnPoints) (us us' : List RollupState) (ends : List CellMap) (fs : List Fact)
-    → ns' ≡ n ∷ ns → xs' ≡ x ∷ xs → value ≡ x.1 → ss' ≡ set ss n (committed (get_or ss n no_column)) → us' ≡ with_all_grid_cells (cells_of us') us → (Among n ns → ⊥)
-    → CommitsPoint rs n time value ss us ss' us' → PutsRest rs ns time xs cs ss' us' after ends → AreLiveOver rs cs ss (with_points cs (point_maps ss)) us → ArePointsStaged cs ss ns' time xs' fs
+line_puts : (rs : List Rule) (cs : List Column) (ss ss' : List ColumnState) (n : ℕ) (ns ns' : List ℕ) (x : LinePart × ℤ) (xs xs' : List (LinePart × ℤ)) (time : ℤ) (after : List ColumnPoints) (us us' : List RollupState) (ends : List CellMap) (fs : List Fact)
+    → ns' ≡ n ∷ ns → xs' ≡ x ∷ xs → ss' ≡ set ss n (committed (get_or ss n no_column)) → us' ≡ with_all_grid_cells (cells_of us') us → (Among n ns → ⊥)
+    → CommitsPoint rs n time x.1 ss us ss' us' → PutsRest rs ns time xs cs ss' us' after ends → AreLiveOver rs cs ss (with_points cs (point_maps ss)) us → ArePointsStaged cs ss ns' time xs' fs
     → PutsFacts rs (with_points cs (point_maps ss)) (cells_of us) after ends fs
-line_puts rs cs ss ss' n ns ns' x xs xs' time value after us us' ends [] e d v is kept away one others over put = absurd (subst (λ (ys : List (LinePart × ℤ)). AreOfFields time ys []) d put.values)
-line_puts rs cs ss ss' n ns ns' x xs xs' time value after us us' ends (f ∷ fs) e d v is kept away one others over put =
+line_puts rs cs ss ss' n ns ns' x xs xs' time after us us' ends [] e d is kept away one others over put = absurd (subst (λ (ys : List (LinePart × ℤ)). AreOfFields time ys []) d put.values)
+line_puts rs cs ss ss' n ns ns' x xs xs' time after us us' ends (f ∷ fs) e d is kept away one others over put =
     let s : ColumnState = committed (get_or ss n no_column) in
     let of : AreOfFields time (x ∷ xs) (f ∷ fs) = subst (λ (ys : List (LinePart × ℤ)). AreOfFields time ys (f ∷ fs)) d put.values in
     let all : AreStaged cs ss (n ∷ ns) (f ∷ fs) = subst (λ (ms : List ℕ). AreStaged cs ss ms (f ∷ fs)) e put.staged in
-    puts_more rs cs ss ss' n f fs after (cells_of us) (cells_of us') ends over.once over.each all.0 is (one cs f over (record { same_time = of.0.0; same_value = of.0.1 ∙ sym v; staged = all.0 })) over.live
+    puts_more rs cs ss ss' n f fs after (cells_of us) (cells_of us') ends over.once over.each all.0 is (one cs f over (record { same_time = of.0.0; same_value = of.0.1; staged = all.0 })) over.live
     (λ lives. others fs
     (record { each = ap length is ∙ length-set ss n s ∙ over.each; once = over.once; rollups = subst (AreRollups rs cs) (sym kept) (rollups_with rs cs (cells_of us') us over.rollups); live = lives })
     (record { values = of.1; staged = subst (λ (ys : List ColumnState). AreStaged cs ys ns fs) (sym is) (staged_others cs ss ns fs n s away all.1) }))
@@ -267,12 +267,6 @@ none_puts : (rs : List Rule) (cs : List Column) (ss : List ColumnState) (ns : Li
 none_puts rs cs ss [] columns ms [] e a = (refl, refl)
 none_puts rs cs ss [] columns ms (f ∷ fs) e a = absurd a
 none_puts rs cs ss (n ∷ ns) columns ms fs e a = absurd (let z : ⊥ = omega arith in z)
-
--- the next of them is put, and then the others
-pub rest_put : (rs : List Rule) (time : ℤ) (cs : List Column) (ss ss' : List ColumnState) (us us' : List RollupState) (n : ℕ) (ns ns' : List ℕ) (x : LinePart × ℤ) (xs xs' : List (LinePart × ℤ)) (value : ℤ) (after : List ColumnPoints) (ends : List CellMap)
-    → ns' ≡ n ∷ ns → xs' ≡ x ∷ xs → value ≡ x.1 → ss' ≡ set ss n (committed (get_or ss n no_column)) → us' ≡ with_all_grid_cells (cells_of us') us → (Among n ns → ⊥)
-    → CommitsPoint rs n time value ss us ss' us' → PutsRest rs ns time xs cs ss' us' after ends → PutsRest rs ns' time xs' cs ss us after ends
-rest_put rs time cs ss ss' us us' n ns ns' x xs xs' value after ends e d v is kept away one others = λ gs over put. line_puts rs cs ss ss' n ns ns' x xs xs' time value after us us' ends gs e d v is kept away one others over put
 
 -- ---- the loop over the columns of a line
 
@@ -306,7 +300,7 @@ module _ (rs : List Rule) (time : ℤ) (all : List ℕ) (fields : List (LinePart
           long = next.1 ∙ left.long;
           columns = ap (λ (zs : List ColumnState). all_committed zs ns) is ∙ sym (ap (all_committed ss) ids) ∙ left.columns;
           kept = grids_kept_then firsts us us' left.kept kept;
-          cells = λ cs after ends others. left.cells cs after ends (rest_put rs time cs ss ss' us us' n ns ns' x xs xs' x.1 after ends ids values refl is kept next.3 one others);
+          cells = λ cs after ends others. left.cells cs after ends (λ gs over put. line_puts rs cs ss ss' n ns ns' x xs xs' time after us us' ends gs ids values is kept next.3 one others over put);
         }
 
   pub wide_left : (ns : List ℕ) (xs : List (LinePart × ℤ)) (ss : List ColumnState) (us : List RollupState) → AreLeft ns xs ss us → AllByRecursion (λ (s : RollupState). length s.series_of_column ≡ length first) firsts
