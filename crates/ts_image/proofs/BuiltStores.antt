@@ -1,5 +1,6 @@
 -- A store that was built from all parts of an image, and its data.
 use Rattle.std.proofs.Common.{◌≡◌, ◌↔◌, ℕ, zero, suc, ◌≤◌, ◌<◌, ℤ, ◌==◌, Bool, true, false, cond, List, [], ◌∷◌, ◌++◌, length, map, filter, refl, sym, ◌∙◌, ap, subst, inl, inr, ⊎_elim, arith}
+use Rattle.std.specs.List.{zip}
 use Rattle.ts_core.specs.lists.Members.{Among, AllDistinct}
 use Rattle.ts_core.specs.facts.Facts.{Series, Column, Fact}
 use Rattle.ts_core.specs.settings.Settings.{Settings}
@@ -26,7 +27,8 @@ here_waiting : (s : Series) (cs : List ImageColumn) (rest : List ColumnPoints) (
     → waiting_of (map (image_points_in s) cs ++ rest) (map is_column_waiting cs ++ ws) ≡ map (column_of_image s) (filter is_column_waiting cs) ++ waiting_of rest ws
 here_waiting s [] rest ws = refl
 here_waiting s (c ∷ cs) rest ws =
-    elim (is_column_waiting c) as (λ b. cond b (column_of_image s c ∷ waiting_of (map (image_points_in s) cs ++ rest) (map is_column_waiting cs ++ ws)) (waiting_of (map (image_points_in s) cs ++ rest) (map is_column_waiting cs ++ ws))
+    let more : List (ColumnPoints × Bool) = filter (λ (p : ColumnPoints × Bool). p.1) (zip (map (image_points_in s) cs ++ rest) (map is_column_waiting cs ++ ws)) in
+    elim (is_column_waiting c) as (λ b. map (λ (p : ColumnPoints × Bool). p.0.column) (cond b ((image_points_in s c, is_column_waiting c) ∷ more) more)
     ≡ map (column_of_image s) (cond b (c ∷ filter is_column_waiting cs) (filter is_column_waiting cs)) ++ waiting_of rest ws) [
       | true ↦ ap (λ xs. column_of_image s c ∷ xs) (here_waiting s cs rest ws)
       | false ↦ here_waiting s cs rest ws

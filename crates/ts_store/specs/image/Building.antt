@@ -1,6 +1,6 @@
 -- A store from parts: settings, marks, columns with their points, and frozen parts of cells. All that follows from
 -- these, such as live parts, is computed. (Own rules.)
-use Rattle.std.specs.Prelude.{◌≡◌, ℕ, ℤ, pos, ◌+ℤ◌, ◌≤◌, ◌≤ℤ◌, ◌^◌, Bool, true, false, List, [], ◌∷◌, ◌++◌, length, map, set, get_or, None, if◌then◌else◌, refl}
+use Rattle.std.specs.Prelude.{◌≡◌, ℕ, ℤ, pos, ◌+ℤ◌, ◌≤◌, ◌≤ℤ◌, ◌^◌, Bool, true, false, List, [], ◌∷◌, ◌++◌, length, map, filter, set, get_or, None, refl}
 use Rattle.std.specs.FinMap as finmap
 use Rattle.std.specs.List.{AllByRecursion, AllZip, zip}
 use Rattle.std.specs.Coded.{Coded, code_by, coded×, coded_list, coded_bool}
@@ -95,9 +95,7 @@ pub record IsBuildable (b : Built) : Type 0 where
 
 -- the columns that wait, in creation order
 abbrev pub waiting_of : List ColumnPoints → List Bool → List Column
-waiting_of [] ws = []
-waiting_of (c ∷ cs) [] = []
-waiting_of (c ∷ cs) (w ∷ ws) = if w then c.column ∷ waiting_of cs ws else waiting_of cs ws
+waiting_of columns waits = map (λ (p : ColumnPoints × Bool). p.0.column) (filter (λ (p : ColumnPoints × Bool). p.1) (zip columns waits))
 
 -- the rule has the cell of each of these facts, from the low index on
 abbrev pub HasCellsOf : List Fact → Rule → ℤ → CellMap → Type 0
