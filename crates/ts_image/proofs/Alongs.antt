@@ -1,5 +1,5 @@
--- Lists of values of one format, one value per item of another list, and reading such a list in a loop.
-use Rattle.std.proofs.Common.{◌≡◌, ℕ, List, [], ◌∷◌, ◌++◌, length, replicate, Result, Ok, Err, refl, sym, ap, subst, ◌∙◌}
+-- Values that are read one after another, as a loop does: one per item of another list.
+use Rattle.std.proofs.Common.{◌≡◌, ℕ, List, [], ◌∷◌, ◌++◌, length, replicate, Result, Ok, Err, refl, sym, ap, subst, ◌∙◌, append_assoc}
 use Rattle.std.proofs.lemmas.List.{append-nil}
 use Rattle.ts_core.specs.io.Devices.{Input}
 use Rattle.ts_core.specs.io.ReadingAhead.{EndIsEnd}
@@ -9,24 +9,18 @@ use Rattle.ts_core.specs.text.Steps.{◌>>=◌}
 use Rattle.ts_image.specs.Formats.{Cursor, Read, Format, read_along, along, times}
 use Rattle.ts_image.specs.FieldReading.{FieldsRead, cursor_of, IsKnown, CallsSource, GivesReading, ReadsField}
 use Rattle.ts_image.proofs.Fields.{done}
-use Rattle.ts_image.proofs.Loops.{with_front, front_nil, regroup}
 use Rattle.ts_image.proofs.Reading.{fine, faulty, nothing_yet, calls_nothing, calls_more, calls_on, calls_ok, calls_unless}
 
-module _ {X Y : Type 0} (f : Format X) where
-  same_rest : (ys : List Y) (r : Read X) → ((p : Cursor) → read_along (λ (y : Y). f) ys p ≡ read_along (λ (i : ℕ). f) (replicate (length ys) 0) p) → ◌>>=◌ {B = List X × Cursor} r (λ x. read_along (λ (y : Y). f) ys x.1 >>= λ xs. done (x.0 ∷ xs.0, xs.1)) ≡ ◌>>=◌ {B = List X × Cursor} r (λ x. read_along (λ (i : ℕ). f) (replicate (length ys) 0) x.1 >>= λ xs. done (x.0 ∷ xs.0, xs.1))
-  same_rest ys (Ok x) h = ap (λ (q : Read (List X)). ◌>>=◌ {B = List X × Cursor} q (λ xs. done (x.0 ∷ xs.0, xs.1))) (h x.1)
-  same_rest ys (Err n) h = refl
+abbrev pub with_front : {X : Type 0} → List X → Read (List X) → Read (List X)
+with_front xs r = r >>= λ ys. done (xs ++ ys.0, ys.1)
 
-  pub same_along : (ys : List Y) (p : Cursor) → read_along (λ (y : Y). f) ys p ≡ read_along (λ (i : ℕ). f) (replicate (length ys) 0) p
-  same_along [] p = refl
-  same_along (y ∷ ys) p = same_rest ys (f.read p) (same_along ys)
+pub front_nil : {X : Type 0} (r : Read (List X)) → with_front [] r ≡ r
+front_nil (Ok x) = refl
+front_nil (Err n) = refl
 
-  pub reads_along : {Z : Type 0} (views : Z → List X) (ys : List Y) (n : ℕ) (a b : FieldsRead) (s t : Input) (r : Result Z FieldFault) → n ≡ length ys → ReadsField (times n f) views a s r b t → ReadsField (along (λ (y : Y). f) ys) views a s r b t
-  reads_along views ys n a b s t r e p = record {
-    stays = p.stays;
-    value = λ k. subst (λ (x : Read (List X)). GivesReading views r (cursor_of b t) x) (ap (λ (m : ℕ). read_along (λ (i : ℕ). f) (replicate m 0) (cursor_of a s)) e ∙ sym (same_along ys (cursor_of a s))) (p.value k);
-    calls = p.calls;
-  }
+pub regroup : {X : Type 0} (xs : List X) (x : X) (r : Read (List X)) → with_front xs (r >>= λ ys. done (x ∷ ys.0, ys.1)) ≡ with_front (xs ++ x ∷ []) r
+regroup {X} xs x (Ok ys) = ap (λ (zs : List X). done (zs, ys.1)) (sym (append_assoc xs (x ∷ []) ys.0))
+regroup xs x (Err n) = refl
 
 -- some were read, and those of some are left: these together are those of all
 pub record HasReadAlong {X Y : Type 0} (f : Y → Format X) (ys left : List Y) (xs : List X) (a : FieldsRead) (s : Input) (b : FieldsRead) (t : Input) : Type 0 where
@@ -75,4 +69,22 @@ module _ {X Y : Type 0} (f : Y → Format X) (ys : List Y) (a : FieldsRead) (s :
     stays = so_far.stays;
     value = λ k. sym (so_far.value k) ∙ ap (λ (zs : List X). done (zs, cursor_of b t)) (append-nil xs ∙ sym e);
     calls = calls_ok a.ahead b.ahead s t tt w so_far.calls;
+  }
+
+-- ---- values of one format, one per item of another list
+
+module _ {X Y : Type 0} (f : Format X) where
+  same_rest : (ys : List Y) (r : Read X) → ((p : Cursor) → read_along (λ (y : Y). f) ys p ≡ read_along (λ (i : ℕ). f) (replicate (length ys) 0) p) → ◌>>=◌ {B = List X × Cursor} r (λ x. read_along (λ (y : Y). f) ys x.1 >>= λ xs. done (x.0 ∷ xs.0, xs.1)) ≡ ◌>>=◌ {B = List X × Cursor} r (λ x. read_along (λ (i : ℕ). f) (replicate (length ys) 0) x.1 >>= λ xs. done (x.0 ∷ xs.0, xs.1))
+  same_rest ys (Ok x) h = ap (λ (q : Read (List X)). ◌>>=◌ {B = List X × Cursor} q (λ xs. done (x.0 ∷ xs.0, xs.1))) (h x.1)
+  same_rest ys (Err n) h = refl
+
+  pub same_along : (ys : List Y) (p : Cursor) → read_along (λ (y : Y). f) ys p ≡ read_along (λ (i : ℕ). f) (replicate (length ys) 0) p
+  same_along [] p = refl
+  same_along (y ∷ ys) p = same_rest ys (f.read p) (same_along ys)
+
+  pub reads_along : {Z : Type 0} (views : Z → List X) (ys : List Y) (n : ℕ) (a b : FieldsRead) (s t : Input) (r : Result Z FieldFault) → n ≡ length ys → ReadsField (times n f) views a s r b t → ReadsField (along (λ (y : Y). f) ys) views a s r b t
+  reads_along views ys n a b s t r e p = record {
+    stays = p.stays;
+    value = λ k. subst (λ (x : Read (List X)). GivesReading views r (cursor_of b t) x) (ap (λ (m : ℕ). read_along (λ (i : ℕ). f) (replicate m 0) (cursor_of a s)) e ∙ sym (same_along ys (cursor_of a s))) (p.value k);
+    calls = p.calls;
   }

@@ -1,6 +1,7 @@
 -- A store under construction, cell by cell.
 use Rattle.std.proofs.Common.{◌≡◌, ◌<◌, ◌+◌, ℕ, zero, suc, add-one, List, [], ◌∷◌, ◌++◌, length, map, take, get_or, set, refl, sym, ap, subst, ◌∙◌, arith}
-use Rattle.std.proofs.lemmas.List.{set-get_or, get_or-set_same}
+use Rattle.std.proofs.lemmas.List.{set-get_or, get_or-set_same, take-map}
+use Rattle.std.proofs.lemmas.List.Sums.{fold-append}
 use Rattle.std.specs.Prelude.{None}
 use Rattle.std.specs.FinMap as finmap
 use Rattle.std.specs.FinMap.{get-empty}
@@ -9,6 +10,7 @@ use Rattle.ts_core.specs.settings.Settings.{Rule}
 use Rattle.ts_core.specs.store.Cells.{Cell, cell_cmp}
 use Rattle.ts_core.specs.store.StoreStates.{CellParts}
 use Rattle.ts_core.specs.store.StoreData.{CellMap}
+use Rattle.ts_core.proofs.lists.BesideLemmas.{beside-ahead}
 use Rattle.ts_core.proofs.plans.PieceCells.{cells_total}
 use Rattle.ts_store.specs.image.Building.{Built, cell_map_at, with_built_cell}
 use Rattle.ts_image.specs.Images.{ImageCell}
@@ -21,8 +23,7 @@ use Rattle.ts_image.proofs.Rising.{rising_absent}
 -- ---- the map of a rule
 
 pub cells_more : (cs : List ImageCell) (c : ImageCell) (m : CellMap) → with_image_cells (cs ++ c ∷ []) m ≡ finmap.insert (with_image_cells cs m) c.cell (parts_of c)
-cells_more [] c m = refl
-cells_more (d ∷ ds) c m = cells_more ds c (finmap.insert m d.cell (parts_of d))
+cells_more cs c m = fold-append (λ (n : CellMap) (d : ImageCell). finmap.insert n d.cell (parts_of d)) m cs (c ∷ [])
 
 -- ---- a rule's cells, one by one
 
@@ -85,11 +86,7 @@ pub no_lists : (b : Built) → b ≡ with_all_cells [] b
 no_lists b = refl
 
 each_at : {P : Type 0} (v : P → List ImageCell) (ps : List P) (i : ℕ) (ms : List CellMap) → get_or (with_each (map v (take i ps)) ms) i finmap.empty ≡ get_or ms i finmap.empty
-each_at v [] zero ms = refl
-each_at v [] (suc i) ms = refl
-each_at v (p ∷ ps) zero ms = refl
-each_at v (p ∷ ps) (suc i) [] = refl
-each_at v (p ∷ ps) (suc i) (m ∷ ms) = each_at v ps i ms
+each_at v ps i ms = ap (λ (cs : List (List ImageCell)). get_or (with_each cs ms) i finmap.empty) (sym (take-map v i ps)) ∙ beside-ahead with_image_cells (map v ps) ms i finmap.empty
 
 each_more : {P : Type 0} (v : P → List ImageCell) (ps : List P) (i : ℕ) (p : P) (ms : List CellMap) → i < length ps → p ≡ get_or ps i p
     → set (with_each (map v (take i ps)) ms) i (with_image_cells (v p) (get_or ms i finmap.empty)) ≡ with_each (map v (take (suc i) ps)) ms

@@ -23,7 +23,7 @@ use Rattle.ts_core.proofs.store.StateLemmas.{raw_duration_of}
 use Rattle.ts_store.specs.image.SavedContent.{SavedColumn, SavedSeries}
 use Rattle.ts_image.specs.declared.load_fault.LoadFault.{LoadFault}
 use Rattle.ts_image.specs.declared.version.Version.TheVariants.{V1, V2}
-use Rattle.ts_image.specs.Formats.{FitAlong}
+use Rattle.ts_image.specs.Formats.{Format, along}
 use Rattle.ts_image.specs.FormatLaws.{AreBytes}
 use Rattle.ts_image.specs.Images.{ImageRule, ImageColumn, ImageSeries, ImageData, image_column, image_series, image, image_text}
 use Rattle.ts_image.specs.ImageFaults.{IsImageOf, IsFaultOf, IsOfBytes}
@@ -109,20 +109,17 @@ unflagged_series : (k : StoreData) → ((c : Column) → is_waiting k.waiting c 
 unflagged_series k none [] = tt
 unflagged_series k none (s ∷ order) = (unflagged_columns k none s.columns, unflagged_series k none order)
 
-columns_fit : (ns : List ℕ) (cs : List ImageColumn) → AllByRecursion (λ (c : ImageColumn). c.waits ≡ 0) cs → FitAlong (λ (i : ℕ). image_column V2) ns cs → FitAlong (λ (i : ℕ). image_column V1) ns cs
-columns_fit [] [] u f = tt
-columns_fit [] (c ∷ cs) u f = absurd f
-columns_fit (n ∷ ns) [] u f = absurd f
-columns_fit (n ∷ ns) (c ∷ cs) u f = ((f.0.0, (u.0, f.0.1.1)), columns_fit ns cs u.1 f.1)
+each_fits : {X : Type 0} (f g : Format X) (P : X → Type 0) → ((x : X) → P x → f.fits x → g.fits x) → (ns : List ℕ) (xs : List X) → AllByRecursion P xs → (along (λ (i : ℕ). f) ns).fits xs → (along (λ (i : ℕ). g) ns).fits xs
+each_fits f g P h [] [] u w = tt
+each_fits f g P h [] (x ∷ xs) u w = absurd w
+each_fits f g P h (n ∷ ns) [] u w = absurd w
+each_fits f g P h (n ∷ ns) (x ∷ xs) u w = (h x u.0 w.0, each_fits f g P h ns xs u.1 w.1)
 
-series_fit : (ns : List ℕ) (ss : List ImageSeries) → AllByRecursion IsUnflagged ss → FitAlong (λ (i : ℕ). image_series V2) ns ss → FitAlong (λ (i : ℕ). image_series V1) ns ss
-series_fit [] [] u f = tt
-series_fit [] (s ∷ ss) u f = absurd f
-series_fit (n ∷ ns) [] u f = absurd f
-series_fit (n ∷ ns) (s ∷ ss) u f = ((f.0.0, (f.0.1.0, columns_fit (replicate (length s.columns) 0) s.columns u.0 f.0.1.1)), series_fit ns ss u.1 f.1)
+series_fits : (s : ImageSeries) → IsUnflagged s → (image_series V2).fits s → (image_series V1).fits s
+series_fits s u f = (f.0, (f.1.0, each_fits (image_column V2) (image_column V1) (λ (c : ImageColumn). c.waits ≡ 0) (λ c e w. (w.0, (e, w.1.1))) (replicate (length s.columns) 0) s.columns u f.1.1))
 
 data_fits : (d : ImageData) → d.runs ≡ 0 → AllByRecursion IsUnflagged d.series → (image V2).fits d → (image V1).fits d
-data_fits d e u f = (f.0, (f.1.0, (e, (f.1.1.1.0, ((f.1.1.1.1.0.0, series_fit (replicate (length d.series) 0) d.series u f.1.1.1.1.0.1), f.1.1.1.1.1)))))
+data_fits d e u f = (f.0, (f.1.0, (e, (f.1.1.1.0, ((f.1.1.1.1.0.0, each_fits (image_series V2) (image_series V1) IsUnflagged series_fits (replicate (length d.series) 0) d.series u f.1.1.1.1.0.1), f.1.1.1.1.1)))))
 
 idle_bit : (b : Bool) → (b ≡ true → ⊥) → bit b ≡ 0
 idle_bit true n = absurd (n refl)

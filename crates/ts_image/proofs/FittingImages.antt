@@ -1,6 +1,6 @@
 -- The data of each store fits the form of images.
 use Rattle.std.proofs.Common.{◌≡◌, ℕ, ◌+◌, ◌≤◌, ◌<◌, ◌^◌, ℤ, pos, negsuc, unsigned_abs, ◌≤ℤ◌, ◌+ℤ◌, ◌-ℤ◌, FitsSigned, w64, List, [], ◌∷◌, length, map, drop, refl, sym, ap, subst, arith}
-use Rattle.std.specs.List.{AllByRecursion}
+use Rattle.std.specs.List.{AllByRecursion, AllZip, zip}
 use Rattle.std.specs.FinMap as finmap
 use Rattle.std.proofs.lemmas.Int.{ints}
 use Rattle.std.proofs.lemmas.List.{length-map}
@@ -21,9 +21,9 @@ use Rattle.ts_store.specs.image.SavedContent.{SavedSeries, saved_key, FrozenCell
 use Rattle.ts_store.specs.store.PossibleCells.{IsBucketIndex, IsPossibleCell, HasPossibleCells, HavePossibleCells}
 use Rattle.ts_store.specs.store.SizedStores.{IsSized, IsSizedRule}
 use Rattle.ts_store.proofs.store.CountsKept.{length-within}
-use Rattle.ts_image.specs.Saving.{image_cell_of, frozen_cells_at, FitsCell, FitCellsFrom, FitSeries, IsOrder}
+use Rattle.ts_image.specs.Saving.{image_cell_of, FitsCell, FitCells, FitSeries, IsOrder}
 use Rattle.ts_image.proofs.Orders.{among_all, rising_distinct}
-use Rattle.ts_image.proofs.WrittenPictures.{first_of, entry_of}
+use Rattle.ts_image.proofs.WrittenPictures.{entry_of}
 
 -- ---- low indices
 
@@ -92,18 +92,13 @@ rule_fits : (r : Rule) (low : ℤ) (m : CellMap) → pos 1000000000 ≤ℤ r.int
 rule_fits r low m second offset possible =
     among_all (FitsCell r) (frozen_from low m) (λ z a. let is = cell_of_map r low m possible z a in record { index = index_fits r z.cell.index second offset is.index; group = is.group })
 
-rules_fit : (k : StoreData) (n : ℕ) (rs : List Rule) (lows : List ℤ) (ms : List CellMap) → drop n k.marks.lows ≡ lows → drop n k.cells ≡ ms → length lows ≡ length rs → length ms ≡ length rs → AllByRecursion (λ (r : Rule). pos 1000000000 ≤ℤ r.interval) rs → AllByRecursion IsPossibleRule rs → HavePossibleCells rs ms
-    → FitCellsFrom k n rs
-rules_fit k n [] lows ms e f i j second rules cells = tt
-rules_fit k n (r ∷ rs) [] ms e f i j second rules cells = absurd (omega (arith, i))
-rules_fit k n (r ∷ rs) (l ∷ lows) [] e f i j second rules cells = absurd (omega (arith, j))
-rules_fit k n (r ∷ rs) (l ∷ lows) (m ∷ ms) e f i j second rules cells =
-    let low = first_of k.marks.lows n (pos 0) l lows e in
-    let map_ = first_of k.cells n finmap.empty m ms f in
-    let here : frozen_from l m ≡ frozen_cells_at k n = sym (λ x. frozen_from (low.0 x) (map_.0 x)) in (
-      subst (AllByRecursion (FitsCell r)) here (rule_fits r l m second.0 rules.0.offset cells.0),
-      rules_fit k (n + 1) rs lows ms low.1 map_.1 (omega (arith, i)) (omega (arith, j)) second.1 rules.1 cells.1,
-    )
+rules_fit : (rs : List Rule) (lows : List ℤ) (ms : List CellMap) → length lows ≡ length rs → length ms ≡ length rs → AllByRecursion (λ (r : Rule). pos 1000000000 ≤ℤ r.interval) rs → AllByRecursion IsPossibleRule rs → HavePossibleCells rs ms
+    → AllZip (λ (r : Rule). AllByRecursion (FitsCell r)) rs (map (λ (x : ℤ × CellMap). frozen_from x.0 x.1) (zip lows ms))
+rules_fit [] [] ms i j second rules cells = tt
+rules_fit [] (l ∷ lows) ms i j second rules cells = absurd (omega (arith, i))
+rules_fit (r ∷ rs) [] ms i j second rules cells = absurd (omega (arith, i))
+rules_fit (r ∷ rs) (l ∷ lows) [] i j second rules cells = absurd (omega (arith, j))
+rules_fit (r ∷ rs) (l ∷ lows) (m ∷ ms) i j second rules cells = (rule_fits r l m second.0 rules.0.offset cells.0, rules_fit rs lows ms (omega (arith, i)) (omega (arith, j)) second.1 rules.1 cells.1)
 
-pub cells_fit : (k : StoreData) → IsSized k → AllByRecursion IsPossibleRule k.settings.rules → HavePossibleCells k.settings.rules k.cells → FitCellsFrom k 0 k.settings.rules
-cells_fit k sized rules cells = rules_fit k 0 k.settings.rules k.marks.lows k.cells refl refl sized.lows sized.cells (settings_are k.settings sized.settings).seconds rules cells
+pub cells_fit : (k : StoreData) → IsSized k → AllByRecursion IsPossibleRule k.settings.rules → HavePossibleCells k.settings.rules k.cells → FitCells k
+cells_fit k sized rules cells = rules_fit k.settings.rules k.marks.lows k.cells sized.lows sized.cells (settings_are k.settings sized.settings).seconds rules cells

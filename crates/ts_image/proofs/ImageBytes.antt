@@ -1,18 +1,19 @@
 -- The bytes of images, each below 256.
 use Rattle.std.proofs.Common.{◌≡◌, ℕ, zero, suc, ◌+◌, ◌<◌, ℤ, ◌%◌, ◌/◌, Bool, true, false, cond, ltb, List, [], ◌∷◌, ◌++◌, length, replicate, sym, subst, arith, refl, ⊎_elim}
 use Rattle.std.specs.Int.{Width, byte_len, w8, w32, w64, w128, byte_at, bytes_high_first, to_be_bytes, cast_unsigned}
+use Rattle.std.specs.List.{concat}
 use Rattle.std.specs.Str.{IsUtf8}
 use Rattle.std.proofs.Math.Nat.{mod-lt}
 use Rattle.std.proofs.lemmas.Bool.{and_parts, ltb-true}
+use Rattle.std.proofs.lemmas.List.Folds.{concat-append}
 use lib.Utf8.{scalar, scalars, scalar_cases, next, encode, encodes}
 use Rattle.ts_core.specs.facts.Facts.{Text}
 use Rattle.ts_core.specs.store.Marks.{Marks}
-use Rattle.ts_image.specs.Formats.{concat, Format, number, signed_number, text, and, also, fields_along, along, times, list_of}
+use Rattle.ts_image.specs.Formats.{Format, number, signed_number, text, and, also, along, times, list_of}
 use Rattle.ts_image.specs.FormatLaws.{AreBytes}
 use Rattle.ts_image.specs.declared.version.Version.{Version}
 use Rattle.ts_image.specs.declared.version.Version.TheVariants.{V1, V2}
 use Rattle.ts_image.specs.Images.{ImageRule, ImageSettings, ImageSeries, ImageCell, ImageData, flag, image_rule, image_settings, image_marks, image_series_key, image_point, image_column, image_series, image_cell_key, image_extremes, image_cell, image, version_byte, image_text}
-use Rattle.ts_image.proofs.Parts.{concat-append}
 
 -- each number is below 256
 abbrev Small : List ℕ → Type 0
@@ -92,7 +93,7 @@ along_spells : {X Y : Type 0} (f : Y → Format X) → ((y : Y) → Spells (f y)
 along_spells f p [] [] h = tt
 along_spells f p [] (x ∷ xs) h = absurd h
 along_spells f p (y ∷ ys) [] h = absurd h
-along_spells f p (y ∷ ys) (x ∷ xs) h = subst Small (sym (concat-append ((f y).fields x) (fields_along f ys xs))) (both_small (concat ((f y).fields x)) (concat (fields_along f ys xs)) (p y x h.0) (along_spells f p ys xs h.1))
+along_spells f p (y ∷ ys) (x ∷ xs) h = subst Small (sym (concat-append ((f y).fields x) ((along f ys).fields xs))) (both_small (concat ((f y).fields x)) (concat ((along f ys).fields xs)) (p y x h.0) (along_spells f p ys xs h.1))
 
 list_spells : {X : Type 0} (w : Width) (f : Format X) → Spells f → Spells (list_of w f)
 list_spells w f p xs h = and_spells (number w) (λ n. times n f) (number_spells w) (λ n. along_spells (λ (i : ℕ). f) (λ i. p) (replicate n 0)) (length xs, xs) h

@@ -1,15 +1,14 @@
 -- The laws of composed formats.
 use Rattle.std.proofs.Common.{◌≡◌, ℕ, zero, suc, ◌+◌, ◌≤◌, List, [], ◌∷◌, ◌++◌, length, replicate, Ok, Err, refl, sym, ap, ap₂, subst, ◌∙◌, append_assoc, arith, inl, inr, ◌⊎◌, ⊎_elim}
 use Rattle.std.specs.Int.{Width}
+use Rattle.std.specs.List.{concat}
 use Rattle.std.proofs.lemmas.List.{length-append, length-replicate}
+use Rattle.std.proofs.lemmas.List.Folds.{concat-append}
+use Rattle.std.proofs.lemmas.Slice.Zip.{AllZip-long}
 use Rattle.ts_core.specs.text.Steps.{◌>>=◌}
-use Rattle.ts_image.specs.Formats.{Cursor, concat, Read, Format, spelling, number, nothing, and, iso, FitAlong, read_along, along, times, list_of}
+use Rattle.ts_image.specs.Formats.{Cursor, Read, Format, spelling, number, nothing, and, iso, read_along, along, times, list_of}
 use Rattle.ts_image.specs.FormatLaws.{AreBytes, reach, ReadsValue, Reaches, IsFormat}
 use Rattle.ts_image.proofs.Fields.{bind_ok, bind_err, done, ok_is, nothing_format, done_not_failed}
-
-pub concat-append : (fs gs : List (List ℕ)) → concat (fs ++ gs) ≡ concat fs ++ concat gs
-concat-append [] gs = refl
-concat-append (f ∷ fs) gs = ap (λ x. f ++ x) (concat-append fs gs) ∙ sym (append_assoc f (concat fs) (concat gs))
 
 -- two ways to part one list: the first parts end one before the other
 parted : (xs ys fs gs : List (List ℕ)) → xs ++ ys ≡ fs ++ gs → ((t : List (List ℕ)) × (xs ≡ fs ++ t)) ⊎ ((t : List (List ℕ)) × (fs ≡ xs ++ t) × (ys ≡ t ++ gs))
@@ -219,7 +218,7 @@ module _ {X Y : Type 0} (f : Y → Format X) (law : (y : Y) → IsFormat (f y)) 
   abbrev nil : List X
   nil = []
 
-  none_back : (xs : List X) → FitAlong f [] xs → nil ≡ xs
+  none_back : (xs : List X) → (along f []).fits xs → nil ≡ xs
   none_back [] k = refl
   none_back (x ∷ xs) k = absurd k
 
@@ -231,7 +230,7 @@ module _ {X Y : Type 0} (f : Y → Format X) (law : (y : Y) → IsFormat (f y)) 
     back = λ xs k. (zero, refl, none_back xs k);
   })
 
-  uncons : (y : Y) (ys : List Y) (xs : List X) → FitAlong f (y ∷ ys) xs → (a : X × List X) × ((f y).fits a.0 × FitAlong f ys a.1) × (with_first a ≡ xs)
+  uncons : (y : Y) (ys : List Y) (xs : List X) → (along f (y ∷ ys)).fits xs → (a : X × List X) × ((f y).fits a.0 × (along f ys).fits a.1) × (with_first a ≡ xs)
   uncons y ys [] k = absurd k
   uncons y ys (x ∷ xs) k = ((x, xs), k, refl)
 
@@ -249,13 +248,7 @@ module _ {X Y : Type 0} (f : Y → Format X) (law : (y : Y) → IsFormat (f y)) 
 pub times_format : {X : Type 0} (f : Format X) → IsFormat f → (n : ℕ) → IsFormat (times n f)
 times_format f law n = along_format (λ (i : ℕ). f) (λ i. law) (replicate n 0)
 
-fit-length : {X Y : Type 0} (f : Y → Format X) (ys : List Y) (xs : List X) → FitAlong f ys xs → length xs ≡ length ys
-fit-length f [] [] k = refl
-fit-length f [] (x ∷ xs) k = absurd k
-fit-length f (y ∷ ys) [] k = absurd k
-fit-length f (y ∷ ys) (x ∷ xs) k = ap suc (fit-length f ys xs k.1)
-
 pub counted_format : {X : Type 0} (w : Width) (f : Format X) → IsFormat (number w) → IsFormat f → IsFormat (list_of w f)
 counted_format {X} w f wide law =
     iso_format (and (number w) (λ n. times n f)) (λ (a : ℕ × List X). a.1) (λ (xs : List X). (length xs, xs)) (and_format (number w) (λ n. times n f) wide (λ n. times_format f law n))
-    (λ a k. let e : length a.1 ≡ a.0 = fit-length (λ (i : ℕ). f) (replicate a.0 0) a.1 k.1 ∙ length-replicate a.0 0 in ap (λ (n : ℕ). (n, a.1)) e) (λ xs. refl)
+    (λ a k. let e : length a.1 ≡ a.0 = AllZip-long (λ (i : ℕ). f.fits) (replicate a.0 0) a.1 k.1 ∙ length-replicate a.0 0 in ap (λ (n : ℕ). (n, a.1)) e) (λ xs. refl)

@@ -2,16 +2,18 @@
 use Rattle.std.proofs.Common.{◌≡◌, ℕ, zero, suc, add-one, ◌+◌, ◌^◌, ◌<◌, ◌≤◌, List, [], ◌∷◌, ◌++◌, length, map, take, drop, get_or, refl, sym, ap, subst, ◌∙◌, append_assoc, append-nil, arith, Result, Ok, Err}
 use Rattle.std.specs.Prelude.{OnOk}
 use Rattle.std.specs.Int.{Width, w64, to_be_bytes}
+use Rattle.std.specs.List.{concat}
 use Rattle.std.specs.Str.{IsUtf8}
-use Rattle.std.proofs.lemmas.List.{take_all}
+use Rattle.std.proofs.lemmas.List.{take_all, drop_more, map_more, map-append, take-append-drop}
+use Rattle.std.proofs.lemmas.List.Folds.{concat-append}
+use Rattle.std.proofs.lemmas.Result.{on_ok_weaker}
 use Rattle.ts_core.specs.facts.Facts.{Text}
 use Rattle.ts_core.specs.io.Devices.{Output}
 use Rattle.ts_core.specs.declared.io.sink.Refused.{Refused}
 use Rattle.ts_core.specs.io.OutputBuffering.{IsBuffered}
 use Rattle.ts_core.proofs.io.OutputBufferLemmas.{done, refused, puts_join, refused_part, no_put}
-use Rattle.ts_image.specs.Formats.{Format, concat, spelling, number, text, and, also, iso, FitAlong, fields_along, along, times, list_of}
+use Rattle.ts_image.specs.Formats.{Format, spelling, number, text, and, also, iso, along, times, list_of}
 use Rattle.ts_image.specs.FieldWriting.{PutsField, PutsAll}
-use Rattle.ts_image.proofs.Parts.{concat-append}
 
 abbrev pub Answer : Type 0
 Answer = Result (Unit {0}) Refused
@@ -19,10 +21,6 @@ Answer = Result (Unit {0}) Refused
 on_ok : {P : Type 0} (r : Answer) → P → OnOk r P
 on_ok (Ok x) p = p
 on_ok (Err e) p = tt
-
-on_both : (P Q : Type 0) (r : Answer) → P → OnOk r Q → OnOk r (P × Q)
-on_both P Q (Ok x) p q = (p, q)
-on_both P Q (Err e) p q = tt
 
 -- ---- a field, a pair, and a converted value
 
@@ -50,7 +48,7 @@ puts_at {X} {f} {x} {y} {a} {c} {k} {m} {r} e p = subst (λ (z : X). PutsField f
 pub and_puts : {A B : Type 0} {f : Format A} (g : A → Format B) {x : A} {y : B} {a b c : Output} {k l m : Text} {r : Answer} → PutsField f x a k done b l → PutsField (g x) y b l r c m → PutsField (and f g) (x, y) a k r c m
 and_puts {A} {B} {f} g {x} {y} {a} {b} {c} {k} {l} {m} {r} p q = record {
   sent = subst (λ (t : Text). IsBuffered a k r t c m) (sym (concat-append (f.fields x) ((g x).fields y))) (puts_join a b c k l m r (spelling f x) (spelling (g x) y) p.sent q.sent);
-  fits = on_both (f.fits x) ((g x).fits y) r p.fits q.fits;
+  fits = on_ok_weaker r (λ h. (p.fits, h)) q.fits;
 }
 
 pub and_stops : {A B : Type 0} {f : Format A} (g : A → Format B) {x : A} (y : B) {a c : Output} {k m : Text} {e : Refused} (d : Refused) → PutsField f x a k (refused e) c m → PutsField (and f g) (x, y) a k (refused d) c m
@@ -120,46 +118,29 @@ list_stops w f xs d p = iso_puts _ _ xs (and_stops {f = number w} (λ (n : ℕ).
 -- ---- a value for each member of a list, all in the same format
 
 module _ {X Y : Type 0} (f : Format X) where
-  along-fields : (ys : List Y) (xs : List X) → length xs ≡ length ys → fields_along (λ (y : Y). f) ys xs ≡ (times (length xs) f).fields xs
-  along-fields [] [] e = refl
-  along-fields [] (x ∷ xs) e = absurd (omega (arith, e))
-  along-fields (y ∷ ys) [] e = absurd (omega (arith, e))
-  along-fields (y ∷ ys) (x ∷ xs) e = ap (λ (t : List Text). f.fields x ++ t) (along-fields ys xs (omega (arith, e)))
-
-  along-fit : (ys : List Y) (xs : List X) → length xs ≡ length ys → Fit f xs → FitAlong (λ (y : Y). f) ys xs
-  along-fit [] [] e h = tt
-  along-fit [] (x ∷ xs) e h = absurd (omega (arith, e))
-  along-fit (y ∷ ys) [] e h = absurd (omega (arith, e))
-  along-fit (y ∷ ys) (x ∷ xs) e h = (h.0, along-fit ys xs (omega (arith, e)) h.1)
-
-  fit_ok : (r : Answer) (ys : List Y) (xs : List X) → length xs ≡ length ys → OnOk r (Fit f xs) → OnOk r (FitAlong (λ (y : Y). f) ys xs)
-  fit_ok (Ok x) ys xs e h = along-fit ys xs e h
-  fit_ok (Err x) ys xs e h = tt
+  along_same : (ys : List Y) (xs : List X) → length xs ≡ length ys → ((along (λ (y : Y). f) ys).fields xs ≡ (times (length xs) f).fields xs) × (Fit f xs → (along (λ (y : Y). f) ys).fits xs)
+  along_same [] [] e = (refl, λ h. h)
+  along_same [] (x ∷ xs) e = absurd (omega (arith, e))
+  along_same (y ∷ ys) [] e = absurd (omega (arith, e))
+  along_same (y ∷ ys) (x ∷ xs) e = let rest = along_same ys xs (omega (arith, e)) in (ap (λ (t : List Text). f.fields x ++ t) rest.0, λ h. (h.0, rest.1 h.1))
 
   pub along_puts : (ys : List Y) (xs : List X) (a c : Output) (k m : Text) (r : Answer) → length xs ≡ length ys → PutsAll f xs a k r c m → PutsField (along (λ (y : Y). f) ys) xs a k r c m
   along_puts ys xs a c k m r e p = record {
-    sent = subst (λ (t : Text). IsBuffered a k r t c m) (ap concat (sym (along-fields ys xs e))) p.sent;
-    fits = fit_ok r ys xs e p.fits;
+    sent = subst (λ (t : Text). IsBuffered a k r t c m) (ap concat (sym (along_same ys xs e).0)) p.sent;
+    fits = on_ok_weaker r (along_same ys xs e).1 p.fits;
   }
 
 -- ---- loops over a list
 
 module _ {P X : Type 0} (f : Format X) (v : P → X) (a : Output) (k : Text) where
-  split_at : (ps : List P) (i : ℕ) (p : P) → i < length ps → p ≡ get_or ps i p → map v ps ≡ map v (take i ps) ++ v p ∷ map v (drop (suc i) ps)
-  split_at [] i p lt e = absurd (omega arith)
-  split_at (x ∷ xs) zero p lt e = ap (λ (y : P). v y ∷ map v xs) (sym e)
-  split_at (x ∷ xs) (suc i) p lt e = ap (λ (t : List X). v x ∷ t) (split_at xs i p (omega arith) e)
-
-  one_further : (ps : List P) (i : ℕ) (p : P) → i < length ps → p ≡ get_or ps i p → map v (take (suc i) ps) ≡ map v (take i ps) ++ v p ∷ []
-  one_further [] i p lt e = absurd (omega arith)
-  one_further (x ∷ xs) zero p lt e = ap (λ (y : P). v y ∷ []) (sym e)
-  one_further (x ∷ xs) (suc i) p lt e = ap (λ (t : List X). v x ∷ t) (one_further xs i p (omega arith) e)
-
   pub loop_more : (ps : List P) (i : ℕ) (p : P) (b c : Output) (l m : Text) → i < length ps → p ≡ get_or ps i p → PutsAll f (map v (take i ps)) a k done b l → PutsField f (v p) b l done c m → PutsAll f (map v (take (i + 1) ps)) a k done c m
-  loop_more ps i p b c l m lt e s q = subst (λ (xs : List X). PutsAll f xs a k done c m) (sym (ap (λ (n : ℕ). map v (take n ps)) (add-one i) ∙ one_further ps i p lt e)) (one_more f a k (map v (take i ps)) (v p) b c l m s q)
+  loop_more ps i p b c l m lt e s q = subst (λ (xs : List X). PutsAll f xs a k done c m) (ap (λ (x : P). map v (take i ps) ++ v x ∷ []) e ∙ sym (map_more v ps i p lt)) (one_more f a k (map v (take i ps)) (v p) b c l m s q)
 
   pub loop_stops : (ps : List P) (i : ℕ) (p : P) (b c : Output) (l m : Text) (x d : Refused) → i < length ps → p ≡ get_or ps i p → PutsAll f (map v (take i ps)) a k done b l → PutsField f (v p) b l (refused x) c m → PutsAll f (map v ps) a k (refused d) c m
-  loop_stops ps i p b c l m x d lt e s q = subst (λ (xs : List X). PutsAll f xs a k (refused d) c m) (sym (split_at ps i p lt e)) (one_refused f a k (map v (take i ps)) (map v (drop (suc i) ps)) (v p) b c l m x d s q)
+  loop_stops ps i p b c l m x d lt e s q =
+      let rest : drop i ps ≡ p ∷ drop (i + 1) ps = drop_more ps i p lt ∙ ap (λ (y : P). y ∷ drop (i + 1) ps) (sym e) in
+      let whole : map v ps ≡ map v (take i ps) ++ v p ∷ map v (drop (i + 1) ps) = ap (map v) (sym (take-append-drop i ps)) ∙ map-append v (take i ps) (drop i ps) ∙ ap (λ (qs : List P). map v (take i ps) ++ map v qs) rest in
+      subst (λ (xs : List X). PutsAll f xs a k (refused d) c m) (sym whole) (one_refused f a k (map v (take i ps)) (map v (drop (i + 1) ps)) (v p) b c l m x d s q)
 
   pub loop_ends : (ps : List P) (i : ℕ) (b : Output) (l : Text) → length ps ≤ i → PutsAll f (map v (take i ps)) a k done b l → PutsAll f (map v ps) a k done b l
   loop_ends ps i b l le s = subst (λ (xs : List P). PutsAll f (map v xs) a k done b l) (take_all i ps le) s
@@ -176,19 +157,15 @@ module _ {P X : Type 0} (f : Format X) (v : P → X) (a : Output) (k : Text) whe
   pub going_starts : (all left : List P) → left ≡ all → Going all left a k
   going_starts all left e = record { given = []; whole = sym e; put = none_put f a k }
 
-  map-more : (xs ys : List P) → map v (xs ++ ys) ≡ map v xs ++ map v ys
-  map-more [] ys = refl
-  map-more (x ∷ xs) ys = ap (λ (t : List X). v x ∷ t) (map-more xs ys)
-
   pub going_on : (all left rest : List P) (p : P) (b c : Output) (l m : Text) → left ≡ p ∷ rest → Going all left b l → PutsField f (v p) b l done c m → Going all rest c m
   going_on all left rest p b c l m e g q = record {
     given = g.given ++ p ∷ [];
     whole = g.whole ∙ ap (λ (t : List P). g.given ++ t) e ∙ sym (append_assoc g.given (p ∷ []) rest);
-    put = subst (λ (xs : List X). PutsAll f xs a k done c m) (sym (map-more g.given (p ∷ []))) (one_more f a k (map v g.given) (v p) b c l m g.put q);
+    put = subst (λ (xs : List X). PutsAll f xs a k done c m) (sym (map-append v g.given (p ∷ []))) (one_more f a k (map v g.given) (v p) b c l m g.put q);
   }
 
   pub going_stops : (all left rest : List P) (p : P) (b c : Output) (l m : Text) (x d : Refused) → left ≡ p ∷ rest → Going all left b l → PutsField f (v p) b l (refused x) c m → PutsAll f (map v all) a k (refused d) c m
-  going_stops all left rest p b c l m x d e g q = subst (λ (xs : List X). PutsAll f xs a k (refused d) c m) (sym (ap (map v) (g.whole ∙ ap (λ (t : List P). g.given ++ t) e) ∙ map-more g.given (p ∷ rest))) (one_refused f a k (map v g.given) (map v rest) (v p) b c l m x d g.put q)
+  going_stops all left rest p b c l m x d e g q = subst (λ (xs : List X). PutsAll f xs a k (refused d) c m) (sym (ap (map v) (g.whole ∙ ap (λ (t : List P). g.given ++ t) e) ∙ map-append v g.given (p ∷ rest))) (one_refused f a k (map v g.given) (map v rest) (v p) b c l m x d g.put q)
 
   pub going_ends : (all left : List P) (b : Output) (l : Text) → left ≡ [] → Going all left b l → PutsAll f (map v all) a k done b l
   going_ends all left b l e g = subst (λ (xs : List P). PutsAll f (map v xs) a k done b l) (sym (g.whole ∙ ap (λ (t : List P). g.given ++ t) e ∙ append-nil g.given)) g.put

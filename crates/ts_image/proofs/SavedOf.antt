@@ -1,9 +1,11 @@
 -- Columns and cells of a store as they are saved.
-use Rattle.std.proofs.Common.{◌≡◌, ◌↔◌, ◌⊎◌, inl, inr, ℕ, ℤ, zero, suc, add-one, ◌+◌, ◌<◌, Bool, true, false, ◌&&◌, cond, int_le, nat_lt, List, [], ◌∷◌, ◌++◌, length, map, filter, take, refl, sym, ap, ◌∙◌, arith}
-use Rattle.std.specs.Prelude.{IsTrue, slice_index_or}
+use Rattle.std.proofs.Common.{◌≡◌, ◌↔◌, ℕ, ℤ, zero, suc, ◌<◌, Bool, true, false, ◌&&◌, cond, int_le, nat_lt, List, [], ◌∷◌, length, map, filter, refl, sym, ap, ◌∙◌, arith}
+use Rattle.std.specs.Prelude.{IsTrue, pos, min, slice_index_or}
 use Rattle.std.specs.Int.{w32, w64}
-use Rattle.std.specs.List.{AllByRecursion}
+use Rattle.std.specs.List.{AllByRecursion, zip}
 use Rattle.std.specs.FinMap as finmap
+use Rattle.std.proofs.lemmas.List.{length-map, get_or-map}
+use Rattle.std.proofs.lemmas.Slice.Zip.{length-zip, get_or-zip}
 use Rattle.ts_core.specs.lists.Members.{Among}
 use Rattle.ts_core.specs.lists.Numbered.{IsAt}
 use Rattle.ts_core.specs.facts.Facts.{Text, Column}
@@ -12,14 +14,14 @@ use Rattle.ts_core.specs.store.RawFacts.{is_waiting}
 use Rattle.ts_core.specs.aggregates.Aggregates.{Aggregate}
 use Rattle.ts_core.specs.store.Cells.{Cell}
 use Rattle.ts_core.specs.store.StoreStates.{CellParts}
-use Rattle.ts_core.specs.settings.Settings.{Rule}
 use Rattle.ts_core.specs.store.StoreData.{CellMap, StoreData}
 use Rattle.ts_core.proofs.store.StateLemmas.{is_waiting-there, is_waiting-not}
 use Rattle.ts_store.specs.image.SavedContent.{FrozenCell, frozen_from}
+use Rattle.ts_store.specs.store.SizedStores.{IsSized}
 use Rattle.ts_image.specs.declared.version.Version.{Version}
 use Rattle.ts_image.specs.Formats.{Format, number, also, along, list_of}
 use Rattle.ts_image.specs.Images.{ImageRule, ImageSettings, ImageColumn, ImageSeries, ImageCell, flag, image_marks, image_series, image_cell}
-use Rattle.ts_image.specs.Saving.{frozen_cells_at, cell_counts_from}
+use Rattle.ts_image.specs.Saving.{saved_cells, saved_cells_at}
 
 abbrev pub column_with : Text → ℕ → List (ℤ × ℤ) → ImageColumn
 column_with field waits points = record { field = field; waits = waits; points = points }
@@ -57,26 +59,21 @@ some_of low (e ∷ es) =
 pub frozen_some : (low : ℤ) (m : CellMap) → AllByRecursion (λ (c : FrozenCell). 0 < c.frozen.count) (frozen_from low m)
 frozen_some low m = some_of low (finmap.entries m)
 
--- ---- numbers of cells
+-- ---- rule by rule
 
-counts_suc : (k : StoreData) (i n : ℕ) (rs : List Rule) → n < length rs → cell_counts_from k i (take (suc n) rs) ≡ cell_counts_from k i (take n rs) ++ length (frozen_cells_at k (i + n)) ∷ []
-counts_suc k i n [] lt = absurd (omega arith)
-counts_suc k i zero (r ∷ rs) lt = ap (λ (m : ℕ). length (frozen_cells_at k m) ∷ []) (let z : i ≡ i + zero = omega arith in z)
-counts_suc k i (suc n) (r ∷ rs) lt =
-    let z : (i + 1) + n ≡ i + suc n = omega arith in
-    ap (λ (xs : List ℕ). length (frozen_cells_at k i) ∷ xs) (counts_suc k (i + 1) n rs (omega arith) ∙ ap (λ (m : ℕ). cell_counts_from k (i + 1) (take n rs) ++ length (frozen_cells_at k m) ∷ []) z)
+-- each rule has its saved cells
+pub saved-length : (k : StoreData) → IsSized k → length (saved_cells k) ≡ length k.settings.rules
+saved-length k sized =
+    let lows = sized.lows in
+    let cells = sized.cells in
+    let both = length-zip k.marks.lows k.cells in
+    length-map (zip k.marks.lows k.cells) _ ∙ (let e : min (length k.marks.lows) (length k.cells) ≡ length k.settings.rules = omega (arith, lows, cells) in both ∙ e)
 
--- the cells of one more rule are counted
-pub counts_next : (k : StoreData) (n : ℕ) (rs : List Rule) → n < length rs → cell_counts_from k 0 (take (n + 1) rs) ≡ cell_counts_from k 0 (take n rs) ++ length (frozen_cells_at k n) ∷ []
-counts_next k n rs lt =
-    let z : 0 + n ≡ n = omega arith in
-    ap (λ (m : ℕ). cell_counts_from k 0 (take m rs)) (add-one n) ∙ counts_suc k 0 n rs lt ∙ ap (λ (m : ℕ). cell_counts_from k 0 (take n rs) ++ length (frozen_cells_at k m) ∷ []) z
-
--- no rule is left once no count is
-pub no_rule_left : (k : StoreData) (n : ℕ) (rs : List Rule) (counts : List ℕ) → counts ≡ cell_counts_from k n rs → (rs ≡ []) ⊎ (counts ≡ []) → rs ≡ []
-no_rule_left k n [] counts are e = refl
-no_rule_left k n (r ∷ rs) counts are (inl e) = e
-no_rule_left k n (r ∷ rs) counts are (inr e) = absurd (omega (arith, ap length (sym e ∙ are)))
+pub saved_at : (k : StoreData) (n : ℕ) → n < length (saved_cells k) → saved_cells_at k n ≡ frozen_from (slice_index_or k.marks.lows n (pos 0)) (slice_index_or k.cells n finmap.empty)
+saved_at k n lt =
+    let all = length-map (zip k.marks.lows k.cells) (λ (x : ℤ × CellMap). frozen_from x.0 x.1) in
+    let both = length-zip k.marks.lows k.cells in
+    get_or-map _ (zip k.marks.lows k.cells) n (pos 0, finmap.empty) [] (omega (arith, all)) ∙ ap (λ (x : ℤ × CellMap). frozen_from x.0 x.1) (get_or-zip k.marks.lows k.cells n (pos 0, finmap.empty) (omega (arith, all, both)) (omega (arith, all, both)))
 
 -- ---- the format
 

@@ -1,6 +1,7 @@
 -- A store under construction, series by series.
 use Rattle.std.proofs.Common.{◌≡◌, ◌<◌, ◌≤◌, Bool, List, [], ◌∷◌, ◌++◌, length, map, refl, sym, ap, subst, ◌∙◌, inl, inr, ⊎_elim, arith, append_assoc, append-nil, length-append}
 use Rattle.std.proofs.lemmas.List.{map-append, length-map}
+use Rattle.std.proofs.lemmas.List.Concat.{flat_map-append}
 use Rattle.ts_core.specs.lists.Members.{Among}
 use Rattle.ts_core.specs.facts.Facts.{Text, Series, Column, series_cmp}
 use Rattle.ts_core.specs.store.StoreStates.{ColumnPoints, column_of}
@@ -17,14 +18,6 @@ pub same_key : {m n : Text} {ts us : List (Text × Text)} → m ≡ n → ts ≡
 same_key a b i = record { measurement = a i; tags = b i }
 
 -- ---- more series
-
-columns_of_image-append : (ss ts : List ImageSeries) → columns_of_image (ss ++ ts) ≡ columns_of_image ss ++ columns_of_image ts
-columns_of_image-append [] ts = refl
-columns_of_image-append (s ∷ ss) ts = ap (λ (xs : List ColumnPoints). map (image_points_in s.series) s.columns ++ xs) (columns_of_image-append ss ts) ∙ sym (append_assoc (map (image_points_in s.series) s.columns) (columns_of_image ss) (columns_of_image ts))
-
-waits_in-append : (ss ts : List ImageSeries) → waits_in (ss ++ ts) ≡ waits_in ss ++ waits_in ts
-waits_in-append [] ts = refl
-waits_in-append (s ∷ ss) ts = ap (λ (xs : List Bool). map is_column_waiting s.columns ++ xs) (waits_in-append ss ts) ∙ sym (append_assoc (map is_column_waiting s.columns) (waits_in ss) (waits_in ts))
 
 pub no_series : (b : Built) → b ≡ with_all_series [] b
 no_series b i = record {
@@ -45,8 +38,8 @@ series_more ss ts b i = record {
   running = b.running;
   accepted = b.accepted;
   series = (append_assoc b.series (map key_in ss) (map key_in ts) ∙ ap (λ (xs : List Series). b.series ++ xs) (sym (map-append key_in ss ts))) i;
-  columns = (append_assoc b.columns (columns_of_image ss) (columns_of_image ts) ∙ ap (λ (xs : List ColumnPoints). b.columns ++ xs) (sym (columns_of_image-append ss ts))) i;
-  waits = (append_assoc b.waits (waits_in ss) (waits_in ts) ∙ ap (λ (xs : List Bool). b.waits ++ xs) (sym (waits_in-append ss ts))) i;
+  columns = (append_assoc b.columns (columns_of_image ss) (columns_of_image ts) ∙ ap (λ (xs : List ColumnPoints). b.columns ++ xs) (sym (flat_map-append (λ (s : ImageSeries). map (image_points_in s.series) s.columns) ss ts))) i;
+  waits = (append_assoc b.waits (waits_in ss) (waits_in ts) ∙ ap (λ (xs : List Bool). b.waits ++ xs) (sym (flat_map-append (λ (s : ImageSeries). map is_column_waiting s.columns) ss ts))) i;
   cells = b.cells;
 }
 

@@ -3,7 +3,7 @@
 use Rattle.std.proofs.Common.{◌≡◌, ℕ, zero, suc, ◌+◌, ◌≤◌, ◌<◌, ℤ, pos, ◌≤ℤ◌, int_le, nat_lt, not, ◌==◌, Bool, true, false, cond, ◌&&◌, List, [], ◌∷◌, T, length, map, filter, drop, refl, sym, ◌∙◌, ap, subst, true≢false, arith, Some, None, Option, MatchOption, is_lt}
 use Rattle.std.specs.Prelude.{slice_index_or}
 use Rattle.std.specs.Ordering.{int_cmp}
-use Rattle.std.specs.List.{AllByRecursion}
+use Rattle.std.specs.List.{AllByRecursion, zip}
 use Rattle.std.specs.FinMap as finmap
 use Rattle.std.specs.FinMap.{is_sorted, get-entries, entries_sorted}
 use Rattle.std.specs.FinMap.Entries.{below_all}
@@ -46,7 +46,7 @@ use Rattle.ts_store.specs.store.SizedStores.{IsSized}
 use Rattle.ts_store.proofs.store.Stands.{waiting_among}
 use Rattle.ts_store.proofs.read.ShownCells.{entry_found}
 use Rattle.ts_image.specs.SavedParts.{image_rule_of, image_settings_of, extremes_in}
-use Rattle.ts_image.specs.Saving.{image_cell_of, frozen_cells_at, image_cells_from, column_at, image_column_of, image_series_of, store_image}
+use Rattle.ts_image.specs.Saving.{image_cell_of, column_at, image_column_of, image_series_of, store_image}
 use Rattle.ts_image.specs.WrittenImages.{WrittenImagesAreAcceptable}
 use Rattle.ts_image.proofs.Orders.{all_among, among_all, rising_keys, of_both}
 use Rattle.ts_image.proofs.RawPictures.{series_of, field_of, column_here, column_from, waiting_here, waiting_from}
@@ -271,35 +271,22 @@ written_kept low m = among_all (λ (c : ImageCell). low ≤ℤ c.cell.index) (wr
 
 -- ---- rule by rule
 
-pub first_of : {X : Type 0} (xs : List X) (n : ℕ) (d y : X) (ys : List X) → drop n xs ≡ y ∷ ys → (slice_index_or xs n d ≡ y) × (drop (n + 1) xs ≡ ys)
-first_of [] zero d y ys e = absurd (cons_not (sym e))
-first_of [] (suc n) d y ys e = absurd (cons_not (sym e))
-first_of (x ∷ xs) zero d y ys e = (same_head x y xs ys e, same_rest x y xs ys e)
-first_of {X} (x ∷ xs) (suc n) d y ys e =
-    let rest = first_of xs n d y ys e in
-    (rest.0, subst (λ (i : ℕ). drop i (x ∷ xs) ≡ ys) (let z : suc (n + 1) ≡ suc n + 1 = omega arith in z) rest.1)
-
-all_written : (k : StoreData) (cut : Column → ℤ) (fs : List Fact) (n : ℕ) (rs : List Rule) (lows : List ℤ) (ms : List CellMap) → drop n k.marks.lows ≡ lows → drop n k.cells ≡ ms → length lows ≡ length rs → length ms ≡ length rs
-    → AllByRecursion (HasCells cut fs) (rules_of rs lows ms) → PictureCells lows ms (image_cells_from k n rs) × AreOrderlyCells lows (image_cells_from k n rs)
-all_written k cut fs n [] [] [] e f i j h = ((refl, tt), tt)
-all_written k cut fs n [] [] (m ∷ ms) e f i j h = absurd (omega (arith, j))
-all_written k cut fs n [] (l ∷ lows) ms e f i j h = absurd (omega (arith, i))
-all_written k cut fs n (r ∷ rs) [] ms e f i j h = absurd (omega (arith, i))
-all_written k cut fs n (r ∷ rs) (l ∷ lows) [] e f i j h = absurd (omega (arith, j))
-all_written k cut fs n (r ∷ rs) (l ∷ lows) (m ∷ ms) e f i j h =
-    let low = first_of k.marks.lows n (pos 0) l lows e in
-    let map_ = first_of k.cells n finmap.empty m ms f in
-    let rest = all_written k cut fs (n + 1) rs lows ms low.1 map_.1 (omega (arith, i)) (omega (arith, j)) h.1 in
-    let here : written l m ≡ map image_cell_of (frozen_cells_at k n) = sym (λ x. written (low.0 x) (map_.0 x)) in (
-      (omega (arith, rest.0.0), (subst (PicturesCells l m) here (written_pictures cut fs r l m h.0), rest.0.1)),
-      (subst (IsOrderlyRule l) here (record { kept = written_kept l m; rising = written_rising l m }), rest.1),
-    )
+all_written : (cut : Column → ℤ) (fs : List Fact) (rs : List Rule) (lows : List ℤ) (ms : List CellMap) → length lows ≡ length rs → length ms ≡ length rs → AllByRecursion (HasCells cut fs) (rules_of rs lows ms)
+    → (let cells : List (List ImageCell) = map (map image_cell_of) (map (λ (x : ℤ × CellMap). frozen_from x.0 x.1) (zip lows ms)) in PictureCells lows ms cells × AreOrderlyCells lows cells)
+all_written cut fs [] [] [] i j h = ((refl, tt), tt)
+all_written cut fs [] [] (m ∷ ms) i j h = absurd (omega (arith, j))
+all_written cut fs [] (l ∷ lows) ms i j h = absurd (omega (arith, i))
+all_written cut fs (r ∷ rs) [] ms i j h = absurd (omega (arith, i))
+all_written cut fs (r ∷ rs) (l ∷ lows) [] i j h = absurd (omega (arith, j))
+all_written cut fs (r ∷ rs) (l ∷ lows) (m ∷ ms) i j h =
+    let rest = all_written cut fs rs lows ms (omega (arith, i)) (omega (arith, j)) h.1 in
+    ((omega (arith, rest.0.0), (written_pictures cut fs r l m h.0, rest.0.1)), (record { kept = written_kept l m; rising = written_rising l m }, rest.1))
 
 -- ---- the whole
 
 module _ (opening : Settings) (h : History) (k : StoreData) (order : List SavedSeries) (st : StandsFor opening h (state_of k)) (sized : IsSized k) (w : SavesSeries k.series (map column_of k.columns) order) where
-  cells_written : PictureCells k.marks.lows k.cells (image_cells_from k 0 k.settings.rules) × AreOrderlyCells k.marks.lows (image_cells_from k 0 k.settings.rules)
-  cells_written = all_written k (kept_from opening h k.waiting) (latest_of h) 0 k.settings.rules k.marks.lows k.cells refl refl sized.lows sized.cells st.rolled
+  cells_written : PictureCells k.marks.lows k.cells (store_image k order).cells × AreOrderlyCells k.marks.lows (store_image k order).cells
+  cells_written = all_written (kept_from opening h k.waiting) (latest_of h) k.settings.rules k.marks.lows k.cells sized.lows sized.cells st.rolled
 
   pub written_picture : IsPictureOf k (store_image k order)
   written_picture = record {

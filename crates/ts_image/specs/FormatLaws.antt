@@ -1,6 +1,7 @@
 -- Laws of formats: reading and spelling are inverse, and no value's fields reach further than reading. (Own rules.)
 use Rattle.std.specs.Prelude.{◌≡◌, ℕ, ◌+◌, ◌<◌, ◌≤◌, List, ◌++◌, length, get_or, Result, Ok, Err, IfOk, IfErr}
-use Rattle.ts_image.specs.Formats.{Cursor, Read, Format, concat, spelling}
+use Rattle.std.specs.List.{concat}
+use Rattle.ts_image.specs.Formats.{Cursor, Read, Format, spelling}
 
 -- each number is below 256
 abbrev pub AreBytes : List ℕ → Type 0

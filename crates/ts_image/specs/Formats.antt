@@ -1,6 +1,7 @@
 -- Formats: values as fields, which are read from left to right up to the first field that isn't whole. The format of a
 -- record is composed of the formats of its parts, so laws are proved once per way of composing. (Own rules.)
 use Rattle.std.specs.Prelude.{◌≡◌, ℕ, ◌+◌, ◌<◌, ◌^◌, ℤ, Bool, false, nat_lt, List, [], ◌∷◌, ◌++◌, length, take, drop, replicate, Result, Ok, Err, ◌==◌, if◌then◌else◌, FitsSigned}
+use Rattle.std.specs.List.{AllZip, concat, flat_map, zip}
 use Rattle.std.specs.Int.{Width, w64, byte_len, cast_unsigned, cast_signed, to_be_bytes, from_be_bytes}
 use mir.Val.{bits}
 use Rattle.std.specs.Str.{IsUtf8, is_utf8}
@@ -16,11 +17,6 @@ pub record Cursor : Type 0 where
 abbrev pub advanced : ℕ → Cursor → Cursor
 advanced n p = record { at = p.at + n; rest = drop n p.rest }
 
--- the bytes of all fields
-abbrev pub concat : List (List ℕ) → List ℕ
-concat [] = []
-concat (f ∷ fs) = f ++ concat fs
-
 -- a reading: a value and the position after it, or the offset of the first field that isn't whole
 abbrev pub Read : Type 0 → Type 0
 Read X = Result (X × Cursor) ℕ
@@ -31,6 +27,7 @@ pub record Format (X : Type 0) : Type 1 where
   pub fields : X → List (List ℕ)
   pub read : Cursor → Read X
 
+-- the bytes of all fields of a value
 abbrev pub spelling : {X : Type 0} → Format X → X → List ℕ
 spelling f x = concat (f.fields x)
 
@@ -76,24 +73,13 @@ and f g = record {
 abbrev pub iso : {A X : Type 0} → Format A → (A → X) → (X → A) → Format X
 iso f to from = record { fits = λ x. f.fits (from x); fields = λ x. f.fields (from x); read = λ p. f.read p >>= λ a. Ok (to a.0, a.1) }
 
-abbrev pub FitAlong : {X Y : Type 0} → (Y → Format X) → List Y → List X → Type 0
-FitAlong f [] [] = Unit {0}
-FitAlong f [] (x ∷ xs) = ⊥
-FitAlong f (y ∷ ys) [] = ⊥
-FitAlong f (y ∷ ys) (x ∷ xs) = (f y).fits x × FitAlong f ys xs
-
-abbrev pub fields_along : {X Y : Type 0} → (Y → Format X) → List Y → List X → List (List ℕ)
-fields_along f [] xs = []
-fields_along f (y ∷ ys) [] = []
-fields_along f (y ∷ ys) (x ∷ xs) = (f y).fields x ++ fields_along f ys xs
-
 abbrev pub read_along : {X Y : Type 0} → (Y → Format X) → List Y → Cursor → Read (List X)
 read_along f [] p = Ok ([], p)
 read_along f (y ∷ ys) p = (f y).read p >>= λ x. read_along f ys x.1 >>= λ xs. Ok (x.0 ∷ xs.0, xs.1)
 
 -- a value per member of a list, which its format may depend on
 abbrev pub along : {X Y : Type 0} → (Y → Format X) → List Y → Format (List X)
-along f ys = record { fits = FitAlong f ys; fields = fields_along f ys; read = read_along f ys }
+along {X} {Y} f ys = record { fits = AllZip (λ y. (f y).fits) ys; fields = λ xs. flat_map (λ (p : Y × X). (f p.0).fields p.1) (zip ys xs); read = read_along f ys }
 
 -- n values
 abbrev pub times : {X : Type 0} → ℕ → Format X → Format (List X)

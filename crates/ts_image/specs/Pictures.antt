@@ -1,7 +1,8 @@
 -- The picture of a store in its image, in the image's order: all data except live parts, empty cells, and cells below a
 -- low index. (Own rules.)
-use Rattle.std.specs.Prelude.{◌≡◌, ◌↔◌, ℤ, ◌≤ℤ◌, ◌<◌, ◌==◌, List, [], ◌∷◌, ◌++◌, map, filter, Some, length}
+use Rattle.std.specs.Prelude.{◌≡◌, ◌↔◌, ℤ, ◌≤ℤ◌, ◌<◌, ◌==◌, List, map, filter, Some, length}
 use Rattle.std.specs.FinMap as finmap
+use Rattle.std.specs.List.{flat_map}
 use Rattle.ts_core.specs.lists.Members.{Among, AllDistinct}
 use Rattle.ts_core.specs.lists.Beside.{AllZipBeside}
 use Rattle.ts_core.specs.facts.Facts.{Series, Column}
@@ -23,12 +24,10 @@ image_points_in s c = record { column = column_of_image s c; points = c.points }
 
 -- the columns of series with their points, and the waiting ones
 abbrev pub columns_of_image : List ImageSeries → List ColumnPoints
-columns_of_image [] = []
-columns_of_image (s ∷ ss) = map (image_points_in s.series) s.columns ++ columns_of_image ss
+columns_of_image = flat_map (λ (s : ImageSeries). map (image_points_in s.series) s.columns)
 
 abbrev pub waiting_of_image : List ImageSeries → List Column
-waiting_of_image [] = []
-waiting_of_image (s ∷ ss) = map (column_of_image s.series) (filter (λ (c : ImageColumn). c.waits == 1) s.columns) ++ waiting_of_image ss
+waiting_of_image = flat_map (λ (s : ImageSeries). map (column_of_image s.series) (filter (λ (c : ImageColumn). c.waits == 1) s.columns))
 
 abbrev pub cell_part_of : ImageCell → Aggregate
 cell_part_of c = record { count = c.count; sum = c.sum; extremes = Some c.extremes }

@@ -1,13 +1,12 @@
 -- The image of a store, as it is written. (Own rules.)
-use Rattle.std.specs.Prelude.{◌≡◌, ◌+◌, ◌<◌, ◌^◌, ℕ, pos, FitsSigned, slice_index_or, List, [], ◌∷◌, map, length, Result, Ok, Err, OnOk}
+use Rattle.std.specs.Prelude.{◌≡◌, ◌+◌, ◌<◌, ◌^◌, ℕ, ℤ, FitsSigned, slice_index_or, List, [], map, length, Result, Ok, Err, OnOk}
 use Rattle.std.specs.Int.{w64}
-use Rattle.std.specs.List.{AllByRecursion}
-use Rattle.std.specs.FinMap as finmap
+use Rattle.std.specs.List.{AllByRecursion, AllZip, zip}
 use Rattle.std.specs.Io.KnownBytes.{Appends}
 use Rattle.ts_core.specs.settings.Settings.{Rule}
 use Rattle.ts_core.specs.store.RawFacts.{is_waiting}
 use Rattle.ts_core.specs.store.StoreStates.{ColumnPoints, column_of}
-use Rattle.ts_core.specs.store.StoreData.{StoreData}
+use Rattle.ts_core.specs.store.StoreData.{CellMap, StoreData}
 use Rattle.ts_core.specs.io.ReadingAhead.{bit}
 use Rattle.ts_core.specs.io.Devices.{Output, AppendsFront}
 use Rattle.ts_store.specs.image.SavedContent.{SavedColumn, SavedSeries, SavesSeries, FrozenCell, frozen_from}
@@ -23,23 +22,15 @@ use Rattle.ts_image.specs.Images.{ImageColumn, ImageSeries, ImageCell, ImageData
 abbrev pub image_cell_of : FrozenCell → ImageCell
 image_cell_of c = image_cell_with c.cell c.frozen
 
--- the saved cells of the rule with this index
-abbrev pub frozen_cells_at : StoreData → ℕ → List FrozenCell
-frozen_cells_at k n = frozen_from (slice_index_or k.marks.lows n (pos 0)) (slice_index_or k.cells n finmap.empty)
+-- the saved cells of each rule, and their numbers
+abbrev pub saved_cells : StoreData → List (List FrozenCell)
+saved_cells k = map (λ (x : ℤ × CellMap). frozen_from x.0 x.1) (zip k.marks.lows k.cells)
 
--- the same for each of the rules from an index on
-abbrev pub image_cells_from : StoreData → ℕ → List Rule → List (List ImageCell)
-image_cells_from k n [] = []
-image_cells_from k n (r ∷ rs) = map image_cell_of (frozen_cells_at k n) ∷ image_cells_from k (n + 1) rs
+abbrev pub saved_cells_at : StoreData → ℕ → List FrozenCell
+saved_cells_at k n = slice_index_or (saved_cells k) n []
 
--- the number of saved cells of each of the rules from an index on
-abbrev pub cell_counts_from : StoreData → ℕ → List Rule → List ℕ
-cell_counts_from k n [] = []
-cell_counts_from k n (r ∷ rs) = length (frozen_cells_at k n) ∷ cell_counts_from k (n + 1) rs
-
--- the number of saved cells of each rule
 abbrev pub cell_counts : StoreData → List ℕ
-cell_counts k = cell_counts_from k 0 k.settings.rules
+cell_counts k = map length (saved_cells k)
 
 abbrev pub column_at : StoreData → SavedColumn → ColumnPoints
 column_at k c = slice_index_or k.columns c.number no_points
@@ -62,7 +53,7 @@ store_image k saved = record {
   runs = bit k.running;
   accepted = k.accepted;
   series = map (image_series_of k) saved;
-  cells = image_cells_from k 0 k.settings.rules;
+  cells = map (map image_cell_of) (saved_cells k);
 }
 
 -- ---- requirements of the form, which each store meets
@@ -72,10 +63,9 @@ pub record FitsCell (r : Rule) (c : FrozenCell) : Type 0 where
   pub index : FitsSigned w64 c.cell.index
   pub group : length c.cell.group ≡ length r.kept_tags
 
--- the cells of each of the rules from an index on
-abbrev pub FitCellsFrom : StoreData → ℕ → List Rule → Type 0
-FitCellsFrom k n [] = Unit {0}
-FitCellsFrom k n (r ∷ rs) = AllByRecursion (FitsCell r) (frozen_cells_at k n) × FitCellsFrom k (n + 1) rs
+-- each rule has its saved cells, and they fit
+abbrev pub FitCells : StoreData → Type 0
+FitCells k = AllZip (λ (r : Rule). AllByRecursion (FitsCell r)) k.settings.rules (saved_cells k)
 
 -- each series has few tags, and there are few series
 pub record FitSeries (all : List SavedSeries) : Type 0 where

@@ -1,8 +1,8 @@
 -- Stores created from images. (Own rules.)
-use Rattle.std.specs.Prelude.{◌≡◌, ◌==◌, ℕ, ℤ, Bool, List, [], ◌∷◌, ◌++◌, map, set}
+use Rattle.std.specs.Prelude.{◌≡◌, ◌==◌, ℕ, ℤ, Bool, List, ◌++◌, map, set}
 use Rattle.std.specs.FinMap as finmap
 use Rattle.std.specs.Ordering.{int_cmp}
-use Rattle.std.specs.List.{AllByRecursion}
+use Rattle.std.specs.List.{AllByRecursion, flat_map, fold}
 use Rattle.ts_core.specs.lists.Beside.{changed_beside}
 use Rattle.ts_core.specs.facts.Facts.{Series, text_cmp}
 use Rattle.ts_core.specs.aggregates.Aggregates.{empty_aggregate}
@@ -44,8 +44,7 @@ is_column_waiting c = c.waits == 1
 
 -- for each column of series, true if it waits
 abbrev pub waits_in : List ImageSeries → List Bool
-waits_in [] = []
-waits_in (s ∷ ss) = map is_column_waiting s.columns ++ waits_in ss
+waits_in = flat_map (λ (s : ImageSeries). map is_column_waiting s.columns)
 
 abbrev pub with_image_columns : Series → List ImageColumn → Built → Built
 with_image_columns s cs b = record b { columns = b.columns ++ map (image_points_in s) cs; waits = b.waits ++ map is_column_waiting cs }
@@ -69,8 +68,7 @@ cell_of_image c = c.cell
 
 -- a map with the cells of an image
 abbrev pub with_image_cells : List ImageCell → CellMap → CellMap
-with_image_cells [] m = m
-with_image_cells (c ∷ cs) m = with_image_cells cs (finmap.insert m c.cell (parts_of c))
+with_image_cells cs m = fold (λ (n : CellMap) (c : ImageCell). finmap.insert n c.cell (parts_of c)) m cs
 
 abbrev pub cells_in : List ImageCell → CellMap
 cells_in cs = with_image_cells cs finmap.empty

@@ -11,7 +11,7 @@ use crate::save_fault::SaveFault;
 use crate::version::MARK;
 use crate::write::fields::{put_u8, put_u64};
 use crate::write::settings::{put_marks, put_settings};
-use crate::write::store_cells::{count_all_cells, put_cells_from};
+use crate::write::store_cells::{count_all_cells, put_all_cells};
 use crate::write::store_series::put_counted_series;
 use std::alloc::Allocator;
 use std::io::Write;
@@ -51,7 +51,7 @@ fn put_data<W: Write, A: Allocator + Copy>(
     put_u8(u8::from(store.run_in_progress()), out, sink)?;
     put_u64(store.accepted(), out, sink)?;
     put_counted_series(store, all, out, sink)?;
-    put_cells_from(store, store.settings().rules(), counts, 0, out, sink)
+    put_all_cells(store, counts, out, sink)
 }
 
 /// Writes the image of a store. Nothing stays in the buffer.

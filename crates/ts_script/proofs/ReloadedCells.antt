@@ -1,11 +1,10 @@
 -- The cells of a store that is loaded from the image of another.
-use Rattle.std.proofs.Common.{◌≡◌, ℕ, zero, suc, ◌+◌, ℤ, pos, ◌≤ℤ◌, ◌&&◌, true, List, [], ◌∷◌, length, map, refl, sym, ◌∙◌, ap, subst, Some, None, ⊎_elim, arith}
-use Rattle.std.specs.Prelude.{slice_index_or}
+use Rattle.std.proofs.Common.{◌≡◌, ℕ, zero, suc, ℤ, ◌≤ℤ◌, ◌&&◌, true, List, [], ◌∷◌, map, sym, ◌∙◌, subst, ap, Some, None, ⊎_elim}
 use Rattle.std.specs.FinMap as finmap
-use Rattle.std.specs.List.{AllByRecursion}
+use Rattle.std.specs.List.{AllByRecursion, zip}
 use Rattle.std.proofs.lemmas.Bool.{and_parts, and_from}
 use Rattle.std.proofs.lemmas.List.{length-map}
-use Rattle.std.proofs.lemmas.Option.{same_Some, get_or_from_slice_get}
+use Rattle.std.proofs.lemmas.Option.{none-some, same_Some}
 use Rattle.ts_core.specs.lists.Members.{Among}
 use Rattle.ts_core.specs.lists.Numbered.{IsAt}
 use Rattle.ts_core.specs.facts.Facts.{Fact}
@@ -17,41 +16,38 @@ use Rattle.ts_core.specs.store.RawFacts.{kept_from, same_column, is_kept}
 use Rattle.ts_core.specs.store.Cells.{Cell, is_in_cell, cell_of, is_rolled, same_cell}
 use Rattle.ts_core.specs.store.StoreStates.{ColumnPoints, RuleCells, StandsFor, HasCells, facts_of}
 use Rattle.ts_core.specs.store.StoreData.{CellMap, StoreData, rule_cells, rules_of, state_of}
-use Rattle.ts_core.proofs.lists.MembersLemmas.{Among-filter_was}
+use Rattle.ts_core.proofs.lists.MembersLemmas.{Among-filter_was, at_map_of}
+use Rattle.ts_core.proofs.lists.NumberedLemmas.{at_among}
 use Rattle.ts_core.proofs.moves.MovesStand.{key_not}
 use Rattle.ts_core.proofs.plans.PieceCells.{same_cell-eq, same_cell-refl}
 use Rattle.ts_core.proofs.lists.Indices.{at_map_back}
 use Rattle.ts_store.specs.write.LinesPut.{IsOfFacts, PutsCells}
 use Rattle.ts_store.specs.store.Inventories.{AreFilled, OfRules}
-use Rattle.ts_store.specs.image.SavedContent.{SavedSeries}
+use Rattle.ts_store.specs.store.SizedStores.{IsSized}
+use Rattle.ts_store.specs.image.SavedContent.{SavedSeries, frozen_from}
 use Rattle.ts_image.specs.Images.{ImageCell}
 use Rattle.ts_image.specs.ImageTests.{settings_of_image}
 use Rattle.ts_image.specs.Pictures.{columns_of_image}
 use Rattle.ts_image.specs.SavedParts.{image_settings_of}
-use Rattle.ts_image.specs.Saving.{frozen_cells_at, image_cell_of, image_cells_from, store_image}
+use Rattle.ts_image.specs.Saving.{saved_cells, image_cell_of, store_image}
 use Rattle.ts_image.specs.StoresMade.{cells_in, IsStoreOf}
 use Rattle.ts_image.proofs.FrozenPictures.{frozen_some}
 use Rattle.ts_image.proofs.MadeCells.{from_image}
+use Rattle.ts_image.proofs.Orders.{all_among}
+use Rattle.ts_image.proofs.SavedOf.{saved-length}
 use Rattle.ts_image.proofs.WrittenPictures.{written, written_each, entry_of}
 
--- the cells of an image, by the number of their rule
-cells_from : (k : StoreData) (n : ℕ) (rs : List Rule) (i : ℕ) (r : Rule) → IsAt rs i r → IsAt (map cells_in (image_cells_from k n rs)) i (cells_in (map image_cell_of (frozen_cells_at k (n + i))))
-cells_from k n [] i r a = absurd (let none : None ≡ Some r = a in cc)
-cells_from k n (x ∷ rs) zero r a = subst (λ (j : ℕ). IsAt (map cells_in (image_cells_from k n (x ∷ rs))) zero (cells_in (map image_cell_of (frozen_cells_at k j)))) (let e : n ≡ n + 0 = omega arith in e) refl
-cells_from k n (x ∷ rs) (suc i) r a =
-    subst (λ (j : ℕ). IsAt (map cells_in (image_cells_from k n (x ∷ rs))) (suc i) (cells_in (map image_cell_of (frozen_cells_at k j)))) (let e : n + 1 + i ≡ n + suc i = omega arith in e) (cells_from k (n + 1) rs i r a)
+-- items side by side, by their number
+at_zip : {X Y : Type 0} (xs : List X) (ys : List Y) (i : ℕ) (x : X) (y : Y) → IsAt xs i x → IsAt ys i y → IsAt (zip xs ys) i (x, y)
+at_zip [] ys i x y a b = absurd (none-some x a)
+at_zip (z ∷ xs) [] i x y a b = absurd (none-some y b)
+at_zip (z ∷ xs) (w ∷ ys) zero x y a b = λ j. Some (same_Some z x a j, same_Some w y b j)
+at_zip (z ∷ xs) (w ∷ ys) (suc i) x y a b = at_zip xs ys i x y a b
 
-lists_from : (k : StoreData) (n : ℕ) (rs : List Rule) → length (image_cells_from k n rs) ≡ length rs
-lists_from k n [] = refl
-lists_from k n (r ∷ rs) = ap suc (lists_from k (n + 1) rs)
-
--- a rule, by its number
 rolled_at : (P : RuleCells → Type 0) (rs : List Rule) (lows : List ℤ) (ms : List CellMap) (i : ℕ) (r : Rule) (low : ℤ) (m : CellMap) → IsAt rs i r → IsAt lows i low → IsAt ms i m → AllByRecursion P (rules_of rs lows ms) → P (rule_cells r low m)
-rolled_at P [] lows ms i r low m a b c h = absurd (let none : None ≡ Some r = a in cc)
-rolled_at P (x ∷ rs) [] ms i r low m a b c h = absurd (let none : None ≡ Some low = b in cc)
-rolled_at P (x ∷ rs) (l ∷ lows) [] i r low m a b c h = absurd (let none : None ≡ Some m = c in cc)
-rolled_at P (x ∷ rs) (l ∷ lows) (n ∷ ms) zero r low m a b c h = subst P (λ j. rule_cells (same_Some x r a j) (same_Some l low b j) (same_Some n m c j)) h.0
-rolled_at P (x ∷ rs) (l ∷ lows) (n ∷ ms) (suc i) r low m a b c h = rolled_at P rs lows ms i r low m a b c h.1
+rolled_at P rs lows ms i r low m a b c h =
+    let at = at_map_of (λ (p : Rule × (ℤ × CellMap)). rule_cells p.0 p.1.0 p.1.1) (zip rs (zip lows ms)) i (r, (low, m)) (at_zip rs (zip lows ms) i r (low, m) a (at_zip lows ms i low m b c)) in
+    all_among P (rules_of rs lows ms) h (rule_cells r low m) (at_among (rules_of rs lows ms) i (rule_cells r low m) at)
 
 module _ (opening : Settings) (h : History) (k n : StoreData) (order : List SavedSeries) (old : StandsFor opening h (state_of k)) (new : StandsFor opening h (state_of n)) (made : IsStoreOf (store_image k order) n) where
   same_settings : n.settings ≡ k.settings
@@ -72,9 +68,8 @@ module _ (opening : Settings) (h : History) (k n : StoreData) (order : List Save
 
     imaged : IsAt (map cells_in (store_image k order).cells) i (cells_in (written low m))
     imaged =
-        subst (λ (x : ℤ). IsAt (map cells_in (store_image k order).cells) i (cells_in (written x m))) (get_or_from_slice_get k.marks.lows i low (pos 0) b)
-        (subst (λ (x : CellMap). IsAt (map cells_in (store_image k order).cells) i (cells_in (written (slice_index_or k.marks.lows i (pos 0)) x))) (get_or_from_slice_get k.cells i m finmap.empty c)
-        (subst (λ (j : ℕ). IsAt (map cells_in (store_image k order).cells) i (cells_in (map image_cell_of (frozen_cells_at k j)))) (let e : 0 + i ≡ i = omega arith in e) (cells_from k 0 k.settings.rules i r a)))
+        at_map_of cells_in (store_image k order).cells i (written low m)
+        (at_map_of (map image_cell_of) (saved_cells k) i (frozen_from low m) (at_map_of (λ (x : ℤ × CellMap). frozen_from x.0 x.1) (zip k.marks.lows k.cells) i (low, m) (at_zip k.marks.lows k.cells i low m b c)))
 
     puts : PutsCells (facts_of (columns_of_image (store_image k order).series)) r low (cells_in (written low m)) m'
     puts = made.cells.1 i r low (cells_in (written low m)) m' (subst (λ (s : Settings). IsAt s.rules i r) (sym said) a) b imaged d
@@ -109,9 +104,9 @@ module _ (opening : Settings) (h : History) (k n : StoreData) (order : List Save
       once = is.once;
     }
 
-  pub all_filled : length k.cells ≡ length k.settings.rules → OfRules (λ r low before after. AreFilled (latest_of h) r low after) k.settings.rules k.marks.lows (map (λ (m : CellMap). finmap.keys m) k.cells) (map (λ (m : CellMap). finmap.keys m) n.cells)
-  all_filled each = (
-    length-map n.cells (λ (m : CellMap). finmap.keys m) ∙ made.cells.0 ∙ length-map (store_image k order).cells cells_in ∙ lists_from k 0 k.settings.rules ∙ sym each ∙ sym (length-map k.cells (λ (m : CellMap). finmap.keys m)),
+  pub all_filled : IsSized k → OfRules (λ r low before after. AreFilled (latest_of h) r low after) k.settings.rules k.marks.lows (map (λ (m : CellMap). finmap.keys m) k.cells) (map (λ (m : CellMap). finmap.keys m) n.cells)
+  all_filled sized = (
+    length-map n.cells (λ (m : CellMap). finmap.keys m) ∙ made.cells.0 ∙ length-map (store_image k order).cells cells_in ∙ length-map (saved_cells k) (map image_cell_of) ∙ saved-length k sized ∙ sym sized.cells ∙ sym (length-map k.cells (λ (m : CellMap). finmap.keys m)),
     λ i r low before after a b c d.
         let m = at_map_back (λ (m : CellMap). finmap.keys m) k.cells i before c in
         let m' = at_map_back (λ (m : CellMap). finmap.keys m) n.cells i after d in

@@ -54,7 +54,7 @@ module _ (opening : Settings) (h : History) (k n : StoreData) (old : StandsFor o
     series = r.made.series ∙ keys_back k r.order;
     columns = columns;
     waiting = r.made.waiting ∙ all_waiting k r.order r.ordered.columns ∙ ap (λ (cs : List Column). filter (is_waiting k.waiting) cs) (sym columns);
-    cells = all_filled opening h k n r.order old stands r.made r.sized.cells;
+    cells = all_filled opening h k n r.order old stands r.made r.sized;
   }
 
 -- ---- the machine

@@ -1,12 +1,12 @@
 //! Writes the cells of a store to an image.
-ghost use Rattle.std.specs.Prelude.{◌≡◌, ◌+◌, ◌<◌, ◌≤◌, length, map, IfOk};
+ghost use Rattle.std.specs.Prelude.{◌≡◌, ◌<◌, length, map, IfOk};
 ghost use Rattle.std.specs.Int.{w64};
 ghost use Rattle.std.specs.List.{AllByRecursion};
 ghost use Rattle.ts_image.specs.Formats.{along, list_of};
 ghost use Rattle.ts_image.specs.Images.{image_cell};
 ghost use Rattle.ts_image.specs.FieldWriting.{PutsField, PutsAll};
 ghost use Rattle.ts_image.specs.SavedParts.{image_rule_of};
-ghost use Rattle.ts_image.specs.Saving.{image_cell_of, frozen_cells_at, image_cells_from, cell_counts, cell_counts_from, FitsCell, FitCellsFrom};
+ghost use Rattle.ts_image.specs.Saving.{image_cell_of, saved_cells, saved_cells_at, cell_counts, FitsCell, FitCells};
 
 use crate::write::cells::put_cell;
 use crate::write::fields::put_u64;
@@ -18,8 +18,9 @@ use ts_store::{FrozenCell, FrozenCells, Store, View};
 /// Returns the number of saved cells of a rule, without a walk over them. Fails with AllocError if it doesn't fit in 64
 /// bits.
 fn count_cells<A: Allocator + Copy>(store: &Store<A>, number: usize) -> Result<u64, AllocError>
-    requires { number < length store.now.settings.rules }
-    ensures { IfOk result (λ n. n ≡ length (frozen_cells_at store.now number)) }
+    requires rule { number < length store.now.settings.rules }
+    requires cells { number < length (saved_cells store.now) }
+    ensures { IfOk result (λ n. n ≡ length (saved_cells_at store.now number)) }
 {
     match u64::try_from(store.frozen_count(number)) {
         Ok(count) => Ok(count),
@@ -34,6 +35,8 @@ pub(crate) fn count_all_cells<A: Allocator + Copy>(
 ) -> Result<Vec<u64, A>, AllocError>
     ensures { IfOk result (λ v. v.items ≡ cell_counts store.now) }
 {
+    // for the proof: each rule has its saved cells
+    store.laws();
     let rules = store.settings().rules().len();
     let mut counts = Vec::with_capacity(alloc, rules)?;
     for number in 0..rules {
@@ -82,34 +85,31 @@ fn put_rule_cells<W: Write, A: Allocator + Copy>(
     out: &mut OutputBuffer<A>,
     sink: &mut Sink<W>,
 ) -> Result<(), Refused>
-    requires number { number < length store.now.settings.rules }
-    requires count { count ≡ length (frozen_cells_at store.now number) }
-    requires fit { AllByRecursion (FitsCell rule.now) (frozen_cells_at store.now number) }
-    ensures { PutsField (list_of w64 (image_cell (image_rule_of rule.now))) (map image_cell_of (frozen_cells_at store.now number)) sink.old out.old result sink.new out.new }
+    requires rule { number < length store.now.settings.rules }
+    requires cells { number < length (saved_cells store.now) }
+    requires count { count ≡ length (saved_cells_at store.now number) }
+    requires fit { AllByRecursion (FitsCell rule.now) (saved_cells_at store.now number) }
+    ensures { PutsField (list_of w64 (image_cell (image_rule_of rule.now))) (map image_cell_of (saved_cells_at store.now number)) sink.old out.old result sink.new out.new }
 {
     put_u64(count, out, sink)?;
     put_frozen_cells(rule, store.frozen_cells(number), out, sink)
 }
 
-/// Writes the number of saved cells of each of these rules, and the cells; the first rule has this index.
-pub(crate) fn put_cells_from<W: Write, A: Allocator + Copy>(
+/// Writes the number of saved cells of each rule, and the cells. `counts` has the numbers.
+pub(crate) fn put_all_cells<W: Write, A: Allocator + Copy>(
     store: &Store<A>,
-    rules: &[Rule<A>],
     counts: &[u64],
-    number: usize,
     out: &mut OutputBuffer<A>,
     sink: &mut Sink<W>,
 ) -> Result<(), Refused>
-    requires few { length store.now.settings.rules ≤ 32 }
-    requires last { number + length rules.now ≡ length store.now.settings.rules }
-    requires counts { counts.now ≡ cell_counts_from store.now number rules.now }
-    requires fit { FitCellsFrom store.now number rules.now }
-    ensures { PutsField (along (λ r. list_of w64 (image_cell r)) (map image_rule_of rules.now)) (image_cells_from store.now number rules.now) sink.old out.old result sink.new out.new }
+    requires counts { counts.now ≡ cell_counts store.now }
+    requires each { length counts.now ≡ length store.now.settings.rules }
+    requires fit { FitCells store.now }
+    ensures { PutsField (along (λ r. list_of w64 (image_cell r)) (map image_rule_of store.now.settings.rules)) (map (map image_cell_of) (saved_cells store.now)) sink.old out.old result sink.new out.new }
 {
-    let mut number = number;
-    for (rule, count) in rules.iter().zip(counts) {
-        put_rule_cells(store, rule, number, *count, out, sink)?;
-        number += 1;
+    let rules = store.settings().rules();
+    for (number, count) in counts.iter().enumerate() {
+        put_rule_cells(store, &rules[number], number, *count, out, sink)?;
     }
     Ok(())
 }

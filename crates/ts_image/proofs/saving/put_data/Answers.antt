@@ -1,19 +1,17 @@
-use Rattle.std.proofs.Common.{◌≡◌, ◌≤◌, arith, List, map, length, ap, sym, subst, ◌∙◌}
+use Rattle.std.proofs.Common.{◌≡◌, List, map, length, ap, sym, ◌∙◌}
 use Rattle.std.specs.Int.{w8, w32, w64}
 use Rattle.std.proofs.lemmas.List.{length-map}
 use Rattle.std.proofs.lemmas.Result.{err_from_is_err_and}
 use Rattle.ts_core.specs.store.Marks.{Marks}
-use Rattle.ts_core.specs.settings.Settings.{Rule, Settings}
 use Rattle.ts_core.specs.io.ReadingAhead.{bit}
 use Rattle.ts_core.specs.store.StoreData.{StoreData}
 use Rattle.ts_image.specs.declared.version.Version.TheVariants.{V2}
 use Rattle.ts_image.specs.Formats.{number, also, along, list_of}
 use Rattle.ts_image.specs.Images.{ImageRule, image_series, image_cell}
-use Rattle.ts_image.specs.FieldWriting.{PutsField}
 use Rattle.ts_image.specs.SavedParts.{image_rule_of, image_settings_of}
-use Rattle.ts_image.specs.Saving.{image_cells_from, cell_counts_from, store_image, FitCellsFrom}
+use Rattle.ts_image.specs.Saving.{saved_cells, store_image}
 use Rattle.ts_image.proofs.Putting.{puts_at, and_puts, and_stops, also_puts, also_stops, iso_puts}
-use Rattle.ts_image.proofs.SavedOf.{after_settings}
+use Rattle.ts_image.proofs.SavedOf.{saved-length, after_settings}
 use Rattle.ts_image.proofs.Saved.{byte_is}
 use Rattle.ts_image.proofs.SavedWholes.{columns_there}
 use Rattle.ts_image.proofs.FittingImages.{lows_fit, series_fit, cells_fit}
@@ -67,8 +65,7 @@ returns g c =
     let rs : List ImageRule = map image_rule_of k.settings.rules in
     let same : length c.marks.result.now.lows ≡ length rs = ap (λ (m : Marks). length m.lows) c.marks.ensures.value ∙ c.marks.ensures.lows ∙ sym (length-map k.settings.rules image_rule_of) in
     let run : c.from.result ≡ bit k.running = c.from.ensures ∙ byte_is c.run_in_progress.result ∙ ap bit c.run_in_progress.ensures in
-    let all : c.rules.result.now ≡ k.settings.rules = c.rules.ensures.value ∙ ap (λ (s : Settings). s.rules) c.settings-2.ensures.value in
-    iso_puts _ _ (store_image k c.args.all.now) (and_puts (after_settings V2) (puts_at (ap image_settings_of c.settings.ensures.value) c.in_ok-put_settings.ensures) (also_puts (puts_at c.marks.ensures.value (c.in_ok-put_marks.ensures rs same)) (also_puts (puts_at run c.in_ok-put_u8.ensures) (also_puts (puts_at c.accepted.ensures.value c.in_ok-put_u64.ensures) (also_puts c.in_ok-put_counted_series.ensures (subst (λ (xs : List Rule). PutsField (along (λ (r : ImageRule). list_of w64 (image_cell r)) (map image_rule_of xs)) (image_cells_from k 0 xs) c.put_counted_series.new.sink c.put_counted_series.new.out c.put_cells_from.result c.put_cells_from.new.sink c.put_cells_from.new.out) all c.put_cells_from.ensures))))))
+    iso_puts _ _ (store_image k c.args.all.now) (and_puts (after_settings V2) (puts_at (ap image_settings_of c.settings.ensures.value) c.in_ok-put_settings.ensures) (also_puts (puts_at c.marks.ensures.value (c.in_ok-put_marks.ensures rs same)) (also_puts (puts_at run c.in_ok-put_u8.ensures) (also_puts (puts_at c.accepted.ensures.value c.in_ok-put_u64.ensures) (also_puts c.in_ok-put_counted_series.ensures c.put_all_cells.ensures)))))
 
 pub put_marks-requires : goal.put_marks-requires
 put_marks-requires g c = let a = c.laws.ensures in rw c.marks.ensures.value (lows_fit c.args.store.now a.sized a.rules a.mark)
@@ -78,14 +75,12 @@ put_counted_series-requires g c =
     let k : StoreData = c.args.store.now in
     record { series = series_fit k c.args.all.now c.laws.ensures.sized c.requires.order; columns = columns_there k c.args.all.now c.requires.order }
 
-pub put_cells_from-requires : goal.put_cells_from-requires
-put_cells_from-requires g c =
+pub put_all_cells-requires : goal.put_all_cells-requires
+put_all_cells-requires g c =
     let k : StoreData = c.args.store.now in
-    let all : c.rules.result.now ≡ k.settings.rules = c.rules.ensures.value ∙ ap (λ (s : Settings). s.rules) c.settings-2.ensures.value in
     let a = c.laws.ensures in
     record {
-      few = subst (λ (s : Settings). length s.rules ≤ 32) c.settings-2.ensures.value c.rules.ensures.valid.few;
-      last = (let n : length c.rules.result.now ≡ length k.settings.rules = ap length all in omega (arith, n));
-      counts = c.requires.counts ∙ ap (cell_counts_from k 0) (sym all);
-      fit = subst (FitCellsFrom k 0) (sym all) (cells_fit k a.sized a.rules a.possible);
+      counts = c.requires.counts;
+      each = ap length c.requires.counts ∙ length-map (saved_cells k) length ∙ saved-length k a.sized;
+      fit = cells_fit k a.sized a.rules a.possible;
     }

@@ -1,15 +1,21 @@
-use Rattle.std.proofs.Common.{◌≡◌, ℕ, List, [], ◌∷◌, ◌++◌, length, take, ap, sym, ◌∙◌, arith}
+use Rattle.std.proofs.Common.{[], ◌∷◌, ◌++◌, length, map, ap, sym, ◌∙◌, arith}
+use Rattle.std.proofs.lemmas.List.{map_more, take_all}
 use Rattle.ts_core.specs.settings.Settings.{Settings}
-use Rattle.ts_core.specs.store.StoreData.{StoreData}
-use Rattle.ts_image.specs.Saving.{frozen_cells_at, cell_counts_from}
-use Rattle.ts_image.proofs.SavedOf.{counts_next}
+use Rattle.ts_image.specs.Saving.{saved_cells}
+use Rattle.ts_image.proofs.SavedOf.{saved-length}
 use Rattle.ts_image.proofs.write.store_cells.count_all_cells.Goals as goal
 
+pub loop-number-init : goal.loop-number-init
+loop-number-init g c = record {
+  each = ap length (c.rules-rules.ensures.value ∙ ap (λ (s : Settings). s.rules) c.settings.ensures.value) ∙ sym (saved-length c.args.store.now c.laws.ensures.sized);
+  counted = c.in_ok-counts.ensures.items;
+}
+
 pub loop-number-preserved : goal.loop-number-preserved
-loop-number-preserved g c =
-    let k : StoreData = c.args.store.now in
-    let all : c.rules-rules.result.now ≡ k.settings.rules = c.rules-rules.ensures.value ∙ ap (λ (s : Settings). s.rules) c.settings.ensures.value in
-    let many : length c.rules-rules.result.now ≡ length k.settings.rules = ap length all in
-    let one : c.in_ok-count_cells.field-0 ≡ length (frozen_cells_at k c.loop-number.number) = c.in_ok-count_cells.ensures in
-    c.in_ok-push.ensures.items ∙ ap (λ (xs : List ℕ). xs ++ c.in_ok-count_cells.field-0 ∷ []) c.loop-number.invariant
-    ∙ ap (λ (m : ℕ). cell_counts_from k 0 (take c.loop-number.number k.settings.rules) ++ m ∷ []) one ∙ sym (counts_next k c.loop-number.number k.settings.rules (omega (arith, many)))
+loop-number-preserved g c = record {
+  each = c.loop-number.invariant.each;
+  counted = c.in_ok-push.ensures.items ∙ (λ i. c.loop-number.invariant.counted i ++ c.in_ok-count_cells.ensures i ∷ []) ∙ sym (map_more length (saved_cells c.args.store.now) c.loop-number.number [] (omega arith));
+}
+
+pub returns : goal.returns
+returns g c = c.loop-number.invariant.counted ∙ ap (map length) (take_all c.loop-number.number (saved_cells c.args.store.now) (omega arith))

@@ -1,6 +1,9 @@
-use Rattle.std.proofs.Common.{◌≡◌, take}
-use Rattle.ts_image.specs.Saving.{cell_counts_from}
+use Rattle.std.proofs.Common.{◌≡◌, length, map, take}
+use Rattle.ts_image.specs.Saving.{saved_cells}
 use Rattle.ts_image.proofs.write.store_cells.count_all_cells.Given as goal
 
 abbrev pub invariant-loop-number : goal.invariant-loop-number
-invariant-loop-number g l = l.counts.items ≡ cell_counts_from l.store 0 (take l.number l.store.settings.rules)
+invariant-loop-number g l = record {
+  each : l.rules ≡ length (saved_cells l.store);
+  counted : l.counts.items ≡ map length (take l.number (saved_cells l.store));
+}

@@ -10,29 +10,29 @@ use Rattle.ts_image.specs.Images.{image_cell}
 use Rattle.ts_image.specs.FieldWriting.{PutsAll}
 use Rattle.ts_store.specs.image.SavedContent.{FrozenCell}
 use Rattle.ts_image.specs.SavedParts.{image_rule_of}
-use Rattle.ts_image.specs.Saving.{FitsCell, frozen_cells_at, image_cell_of}
+use Rattle.ts_image.specs.Saving.{FitsCell, saved_cells_at, image_cell_of}
 use Rattle.ts_image.proofs.Putting.{puts_at, list_puts, list_stops}
-use Rattle.ts_image.proofs.SavedOf.{frozen_some}
+use Rattle.ts_image.proofs.SavedOf.{frozen_some, saved_at}
 use Rattle.ts_image.proofs.write.store_cells.put_rule_cells.Goals as goal
 
 pub put_frozen_cells-requires : goal.put_frozen_cells-requires
 put_frozen_cells-requires g c =
     let k : StoreData = c.args.store.now in
     record {
-      fit = subst (AllByRecursion (FitsCell c.args.rule.now)) (sym c.frozen_cells.ensures) c.requires.fit;
+      fit = subst (AllByRecursion (FitsCell c.args.rule.now)) (saved_at k c.args.number c.requires.cells ∙ sym c.frozen_cells.ensures) c.requires.fit;
       some = subst (AllByRecursion (λ (x : FrozenCell). 0 < x.frozen.count)) (sym c.frozen_cells.ensures) (frozen_some (slice_index_or k.marks.lows c.args.number (pos 0)) (slice_index_or k.cells c.args.number finmap.empty));
     }
 
 pub returns-in_err-put_u64 : goal.returns-in_err-put_u64
 returns-in_err-put_u64 g c =
-    let cs : List FrozenCell = frozen_cells_at c.args.store.now c.args.number in
+    let cs : List FrozenCell = saved_cells_at c.args.store.now c.args.number in
     let n : c.args.count ≡ length (map image_cell_of cs) = c.requires.count ∙ sym (length-map cs image_cell_of) in
     let p = err_from_is_err_and c.from_residual.result c.from_residual.ensures.1 in
     rw p.1 (list_stops w64 (image_cell (image_rule_of c.args.rule.now)) (map image_cell_of cs) _ (puts_at n c.in_err-put_u64.ensures))
 
 pub returns : goal.returns
 returns g c =
-    let cs : List FrozenCell = frozen_cells_at c.args.store.now c.args.number in
+    let cs : List FrozenCell = saved_cells_at c.args.store.now c.args.number in
     let n : c.args.count ≡ length (map image_cell_of cs) = c.requires.count ∙ sym (length-map cs image_cell_of) in
     list_puts w64 (image_cell (image_rule_of c.args.rule.now)) (puts_at n c.in_ok-put_u64.ensures)
-    (subst (λ (xs : List FrozenCell). PutsAll (image_cell (image_rule_of c.args.rule.now)) (map image_cell_of xs) c.put_u64.new.sink c.put_u64.new.out c.put_frozen_cells.result c.put_frozen_cells.new.sink c.put_frozen_cells.new.out) c.frozen_cells.ensures c.put_frozen_cells.ensures)
+    (subst (λ (xs : List FrozenCell). PutsAll (image_cell (image_rule_of c.args.rule.now)) (map image_cell_of xs) c.put_u64.new.sink c.put_u64.new.out c.put_frozen_cells.result c.put_frozen_cells.new.sink c.put_frozen_cells.new.out) (c.frozen_cells.ensures ∙ sym (saved_at c.args.store.now c.args.number c.requires.cells)) c.put_frozen_cells.ensures)
