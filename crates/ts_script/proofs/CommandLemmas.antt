@@ -1,25 +1,18 @@
--- Lines that begin with a name.
-use Rattle.std.proofs.Common.{◌≡◌, ℕ, ◌+◌, List, [], ◌∷◌, length, drop, true, false, true≢false, refl, sym, ap, ◌∙◌, Option, Some, None, MatchOption, nat_eq, arith}
+-- Lines that are split at their first space.
+use Rattle.std.proofs.Common.{◌≡◌, ℕ, List, length, refl, Option, Some, None, MatchOption, arith}
 use Rattle.std.specs.Borrow.{Bor}
-use Rattle.std.specs.List.{starts_with}
-use Rattle.std.specs.Str.Pattern.{FindsTextPrefix}
-use Rattle.std.specs.Prelude.{codes}
-use Rattle.std.proofs.lemmas.Bool.Decides.{nat_tests}
-use Rattle.std.proofs.lemmas.Str.Pattern.{starts_text}
-use Rattle.ts_script.specs.Commands.{Write, command_of}
+use Rattle.std.specs.List.{position_or_len}
+use Rattle.std.proofs.lemmas.List.Folds.{list_any_none, list_any_at}
+use Rattle.std.proofs.lemmas.List.Sums.{fails_before_first, passes_at_first}
+use Rattle.std.proofs.lemmas.Str.Pattern.{IsSplitOnceResult, split_once_first}
+use Rattle.ts_script.specs.Commands.{is_space, command_with, command_alone, command_of}
 
-pub behind : (p s : List ℕ) (r : Option (Bor (List ℕ)))
-    → MatchOption r (FindsTextPrefix p s None) (λ x. (n : ℕ) × FindsTextPrefix p s (Some n) × (x.now ≡ drop n s) × (length x.now + n ≡ length s))
-    → MatchOption r (starts_with nat_eq s p ≡ false) (λ x. (starts_with nat_eq s p ≡ true) × (x.now ≡ drop (length p) s))
-behind p s None h = sym (starts_text false p s h)
-behind p s (Some x) h =
-    let cut = rw (← h.1.0) at h.1.2 in
-    (sym (starts_text true p s (h.0, h.1, cut)), h.2 ∙ ap (λ (n : ℕ). drop n s) h.1.0)
-
--- the names of the other commands begin with other letters
-pub write_alone : (line : List ℕ) → starts_with nat_eq line (codes "write ") ≡ true → command_of line ≡ Write (drop 6 line)
+-- a line with a space has an argument
+pub split_line : (line : List ℕ) (r : Option (Bor (List ℕ) × Bor (List ℕ))) → IsSplitOnceResult 32 line r → MatchOption r (command_of line ≡ command_alone line) (λ x. command_of line ≡ command_with x.0.now x.1.now)
 unfolding command_of
-write_alone [] e = absurd (true≢false (sym e))
-write_alone (b ∷ bs) e =
-    let first : b ≡ 119 = grind (arith, nat_tests, e) in
-    rw (first, rw first at e) refl
+split_line line None h =
+    let none : position_or_len is_space line ≡ length line = split_once_first 32 line None h (omega arith) in
+    rw (list_any_none is_space line (λ k d lt. fails_before_first is_space line k d (omega (arith, none, lt)))) refl
+split_line line (Some x) h =
+    let cut = split_once_first 32 line (Some x) h (omega arith) in
+    rw (cut.1, cut.2, list_any_at is_space line (position_or_len is_space line) 0 cut.0 (passes_at_first is_space line 0 cut.0)) refl

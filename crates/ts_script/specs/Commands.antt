@@ -1,6 +1,6 @@
 -- The commands of a script, and their lines. (Own rule.)
-use Rattle.std.specs.Prelude.{ℕ, ℤ, pos, length, drop, Bool, not, ◌&&◌, ◌||◌, ◌==◌, nat_eq, if◌then◌else◌, Option, Some, None, codes}
-use Rattle.std.specs.List.{list_all, starts_with, before_first, after_first}
+use Rattle.std.specs.Prelude.{ℕ, ℤ, pos, length, Bool, not, ◌&&◌, ◌||◌, ◌==◌, nat_eq, if◌then◌else◌, Option, Some, None, codes}
+use Rattle.std.specs.List.{list_all, list_any, starts_with, before_first, after_first}
 use Rattle.ts_core.specs.facts.Facts.{Text, same_text}
 use Rattle.ts_core.specs.text.Numbers.{is_number}
 use Rattle.ts_core.specs.facts.TimeUnits.{precision_of}
@@ -99,23 +99,32 @@ unfoldable pub count_from : Text → Command
 count_from text =
     count_from_parts (word text) (word (after_word text)) (word (after_word (after_word text))) (after_word (after_word (after_word text)))
 
--- the command of a line that isn't skipped: a command's name and one space, and then its argument
-unfoldable pub command_of : Text → Command
-command_of line =
-    if starts_with nat_eq line (codes "settings ") then SetSettings (drop 9 line)
-    else if starts_with nat_eq line (codes "at ") then at_of (moment_of (drop 3 line))
-    else if starts_with nat_eq line (codes "precision ") then precision_from (precision_of (drop 10 line))
-    else if starts_with nat_eq line (codes "epoch ") then epoch_from (epoch_of (drop 6 line))
-    else if starts_with nat_eq line (codes "write ") then Write (drop 6 line)
-    else if same_text line (codes "retain") then Retain
-    else if same_text line (codes "begin") then BeginRun
-    else if same_text line (codes "step") then StepRun
-    else if same_text line (codes "reload") then Reload
-    else if starts_with nat_eq line (codes "rule ") then AddRule (drop 5 line)
-    else if starts_with nat_eq line (codes "drop ") then DropRule (drop 5 line)
-    else if starts_with nat_eq line (codes "cert ") then SetCertificate (drop 5 line)
-    else if starts_with nat_eq line (codes "query ") then Query (drop 6 line)
-    else if starts_with nat_eq line (codes "explain ") then Explain (drop 8 line)
-    else if same_text line (codes "live") then Live
-    else if starts_with nat_eq line (codes "count ") then count_from (drop 6 line)
+-- a name and its argument
+unfoldable pub command_with : Text → Text → Command
+command_with name rest =
+    if same_text name (codes "write") then Write rest
+    else if same_text name (codes "settings") then SetSettings rest
+    else if same_text name (codes "at") then at_of (moment_of rest)
+    else if same_text name (codes "precision") then precision_from (precision_of rest)
+    else if same_text name (codes "epoch") then epoch_from (epoch_of rest)
+    else if same_text name (codes "rule") then AddRule rest
+    else if same_text name (codes "drop") then DropRule rest
+    else if same_text name (codes "cert") then SetCertificate rest
+    else if same_text name (codes "query") then Query rest
+    else if same_text name (codes "explain") then Explain rest
+    else if same_text name (codes "count") then count_from rest
     else Unknown
+
+-- a name without an argument
+unfoldable pub command_alone : Text → Command
+command_alone name =
+    if same_text name (codes "retain") then Retain
+    else if same_text name (codes "begin") then BeginRun
+    else if same_text name (codes "step") then StepRun
+    else if same_text name (codes "reload") then Reload
+    else if same_text name (codes "live") then Live
+    else Unknown
+
+-- the command of a line that isn't skipped: a command's name, or its name and one space, and then its argument
+unfoldable pub command_of : Text → Command
+command_of line = if list_any is_space line then command_with (word line) (after_word line) else command_alone line

@@ -1,7 +1,6 @@
 //! The commands of a script, and their parser.
-ghost use Rattle.std.specs.Prelude.{◌≡◌, length, MatchOption, drop, true, false, nat_eq};
-ghost use Rattle.std.specs.List.{starts_with};
-ghost use Rattle.ts_script.specs.Commands.{is_blank, is_skipped, word, after_word, count_from, at_of, precision_from, epoch_from, command_of, count_between};
+ghost use Rattle.std.specs.Prelude.{◌≡◌};
+ghost use Rattle.ts_script.specs.Commands.{is_blank, is_skipped, word, after_word, count_from, at_of, precision_from, epoch_from, command_with, command_alone, command_of, count_between};
 ghost use Rattle.ts_core.specs.facts.TimeUnits.{precision_of};
 ghost use Rattle.ts_reply.specs.Epochs.{epoch_of};
 ghost use Rattle.ts_script.specs.Moments.{moment_of};
@@ -69,13 +68,6 @@ pub fn is_skipped(line: &[u8]) -> bool
     ensures { result ≡ is_skipped line.now }
 {
     is_blank(line) || line.starts_with(b"#")
-}
-
-/// Returns the text after the name, or `None` if the line doesn't begin with it.
-fn rest_after<'a>(line: &'a str, name: &str) -> Option<&'a str>
-    ensures { MatchOption result (starts_with nat_eq line.now name.now ≡ false) (λ rest. (starts_with nat_eq line.now name.now ≡ true) × (rest.now ≡ drop (length name.now) line.now)) }
-{
-    line.strip_prefix(name)
 }
 
 /// Splits a text at the first space. Without a space, returns the whole text and an empty one.
@@ -162,60 +154,50 @@ fn count(text: &str) -> Command<'_>
     )
 }
 
+/// Returns the command of this name with this argument.
+#[tactic(auto, unfolding(crate::specs::Commands::command_with))]
+fn command_with<'a>(name: &str, rest: &'a str) -> Command<'a>
+    ensures { command_view result ≡ command_with name.now rest.entry.now }
+{
+    match name {
+        "write" => Command::Write(rest),
+        "settings" => Command::SetSettings(rest),
+        "at" => at(rest),
+        "precision" => precision(rest),
+        "epoch" => epoch(rest),
+        "rule" => Command::AddRule(rest),
+        "drop" => Command::DropRule(rest),
+        "cert" => Command::SetCertificate(rest),
+        "query" => Command::Query(rest),
+        "explain" => Command::Explain(rest),
+        "count" => count(rest),
+        _ => Command::Unknown,
+    }
+}
+
+/// Returns the command of this name without an argument.
+#[tactic(auto, unfolding(crate::specs::Commands::command_alone))]
+fn command_alone<'a>(name: &str) -> Command<'a>
+    ensures { command_view result ≡ command_alone name.now }
+{
+    match name {
+        "retain" => Command::Retain,
+        "begin" => Command::BeginRun,
+        "step" => Command::StepRun,
+        "reload" => Command::Reload,
+        "live" => Command::Live,
+        _ => Command::Unknown,
+    }
+}
+
 impl<'a> Command<'a> {
-    /// Parses a line that isn't skipped. Tries `write` first, as most lines are writes.
-    #[tactic(auto, using(crate::proofs::CommandLemmas::write_alone), unfolding(crate::specs::Commands::command_of))]
+    /// Parses a line that isn't skipped.
     pub fn parse(line: &'a str) -> Command<'a>
         ensures { command_view result ≡ command_of line.entry.now }
     {
-        if let Some(rest) = rest_after(line, "write ") {
-            return Command::Write(rest);
+        match line.split_once(' ') {
+            Some((name, rest)) => command_with(name, rest),
+            None => command_alone(line),
         }
-        if let Some(rest) = rest_after(line, "settings ") {
-            return Command::SetSettings(rest);
-        }
-        if let Some(rest) = rest_after(line, "at ") {
-            return at(rest);
-        }
-        if let Some(rest) = rest_after(line, "precision ") {
-            return precision(rest);
-        }
-        if let Some(rest) = rest_after(line, "epoch ") {
-            return epoch(rest);
-        }
-        if line == "retain" {
-            return Command::Retain;
-        }
-        if line == "begin" {
-            return Command::BeginRun;
-        }
-        if line == "step" {
-            return Command::StepRun;
-        }
-        if line == "reload" {
-            return Command::Reload;
-        }
-        if let Some(rest) = rest_after(line, "rule ") {
-            return Command::AddRule(rest);
-        }
-        if let Some(rest) = rest_after(line, "drop ") {
-            return Command::DropRule(rest);
-        }
-        if let Some(rest) = rest_after(line, "cert ") {
-            return Command::SetCertificate(rest);
-        }
-        if let Some(rest) = rest_after(line, "query ") {
-            return Command::Query(rest);
-        }
-        if let Some(rest) = rest_after(line, "explain ") {
-            return Command::Explain(rest);
-        }
-        if line == "live" {
-            return Command::Live;
-        }
-        if let Some(rest) = rest_after(line, "count ") {
-            return count(rest);
-        }
-        Command::Unknown
     }
 }
