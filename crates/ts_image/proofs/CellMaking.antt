@@ -2,12 +2,13 @@
 use Rattle.std.proofs.Common.{◌≡◌, ◌<◌, ◌+◌, ℕ, zero, suc, add-one, List, [], ◌∷◌, ◌++◌, length, map, take, get_or, set, refl, sym, ap, subst, ◌∙◌, arith}
 use Rattle.std.proofs.lemmas.List.{set-get_or, get_or-set_same, take-map}
 use Rattle.std.proofs.lemmas.List.Sums.{fold-append}
+use Rattle.std.proofs.lemmas.Simd.{map-map}
 use Rattle.std.specs.Prelude.{None}
 use Rattle.std.specs.FinMap as finmap
 use Rattle.std.specs.FinMap.{get-empty}
 use Rattle.ts_core.specs.lists.Members.{Among}
 use Rattle.ts_core.specs.settings.Settings.{Rule}
-use Rattle.ts_core.specs.store.Cells.{Cell, cell_cmp}
+use Rattle.ts_core.specs.store.Cells.{cell_cmp}
 use Rattle.ts_core.specs.store.StoreStates.{CellParts}
 use Rattle.ts_core.specs.store.StoreData.{CellMap}
 use Rattle.ts_core.proofs.lists.BesideLemmas.{beside-ahead}
@@ -63,20 +64,16 @@ cell_added rule cs c b lt i =
           ) i;
     }
 
-names_of : {P : Type 0} (v : P → ImageCell) (ps : List P) → map (λ (p : P). (v p).cell) ps ≡ map cell_of_image (map v ps)
-names_of v [] = refl
-names_of {P} v (p ∷ ps) = ap (λ (ks : List Cell). (v p).cell ∷ ks) (names_of v ps)
-
 -- the next cell of a rule is new
 pub cell_absent : {P : Type 0} (v : P → ImageCell) (ps : List P) (i : ℕ) (p : P) (rule : ℕ) (b c : Built) → i < length ps → p ≡ get_or ps i p → rule < length b.cells
     → AreRising cell_cmp (map cell_of_image (map v ps)) → cell_map_at b.cells rule ≡ finmap.empty → c ≡ with_cells_at rule (map v (take i ps)) b
     → finmap.get (cell_map_at c.cells rule) (v p).cell ≡ None
 cell_absent {P} v ps i p rule b c lt is inside rising none so_far =
     let cs : List ImageCell = map v (take i ps) in
-    let never = rising_absent cells_total (λ (x : P). (v x).cell) ps i p lt is (subst (AreRising cell_cmp) (sym (names_of v ps)) rising) in
+    let never = rising_absent cells_total (λ (x : P). (v x).cell) ps i p lt is (subst (AreRising cell_cmp) (map-map cell_of_image v ps) rising) in
     ap (λ (z : Built). finmap.get (cell_map_at z.cells rule) (v p).cell) so_far
     ∙ ap (λ (m : CellMap). finmap.get m (v p).cell) (get_or-set_same b.cells rule (with_image_cells cs (cell_map_at b.cells rule)) finmap.empty inside)
-    ∙ elsewhere cs (cell_map_at b.cells rule) (v p).cell (λ a. never (subst (Among (v p).cell) (sym (names_of v (take i ps))) a))
+    ∙ elsewhere cs (cell_map_at b.cells rule) (v p).cell (λ a. never (subst (Among (v p).cell) (map-map cell_of_image v (take i ps)) a))
     ∙ ap (λ (m : CellMap). finmap.get m (v p).cell) none
     ∙ get-empty cell_cmp (v p).cell
 

@@ -6,6 +6,7 @@ use Rattle.ts_core.specs.facts.Facts.{Text, Series, Column, text_cmp}
 use Rattle.ts_core.specs.store.StoreStates.{ColumnPoints, column_of}
 use Rattle.ts_core.proofs.lists.MembersLemmas.{Among-append}
 use Rattle.std.proofs.lemmas.Cmp.{nat_list_cmp_total}
+use Rattle.std.proofs.lemmas.Simd.{map-map}
 use Rattle.ts_store.specs.image.Building.{Built, with_built_column}
 use Rattle.ts_image.specs.Images.{ImageColumn}
 use Rattle.ts_store.specs.image.SavedContent.{AreRising}
@@ -49,10 +50,6 @@ columns_more s cs c b i = record {
   cells = b.cells;
 }
 
-fields_of : {P : Type 0} (v : P → ImageColumn) (ps : List P) → map (λ (x : P). (v x).field) ps ≡ map (λ (x : ImageColumn). x.field) (map v ps)
-fields_of v [] = refl
-fields_of {P} v (p ∷ ps) = ap (λ (ts : List Text). (v p).field ∷ ts) (fields_of v ps)
-
 pub field_among : (s : Series) (f : Text) (cs : List ImageColumn) → Among (record { series = s; field = f }) (map column_of (map (image_points_in s) cs)) → Among f (map (λ (c : ImageColumn). c.field) cs)
 field_among s f [] a = a
 field_among s f (c ∷ cs) a = ⊎_elim {C = Among f (map (λ (x : ImageColumn). x.field) (c ∷ cs))} (λ e. inl (ap (λ (x : Column). x.field) e)) (λ k. inr (field_among s f cs k)) a
@@ -68,5 +65,5 @@ column_absent {P} v s xs p ys b c none rising e a =
     subst (Among name) (map-append column_of b.columns (map (image_points_in s) (map v xs))) (subst (λ (z : Built). Among name (map column_of z.columns)) e a) in
     ⊎_elim {C = ⊥}
     (λ l. none name l refl)
-    (λ r. rising_mid nat_list_cmp_total (λ (x : P). (v x).field) xs p ys (subst (AreRising text_cmp) (sym (fields_of v (xs ++ p ∷ ys))) rising) (subst (Among (v p).field) (sym (fields_of v xs)) (field_among s (v p).field (map v xs) r)))
+    (λ r. rising_mid nat_list_cmp_total (λ (x : P). (v x).field) xs p ys (subst (AreRising text_cmp) (map-map (λ (x : ImageColumn). x.field) v (xs ++ p ∷ ys)) rising) (subst (Among (v p).field) (map-map (λ (x : ImageColumn). x.field) v xs) (field_among s (v p).field (map v xs) r)))
     (Among-append name (map column_of b.columns) (map column_of (map (image_points_in s) (map v xs))) a2)

@@ -4,6 +4,7 @@ use Rattle.std.proofs.lemmas.List.{map-append}
 use Rattle.std.proofs.lemmas.List.Sums.{sum_by-cons}
 use Rattle.std.proofs.lemmas.Cmp.{nat_list_cmp_total}
 use Rattle.std.proofs.lemmas.Bool.Decides.{nat_tests}
+use Rattle.std.proofs.lemmas.Simd.{map-map}
 use Rattle.ts_core.specs.lists.Members.{Among, AllDistinct}
 use Rattle.ts_core.specs.facts.Facts.{Series, Column, Fact, Text, same_text, text_cmp, series_cmp}
 use Rattle.ts_core.specs.settings.Settings.{Rule}
@@ -74,20 +75,16 @@ series_once ss r = rising_distinct series_total (map series_of ss) r
 pub fields_once : (cs : List ImageColumn) → AreRising text_cmp (map field_of cs) → AllDistinct (map field_of cs)
 fields_once cs r = rising_distinct nat_list_cmp_total (map field_of cs) r
 
-map_columns : (s : Series) (cs : List ImageColumn) → map column_of (map (image_points_in s) cs) ≡ map (column_of_image s) cs
-map_columns s [] = refl
-map_columns s (c ∷ cs) = ap (λ xs. column_of_image s c ∷ xs) (map_columns s cs)
-
 pub columns_once : (ss : List ImageSeries) → AllDistinct (map series_of ss) → ((s : ImageSeries) → Among s ss → AllDistinct (map field_of s.columns)) → AllDistinct (map column_of (columns_of_image ss))
 columns_once [] d h = tt
 columns_once (s ∷ ss) d h =
     let mine : List ColumnPoints = map (image_points_in s.series) s.columns in
     subst AllDistinct (sym (map-append column_of mine (columns_of_image ss)))
     (AllDistinct-append (map column_of mine) (map column_of (columns_of_image ss))
-    (subst AllDistinct (sym (map_columns s.series s.columns)) (distinct_by field_of (column_of_image s.series) (λ x y e. ap (λ (c : Column). c.field) e) s.columns (h s (inl refl))))
+    (subst AllDistinct (sym (map-map column_of (image_points_in s.series) s.columns)) (distinct_by field_of (column_of_image s.series) (λ x y e. ap (λ (c : Column). c.field) e) s.columns (h s (inl refl))))
     (columns_once ss d.1 (λ t a. h t (inr a)))
     (λ w a b.
-    let x = map_back (column_of_image s.series) s.columns w (subst (Among w) (map_columns s.series s.columns) a) in
+    let x = map_back (column_of_image s.series) s.columns w (subst (Among w) (map-map column_of (image_points_in s.series) s.columns) a) in
     let y = map_back column_of (columns_of_image ss) w b in
     let z = column_from ss y.0 y.1 in
     let same : z.0.series ≡ s.series = ap (λ (p : ColumnPoints). p.column.series) z.4 ∙ ap (λ (c : Column). c.series) (y.2 ∙ sym x.2) in

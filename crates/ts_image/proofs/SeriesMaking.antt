@@ -1,7 +1,8 @@
 -- A store under construction, series by series.
-use Rattle.std.proofs.Common.{◌≡◌, ◌<◌, ◌≤◌, Bool, List, [], ◌∷◌, ◌++◌, length, map, refl, sym, ap, subst, ◌∙◌, inl, inr, ⊎_elim, arith, append_assoc, append-nil, length-append}
+use Rattle.std.proofs.Common.{◌≡◌, ◌<◌, ◌≤◌, Bool, List, [], ◌∷◌, ◌++◌, length, map, sym, ap, subst, ◌∙◌, inl, inr, ⊎_elim, arith, append_assoc, append-nil, length-append}
 use Rattle.std.proofs.lemmas.List.{map-append, length-map}
 use Rattle.std.proofs.lemmas.List.Concat.{flat_map-append}
+use Rattle.std.proofs.lemmas.Simd.{map-map}
 use Rattle.ts_core.specs.lists.Members.{Among}
 use Rattle.ts_core.specs.facts.Facts.{Text, Series, Column, series_cmp}
 use Rattle.ts_core.specs.store.StoreStates.{ColumnPoints, column_of}
@@ -58,16 +59,12 @@ series_added s b i = record {
 
 -- ---- what the next series asks
 
-keys_of : {P : Type 0} (v : P → ImageSeries) (ps : List P) → map (λ (p : P). (v p).series) ps ≡ map key_in (map v ps)
-keys_of v [] = refl
-keys_of {P} v (p ∷ ps) = ap (λ (ks : List Series). (v p).series ∷ ks) (keys_of v ps)
-
 module _ {P : Type 0} (v : P → ImageSeries) (xs : List P) (p : P) (ys : List P) (b c : Built) (none : b.series ≡ []) (so_far : c ≡ with_all_series (map v xs) b) where
   these : c.series ≡ map (λ (x : P). (v x).series) xs
-  these = ap (λ (z : Built). z.series) so_far ∙ ap (λ (ks : List Series). ks ++ map key_in (map v xs)) none ∙ sym (keys_of v xs)
+  these = ap (λ (z : Built). z.series) so_far ∙ ap (λ (ks : List Series). ks ++ map key_in (map v xs)) none ∙ map-map key_in v xs
 
   pub series_absent : AreRising series_cmp (map key_in (map v (xs ++ p ∷ ys))) → Among (v p).series c.series → ⊥
-  series_absent rising a = rising_mid series_total (λ (x : P). (v x).series) xs p ys (subst (AreRising series_cmp) (sym (keys_of v (xs ++ p ∷ ys))) rising) (subst (Among (v p).series) these a)
+  series_absent rising a = rising_mid series_total (λ (x : P). (v x).series) xs p ys (subst (AreRising series_cmp) (map-map key_in v (xs ++ p ∷ ys)) rising) (subst (Among (v p).series) these a)
 
   pub series_few : length (map v (xs ++ p ∷ ys)) ≤ 1000000 → length c.series < 1000000
   series_few few =

@@ -86,10 +86,6 @@ all_at Q v [] i p lt e h = absurd (omega arith)
 all_at {P} Q v (x ∷ xs) zero p lt e h = subst (λ (y : P). Q (v y)) (sym e) h.0
 all_at Q v (x ∷ xs) (suc i) p lt e h = all_at Q v xs i p (omega arith) e h.1
 
-pub mapped : {P X Y : Type 0} (f : X → Y) (g : P → X) (ps : List P) → map (λ (p : P). f (g p)) ps ≡ map f (map g ps)
-mapped f g [] = refl
-mapped {P} {X} {Y} f g (p ∷ ps) = ap (λ (ys : List Y). f (g p) ∷ ys) (mapped f g ps)
-
 module _ {P X : Type 0} (f : X → ℕ) (v : P → X) where
   sum_more : (ps : List P) (i : ℕ) (p : P) → i < length ps → p ≡ get_or ps i p → sum_by f (map v (take (suc i) ps)) ≡ sum_by f (map v (take i ps)) + f (v p)
   sum_more [] i p lt e = absurd (omega arith)

@@ -1,7 +1,6 @@
 -- The data written of a store: its picture, in the image's order. If the store represents a history, the data has no
 -- contradiction.
-use Rattle.std.proofs.Common.{◌≡◌, ℕ, zero, suc, ◌+◌, ◌≤◌, ◌<◌, ℤ, pos, ◌≤ℤ◌, int_le, nat_lt, not, ◌==◌, Bool, true, false, cond, ◌&&◌, List, [], ◌∷◌, T, length, map, filter, drop, refl, sym, ◌∙◌, ap, subst, true≢false, arith, Some, None, Option, MatchOption, is_lt}
-use Rattle.std.specs.Prelude.{slice_index_or}
+use Rattle.std.proofs.Common.{◌≡◌, ℕ, zero, suc, ◌≤◌, ◌<◌, ℤ, pos, ◌≤ℤ◌, int_le, nat_lt, not, ◌==◌, Bool, true, false, cond, ◌&&◌, List, [], ◌∷◌, T, length, map, filter, refl, sym, ◌∙◌, ap, subst, true≢false, arith, Some, None, Option, MatchOption, is_lt}
 use Rattle.std.specs.Ordering.{int_cmp}
 use Rattle.std.specs.List.{AllByRecursion, zip}
 use Rattle.std.specs.FinMap as finmap
@@ -11,6 +10,7 @@ use Rattle.std.proofs.lemmas.Int.{ints}
 use Rattle.std.proofs.lemmas.Bool.{and_parts, and_from}
 use Rattle.std.proofs.lemmas.Bool.Decides.{nat_tests}
 use Rattle.std.proofs.lemmas.Option.{same_Some, get_or_from_slice_get}
+use Rattle.std.proofs.lemmas.Simd.{map-map}
 use Rattle.ts_core.specs.lists.Members.{Among}
 use Rattle.ts_core.specs.lists.Numbered.{IsAt}
 use Rattle.ts_core.specs.facts.Facts.{Column, Fact, text_cmp, series_cmp}
@@ -33,14 +33,14 @@ use Rattle.ts_core.proofs.lists.NumberedLemmas.{at_among, among_at}
 use Rattle.ts_core.proofs.plans.PieceCells.{exact_cells}
 use Rattle.ts_core.proofs.lists.Places.{both_of}
 use Rattle.ts_core.proofs.lists.Sorted.{among_found}
-use Rattle.ts_core.proofs.store.StateLemmas.{is_waiting-there, same_head, same_rest, cons_not}
+use Rattle.ts_core.proofs.store.StateLemmas.{is_waiting-there}
 use Rattle.ts_raw.specs.PlainColumns.{IsRising}
 use Rattle.ts_image.specs.Images.{ImageRule, ImageColumn, ImageSeries, ImageCell}
 use Rattle.ts_image.specs.ImageTests.{rule_in, settings_of_image}
 use Rattle.ts_store.specs.image.SavedContent.{AreRising}
 use Rattle.ts_image.specs.Pictures.{column_of_image, image_points_in, columns_of_image, waiting_of_image, cell_part_of, part_at, PicturesCells, PictureCells, IsPictureOf}
-use Rattle.ts_image.specs.SavedImages.{IsOrderlyColumn, IsOrderlySeries, IsOrderlyRule, AreOrderlyCells, IsOrderly, IsWellFormed}
-use Rattle.ts_store.specs.image.SavedContent.{SavedColumn, SavedSeries, saved_field, saved_key, SavesColumns, SavesSeries, FrozenCell, frozen_from}
+use Rattle.ts_image.specs.SavedImages.{IsOrderlyColumn, IsOrderlySeries, AreOrderlyCells, IsOrderly, IsWellFormed}
+use Rattle.ts_store.specs.image.SavedContent.{SavedColumn, SavedSeries, saved_key, SavesColumns, SavesSeries, FrozenCell, frozen_from}
 use Rattle.ts_store.specs.read.ViewResults.{no_points}
 use Rattle.ts_store.specs.store.SizedStores.{IsSized}
 use Rattle.ts_store.proofs.store.Stands.{waiting_among}
@@ -71,14 +71,6 @@ named_at : (cs : List ColumnPoints) (n : ℕ) (c : Column) → IsAt (map column_
 named_at [] n c e = absurd (let none : None ≡ Some c = e in cc)
 named_at (p ∷ ps) zero c e = (p, refl, same_Some p.column c e)
 named_at (p ∷ ps) (suc n) c e = named_at ps n c e
-
-keys_back : (k : StoreData) (order : List SavedSeries) → map series_of (map (image_series_of k) order) ≡ map saved_key order
-keys_back k [] = refl
-keys_back k (s ∷ ss) = ap (λ xs. s.series ∷ xs) (keys_back k ss)
-
-fields_back : (k : StoreData) (cs : List SavedColumn) → map field_of (map (image_column_of k) cs) ≡ map saved_field cs
-fields_back k [] = refl
-fields_back k (c ∷ cs) = ap (λ xs. c.field ∷ xs) (fields_back k cs)
 
 bit_one : (b : Bool) → (bit b == 1) ≡ true → b ≡ true
 bit_one true e = refl
@@ -172,7 +164,7 @@ module _ (k : StoreData) (order : List SavedSeries) (w : SavesSeries k.series (m
       let s = map_back (image_series_of k) order t a in
       subst IsOrderlySeries s.2 (record {
         columns = among_all IsOrderlyColumn (map (image_column_of k) s.0.columns) (λ c b. let x = map_back (image_column_of k) s.0.columns c b in subst IsOrderlyColumn x.2 (column_orderly points s.0 x.0 s.1 x.1));
-        rising = subst (AreRising text_cmp) (sym (fields_back k s.0.columns)) (column_parts_of s.0 s.1).rising;
+        rising = subst (AreRising text_cmp) (sym (map-map field_of (image_column_of k) s.0.columns)) (column_parts_of s.0 s.1).rising;
       })
 
 -- ---- cells
@@ -258,13 +250,9 @@ sorted_filter p (e ∷ es) h =
       | false ↦ sorted_filter p es parts.1
     ]
 
-cells_back : (es : List (Cell × CellParts)) → map (λ (c : ImageCell). c.cell) (map image_cell_of (map frozen_cell es)) ≡ map (λ (e : Cell × CellParts). e.0) es
-cells_back [] = refl
-cells_back (e ∷ es) = ap (λ xs. e.0 ∷ xs) (cells_back es)
-
 written_rising : (low : ℤ) (m : CellMap) → AreRising cell_cmp (map (λ (c : ImageCell). c.cell) (written low m))
 written_rising low m =
-    subst (AreRising cell_cmp) (sym (cells_back (filter (is_saved low) (finmap.entries m)))) (rising_keys cell_cmp (filter (is_saved low) (finmap.entries m)) (sorted_filter (is_saved low) (finmap.entries m) (entries_sorted m)))
+    subst (AreRising cell_cmp) (sym (map-map (λ (c : ImageCell). c.cell) image_cell_of (frozen_from low m) ∙ map-map (λ (c : FrozenCell). c.cell) frozen_cell (filter (is_saved low) (finmap.entries m)))) (rising_keys cell_cmp (filter (is_saved low) (finmap.entries m)) (sorted_filter (is_saved low) (finmap.entries m) (entries_sorted m)))
 
 written_kept : (low : ℤ) (m : CellMap) → AllByRecursion (λ (c : ImageCell). low ≤ℤ c.cell.index) (written low m)
 written_kept low m = among_all (λ (c : ImageCell). low ≤ℤ c.cell.index) (written low m) (λ c a. let e = entry_of low m c a in subst (λ (x : ImageCell). low ≤ℤ x.cell.index) e.4 e.2)
@@ -294,7 +282,7 @@ module _ (opening : Settings) (h : History) (k : StoreData) (order : List SavedS
     marks = refl;
     runs = refl;
     accepted = refl;
-    series = λ s. (λ a. (w.each s).0 (subst (Among s) (keys_back k order) a), λ a. subst (Among s) (sym (keys_back k order)) ((w.each s).1 a));
+    series = λ s. (λ a. (w.each s).0 (subst (Among s) (map-map series_of (image_series_of k) order) a), λ a. subst (Among s) (sym (map-map series_of (image_series_of k) order)) ((w.each s).1 a));
     columns = λ p. (columns_forth k order w p, columns_back k order w (λ c a. st.registered c a) p);
     waiting = λ c. (waiting_forth k order w c, waiting_back k order w (λ x a. st.registered x a) (λ x a. st.waiting_there x a) c);
     cells = cells_written.0;
@@ -306,7 +294,7 @@ module _ (opening : Settings) (h : History) (k : StoreData) (order : List SavedS
     raw = omega (arith, ints);
     durations = lasting k.settings.rules;
     series = among_all IsOrderlySeries (map (image_series_of k) order) (series_orderly k order w well.points);
-    rising = subst (AreRising series_cmp) (sym (keys_back k order)) w.rising;
+    rising = subst (AreRising series_cmp) (sym (map-map series_of (image_series_of k) order)) w.rising;
     cells = (cells_written opening h k order st well.sized w).1;
   }
 

@@ -1,6 +1,7 @@
 -- A store that is loaded from the image of another: it represents the same history, and the machine's state is the
 -- reloaded one.
-use Rattle.std.proofs.Common.{◌≡◌, List, [], ◌∷◌, ℕ, map, filter, Option, Some, IfSome, refl, sym, ◌∙◌, ap, subst}
+use Rattle.std.proofs.Common.{◌≡◌, List, ℕ, map, filter, Option, Some, IfSome, refl, sym, ◌∙◌, ap, subst}
+use Rattle.std.proofs.lemmas.Simd.{map-map}
 use Rattle.ts_core.specs.facts.Facts.{Series, Column}
 use Rattle.ts_core.specs.settings.Settings.{Settings}
 use Rattle.ts_core.specs.store.Marks.{Marks}
@@ -13,7 +14,6 @@ use Rattle.ts_core.specs.io.Devices.{Input}
 use Rattle.ts_store.specs.write.LineTexts.{with_series}
 use Rattle.ts_store.specs.store.SizedStores.{IsSized}
 use Rattle.ts_store.specs.store.Inventories.{Inventory, inventory_of}
-use Rattle.ts_store.specs.image.SavedContent.{SavedSeries, saved_key}
 use Rattle.ts_image.specs.declared.version.Version.TheVariants.{V2}
 use Rattle.ts_image.specs.Images.{ImageData}
 use Rattle.ts_image.specs.Saving.{store_image, image_series_of}
@@ -36,10 +36,6 @@ use Rattle.ts_script.specs.Machine.{State}
 use Rattle.ts_script.proofs.ReloadLemmas.{all_named, all_waiting}
 use Rattle.ts_script.proofs.ReloadedCells.{all_filled}
 
-keys_back : (k : StoreData) (order : List SavedSeries) → map key_in (map (image_series_of k) order) ≡ map saved_key order
-keys_back k [] = refl
-keys_back k (s ∷ ss) = ap (λ xs. s.series ∷ xs) (keys_back k ss)
-
 module _ (opening : Settings) (h : History) (k n : StoreData) (old : StandsFor opening h (state_of k)) (r : IsReloadOf k n) where
   pub stands : StandsFor opening h (state_of n)
   stands = pictured_stands k n (store_image k r.order) (written_picture opening h k r.order old r.sized r.ordered) r.made.made opening h old
@@ -51,7 +47,7 @@ module _ (opening : Settings) (h : History) (k n : StoreData) (old : StandsFor o
   reloaded_as = record {
     order = r.order;
     saved = r.ordered;
-    series = r.made.series ∙ keys_back k r.order;
+    series = r.made.series ∙ map-map key_in (image_series_of k) r.order;
     columns = columns;
     waiting = r.made.waiting ∙ all_waiting k r.order r.ordered.columns ∙ ap (λ (cs : List Column). filter (is_waiting k.waiting) cs) (sym columns);
     cells = all_filled opening h k n r.order old stands r.made r.sized;

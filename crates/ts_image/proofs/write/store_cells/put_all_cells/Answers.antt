@@ -1,4 +1,4 @@
-use Rattle.std.proofs.Common.{◌≡◌, ◌+◌, ℕ, List, [], ◌∷◌, length, map, drop, get_or, sym, subst, ap, ◌∙◌, arith}
+use Rattle.std.proofs.Common.{◌≡◌, ◌+◌, ℕ, List, [], ◌∷◌, length, map, drop, get_or, sym, ap, ◌∙◌, arith}
 use Rattle.std.specs.Int.{w64}
 use Rattle.std.specs.List.{AllByRecursion}
 use Rattle.std.proofs.lemmas.List.{length-map, drop_more, drop_all}
@@ -7,9 +7,8 @@ use Rattle.std.proofs.lemmas.Result.{err_from_is_err_and}
 use Rattle.ts_core.specs.settings.Settings.{Rule, Settings}
 use Rattle.ts_core.specs.store.StoreData.{StoreData}
 use Rattle.ts_core.proofs.lists.BesideLemmas.{AllZip-at}
-use Rattle.ts_image.specs.Formats.{Format, along, list_of}
+use Rattle.ts_image.specs.Formats.{Format, list_of}
 use Rattle.ts_image.specs.Images.{ImageRule, ImageCell, image_cell}
-use Rattle.ts_image.specs.FieldWriting.{PutsField}
 use Rattle.ts_image.specs.SavedParts.{image_rule_of}
 use Rattle.ts_image.specs.Saving.{image_cell_of, saved_cells, saved_cells_at, FitsCell}
 use Rattle.ts_image.proofs.Putting.{along_none, along_more, along_stops}
