@@ -36,4 +36,3 @@ mod GroupValuesLemmas
 mod SetSteps
 -- Fillings
 pub mod FillSteps
--- Lent
