@@ -1,13 +1,12 @@
 //! Commits the staged points of a line to their columns, and adds them to the cells of rules.
-ghost use Rattle.std.specs.Prelude.{◌≡◌, ◌+◌, ◌<◌, ◌≤◌, ◌^◌, pos, ◌≤ℤ◌, [], ◌∷◌, length};
+ghost use Rattle.std.specs.Prelude.{◌≡◌, ◌+◌, ◌<◌, ◌≤◌, ◌^◌, pos, ◌≤ℤ◌, length};
 ghost use Rattle.std.specs.Bool.{OnFalse};
 ghost use Rattle.std.specs.List.{AllByRecursion};
-ghost use Rattle.ts_core.specs.store.Marks.{index_of};
 ghost use Rattle.ts_store.specs.store.ColumnStates.{all_committed, AreReady};
 ghost use Rattle.ts_store.specs.write.CellsCreated.{bucket_indices};
 ghost use Rattle.ts_store.specs.write.PointPuts.{PutsPoint, CommitsPoints};
 ghost use Rattle.ts_store.specs.read.PointsRead.{number_of_points};
-ghost use Rattle.ts_store.specs.rollup.Rollups.{rollup_series_at, with_grid_cells, cells_of};
+ghost use Rattle.ts_store.specs.rollup.Rollups.{rollup_series_at, cells_of};
 ghost use Rattle.ts_store.specs.retain.RollupSteps.{with_all_grid_cells};
 
 use crate::rollup::Rollup;
@@ -31,45 +30,9 @@ fn is_rolled<A: Allocator + Copy>(rollups: &[Rollup<A>], column: usize) -> bool
     false
 }
 
-/// Adds a fact, which is in its column already, to the cell of the bucket with this index, which must be its own. Does
-/// nothing if the rule doesn't roll the column up, or if the cell doesn't exist. `old` is the value that the fact
-/// replaced.
-fn update_cell<A: Allocator + Copy>(
-    rule: &Rule<A>,
-    index: &i128,
-    rollup: &mut Rollup<A>,
-    columns: &[StoredColumn<A>],
-    column: ColumnId,
-    time: Time,
-    value: i64,
-    old: Option<i64>,
-)
-    requires interval { pos 1 ≤ℤ rule.now.interval }
-    requires index { index.now ≡ index_of rule.now time }
-    requires column { column < length columns.now }
-    requires each { length rollup.old.series_of_column ≡ length columns.now }
-    requires few { number_of_points columns.now ≤ 2 ^ 62 }
-    ensures kept { rollup.new ≡ with_grid_cells rollup.new.grid.cells rollup.old }
-    ensures cells { PutsPoint (rule.now ∷ []) columns.now column time value old (rollup.old ∷ []) (rollup.new ∷ []) }
-{
-    let Some(series) = rollup.rollup_series_of(column.number()) else {
-        return;
-    };
-    let Some(old) = old else {
-        rollup.cells.add(index, series, Agg::single(time, value));
-        return;
-    };
-    let Some(live) = rollup.live(index, series) else {
-        return;
-    };
-    let live = match live.without(Agg::single(time, old)) {
-        Some(rest) => Agg::single(time, value).merge(rest),
-        None => rollup_series_total(rule, rollup, columns, series, index),
-    };
-    rollup.cells.correct(index, series, live);
-}
-
-/// Does the same under each rule.
+/// Adds a fact, which is in its column already, to its cell under each rule. Does nothing under a rule that doesn't
+/// roll the column up, or if the cell doesn't exist. `buckets` has the index of the fact's bucket under each rule, and
+/// `old` is the value that the fact replaced.
 fn update_cells<A: Allocator + Copy>(
     rules: &[Rule<A>],
     buckets: &[i128],
@@ -90,16 +53,23 @@ fn update_cells<A: Allocator + Copy>(
     ensures cells { PutsPoint rules.now columns.now column time value old rollups.old rollups.new }
 {
     for (i, rollup) in rollups.iter_mut().enumerate() {
-        update_cell(
-            &rules[i],
-            &buckets[i],
-            rollup,
-            columns,
-            column,
-            time,
-            value,
-            old,
-        );
+        let rule = &rules[i];
+        let index = &buckets[i];
+        let Some(series) = rollup.rollup_series_of(column.number()) else {
+            continue;
+        };
+        let Some(replaced) = old else {
+            rollup.cells.add(index, series, Agg::single(time, value));
+            continue;
+        };
+        let Some(live) = rollup.live(index, series) else {
+            continue;
+        };
+        let live = match live.without(Agg::single(time, replaced)) {
+            Some(rest) => Agg::single(time, value).merge(rest),
+            None => rollup_series_total(rule, rollup, columns, series, index),
+        };
+        rollup.cells.correct(index, series, live);
     }
 }
 
