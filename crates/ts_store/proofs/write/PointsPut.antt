@@ -22,7 +22,7 @@ use Rattle.ts_core.proofs.lists.Sorted.{found_among, among_found}
 use Rattle.ts_core.specs.store.Cells.{cell_of, is_rolled, total_of}
 use Rattle.ts_line.specs.Parts.{LinePart, Parts, fact_of}
 use Rattle.ts_raw.specs.Columns.{PointMap, ColumnState}
-use Rattle.ts_store.specs.store.ColumnStates.{facts_in, facts_of_columns, with_points, point_maps, no_column, with_staged, committed, all_committed, AreReady, IsStaged, AreStaged}
+use Rattle.ts_store.specs.store.ColumnStates.{facts_in, facts_of_columns, with_points, point_maps, no_column, with_staged, committed, all_committed, AreReady, IsFactStaged, AreStaged}
 use Rattle.ts_store.specs.write.CellsCreated.{KeepsRollupSeries}
 use Rattle.ts_store.specs.write.LivePuts.{WasThere, IsLivePut, AreOfFields}
 use Rattle.ts_store.specs.write.PointPuts.{AreLiveOver, PutsPoint, ArePointsStaged}
@@ -121,7 +121,7 @@ module _ (ss : List ColumnState) (n m : ℕ) (x : ColumnState) (ready : AreReady
   pub now_committed : (t : ColumnState) → IfSome x.staged (λ (p : ℤ × ℤ). t.points ≡ finmap.insert x.points p.0 p.1) → t.staged ≡ None → set ss m t ≡ set ss n (committed (get_or ss n no_column))
   now_committed t put none = ap₂ (λ k (u : ColumnState). set ss k u) same (committed_is x t put ready_staged none ∙ ap (λ (u : ColumnState). committed u) its_column)
 
-module _ (cs : List Column) (ss : List ColumnState) (n : ℕ) (f : Fact) (once : AllDistinct cs) (each : length ss ≡ length cs) (staged : IsStaged cs ss n f) where
+module _ (cs : List Column) (ss : List ColumnState) (n : ℕ) (f : Fact) (once : AllDistinct cs) (each : length ss ≡ length cs) (staged : IsFactStaged cs ss n f) where
   abbrev next : List ColumnState
   next = set ss n (committed (get_or ss n no_column))
 
@@ -197,7 +197,7 @@ wide_still n ss ts e all = subst (AllByRecursion (λ (s : RollupState). length s
 pub record IsPointStaged (cs : List Column) (states : List ColumnState) (column : ℕ) (time value : ℤ) (f : Fact) : Type 0 where
   pub same_time : f.time ≡ time
   pub same_value : f.value ≡ value
-  pub staged : IsStaged cs states column f
+  pub staged : IsFactStaged cs states column f
 
 -- the fact that is staged is put into its cells
 abbrev pub CommitsPoint : List Rule → ℕ → ℤ → ℤ → List ColumnState → List RollupState → List ColumnState → List RollupState → Type 0
@@ -205,7 +205,7 @@ CommitsPoint rules column time value states us states' us' =
     (cs : List Column) (f : Fact) → AreLiveOver rules cs states (with_points cs (point_maps states)) us → IsPointStaged cs states column time value f
     → cells_of us' ≡ put_cells rules f (facts_of (with_points cs (point_maps states'))) (cells_of us)
 
-pub puts_more : (rs : List Rule) (cs : List Column) (ss ss' : List ColumnState) (n : ℕ) (f : Fact) (fs : List Fact) (after : List ColumnPoints) (ms ms' ns : List CellMap) → AllDistinct cs → length ss ≡ length cs → IsStaged cs ss n f
+pub puts_more : (rs : List Rule) (cs : List Column) (ss ss' : List ColumnState) (n : ℕ) (f : Fact) (fs : List Fact) (after : List ColumnPoints) (ms ms' ns : List CellMap) → AllDistinct cs → length ss ≡ length cs → IsFactStaged cs ss n f
     → ss' ≡ set ss n (committed (get_or ss n no_column)) → ms' ≡ put_cells rs f (facts_of (with_points cs (point_maps ss'))) ms → AreLive (with_points cs (point_maps ss)) rs ms
     → (AreLive (with_points cs (point_maps ss')) rs ms' → PutsFacts rs (with_points cs (point_maps ss')) ms' after ns fs)
     → PutsFacts rs (with_points cs (point_maps ss)) ms after ns (f ∷ fs)

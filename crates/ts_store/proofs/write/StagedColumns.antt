@@ -13,7 +13,7 @@ use Rattle.ts_raw.specs.Columns.{PointMap, ColumnState}
 use Rattle.ts_raw.specs.Indexed.{Indexed, no_series, column_in}
 use Rattle.ts_core.specs.store.StoreStates.{ColumnPoints, column_of, facts_at, facts_of}
 use Rattle.ts_core.specs.moves.StoreMoves.{Puts}
-use Rattle.ts_store.specs.store.ColumnStates.{with_points, columns_in, facts_of_columns, point_maps, no_column, with_staged, with_point_staged, committed, all_committed, AreReady, IsStaged, AreStaged, MayGrow}
+use Rattle.ts_store.specs.store.ColumnStates.{with_points, columns_in, facts_of_columns, point_maps, no_column, with_staged, with_point_staged, committed, all_committed, AreReady, IsFactStaged, AreStaged, MayGrow}
 use Rattle.ts_store.specs.write.Registered.{new_columns, without_points, with_columns, MakesAll, MakesFirst}
 use Rattle.ts_store.proofs.store.ColumnsLemmas.{columns_puts, names_of, grown_behind}
 use Rattle.ts_core.specs.store.RawFacts.{is_waiting}
@@ -89,7 +89,7 @@ slice_get_left (y ∷ xs) ys (suc n) x e = slice_get_left xs ys n x e
 -- columns created after them leave the staged points
 pub staged_grown : (cs : List Column) (ss : List ColumnState) (ns : List ℕ) (fs : List Fact) (c : Column) (s : ColumnState) → length ss ≡ length cs → AreStaged cs ss ns fs → AreStaged (cs ++ c ∷ []) (ss ++ s ∷ []) ns fs
 staged_grown cs ss ns fs c s l a =
-    AllZip-weaker (IsStaged cs ss) (IsStaged (cs ++ c ∷ []) (ss ++ s ∷ []))
+    AllZip-weaker (IsFactStaged cs ss) (IsFactStaged (cs ++ c ∷ []) (ss ++ s ∷ []))
     (λ n f one.
     let within : n < length ss = let w = slice_get_within cs n f.column one.0 in omega (arith, w, l) in
     (slice_get_left cs (c ∷ []) n f.column one.0, ap (λ (t : ColumnState). t.staged) (get_or_append_left ss (s ∷ []) no_column n within) ∙ one.1)) ns fs a

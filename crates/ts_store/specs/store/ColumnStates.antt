@@ -71,12 +71,12 @@ AreReady states [] = Unit {0}
 AreReady states (n ∷ ns) = (n < length states) × IsSome (get_or states n no_column).staged × (Among n ns → ⊥) × AreReady states ns
 
 -- the fact is staged in its column, which has this index
-abbrev pub IsStaged : List Column → List ColumnState → ℕ → Fact → Type 0
-IsStaged columns states n f = (slice_get columns n ≡ Some f.column) × ((get_or states n no_column).staged ≡ Some (f.time, f.value))
+abbrev pub IsFactStaged : List Column → List ColumnState → ℕ → Fact → Type 0
+IsFactStaged columns states n f = (slice_get columns n ≡ Some f.column) × ((get_or states n no_column).staged ≡ Some (f.time, f.value))
 
 -- the same for each index and fact
 abbrev pub AreStaged : List Column → List ColumnState → List ℕ → List Fact → Type 0
-AreStaged columns states = AllZip (IsStaged columns states)
+AreStaged columns states = AllZip (IsFactStaged columns states)
 
 -- ---- an index with the points of its columns, and with rollups
 

@@ -17,7 +17,7 @@ use Rattle.ts_core.specs.lists.Numbered.{Gains, IsAt}
 use Rattle.ts_core.proofs.lists.Results.{on_any_err}
 use Rattle.ts_store.specs.write.LinesInColumns.{GrowsForLine}
 use Rattle.ts_store.specs.write.Registered.{MayGain, MakesFirst, with_columns, new_columns}
-use Rattle.ts_store.specs.store.ColumnStates.{StoreContent, IsSoundContent, content_of, columns_in, with_points, point_maps, IsStaged, AreStaged}
+use Rattle.ts_store.specs.store.ColumnStates.{StoreContent, IsSoundContent, content_of, columns_in, with_points, point_maps, IsFactStaged, AreStaged}
 use Rattle.ts_store.proofs.write.StagedColumns.{ready_of, numbers_distinct, line_columns, all_committed-length, same_facts}
 use Rattle.std.specs.List.{AllByRecursion}
 use Rattle.ts_core.specs.store.StoreData.{CellMap, AreLive}
@@ -95,7 +95,7 @@ commit_points-requires-clause-fields g c =
     let cs : List Column = c.prepare_line.new.index.columns in
     let ss : List ColumnState = c.prepare_line.new.columns.items in
     let ns : List ℕ = c.prepare_line.new.touched.items in
-    ap length c.fields-2.ensures.value ∙ sym (length-map p.fields (fact_of p)) ∙ AllZip-long (IsStaged cs ss) ns (line_facts p) c.in_ok-prepare_line.ensures.line.staged ∙ sym (ap length c.as_slice-4.ensures.value)
+    ap length c.fields-2.ensures.value ∙ sym (length-map p.fields (fact_of p)) ∙ AllZip-long (IsFactStaged cs ss) ns (line_facts p) c.in_ok-prepare_line.ensures.line.staged ∙ sym (ap length c.as_slice-4.ensures.value)
 
 pub commit_points-requires-clause-rules : goal.commit_points-requires-clause-rules
 commit_points-requires-clause-rules g c =
@@ -126,7 +126,7 @@ commit_points-requires-clause-few g c =
     let same : facts_of (with_points cs (point_maps ss)) ≡ facts_of c.args.self.now.columns = ap facts_of made ∙ same_facts c.args.self.now.columns (new_columns (map column_of c.args.self.now.columns) (line_facts p)) in
     let count = facts-length cs ss c.prepare_line.ensures.line.held.each in
     let many = ap length same in
-    let wide = AllZip-long (IsStaged cs ss) ns (line_facts p) c.in_ok-prepare_line.ensures.line.staged in
+    let wide = AllZip-long (IsFactStaged cs ss) ns (line_facts p) c.in_ok-prepare_line.ensures.line.staged in
     let lent = ap length c.as_slice-4.ensures.value in
     let fit = c.requires.fit in
     omega (arith, count, many, wide, lent, fit)
