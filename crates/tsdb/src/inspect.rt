@@ -114,6 +114,24 @@ fn report(
     ExitCode::from(fault.status())
 }
 
+/// Prints what was requested of a store, and returns the exit status.
+fn inspect_loaded<R, W>(
+    rt: &R,
+    loaded: &Loaded,
+    inspection: &Inspection<'_>,
+    sink: &mut Sink<W>,
+) -> ExitCode
+where
+    R: AllocGlobal + Eprint,
+    W: Write,
+    ensures { IsInspectStatus (exit_status result) }
+{
+    match print(rt.alloc(), loaded, inspection.lines, sink) {
+        Ok(()) => ExitCode::from(0),
+        Err(fault) => report(rt, inspection.image, fault, None),
+    }
+}
+
 /// Prints what an image holds, and returns the exit status: 0, or that of a fault, which is printed on standard error.
 /// `seed`: of the hashes of names.
 pub fn inspect<R, W>(
@@ -127,15 +145,11 @@ where
     W: Write,
     ensures { IsInspectStatus (exit_status result) }
 {
-    let loaded = match load_image(rt, seed, inspection.image) {
-        Ok(loaded) => loaded,
+    match load_image(rt, seed, inspection.image) {
+        Ok(loaded) => inspect_loaded(rt, &loaded, inspection, sink),
         Err(failed) => {
             let fault = InspectFault::of_load(failed.fault);
-            return report(rt, inspection.image, fault, failed.cause);
+            report(rt, inspection.image, fault, failed.cause)
         }
-    };
-    match print(rt.alloc(), &loaded, inspection.lines, sink) {
-        Ok(()) => ExitCode::from(0),
-        Err(fault) => report(rt, inspection.image, fault, None),
     }
 }
