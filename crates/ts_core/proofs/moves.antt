@@ -1,4 +1,5 @@
 -- StoreLaws, StoreMoves: transitions of a store and the histories that it represents
+pub mod EachRule
 pub mod LineStands
 pub mod MovesStand
 pub mod LivesKept

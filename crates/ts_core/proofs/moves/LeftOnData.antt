@@ -3,20 +3,21 @@ use Rattle.std.proofs.Common.{◌≡◌, ℕ, ℤ, ◌+◌, ◌≤◌, ◌<ℤ�
 use Rattle.std.proofs.lemmas.List.{length-map, nil_from_length}
 use Rattle.std.specs.FinMap as finmap
 use Rattle.ts_core.specs.lists.Members.{Among}
-use Rattle.ts_core.specs.lists.Beside.{changed_beside}
 use Rattle.ts_core.specs.facts.Facts.{Column, Fact, Series}
 use Rattle.ts_core.specs.settings.Settings.{Rule}
 use Rattle.ts_core.specs.store.Cells.{Cell}
 use Rattle.ts_core.specs.moves.Runs.{batches_of, batches_left, expired_count, steps_left, Falls, count_steps, last_left}
 use Rattle.ts_core.specs.store.StoreStates.{ColumnPoints, RuleCells, column_of, facts_of}
-use Rattle.ts_core.specs.store.StoreData.{CellMap, StoreData, rules_of, state_of}
-use Rattle.ts_core.specs.moves.StoreMoves.{kept_points, points_below, moved_cells, column_moved, raised, run_begun, run_ended, GainsEmptyCells, GainEmptyCells, grown, put_cell, put_cells, PutsFacts, put_facts}
+use Rattle.ts_core.specs.store.StoreData.{CellMap, RuleData, StoreData, rule_cells, state_of}
+use Rattle.ts_core.specs.moves.StoreMoves.{in_cells, kept_points, points_below, moved_cells, column_moved, run_begun, run_ended, GainsEmptyCells, GainEmptyCells, grown, put_cell, put_cells, PutsFacts, put_facts}
 use Rattle.ts_core.proofs.lists.MembersLemmas.{AllDistinct-filter, Among-filter_was, Among-filter_passes, Among-filter_stays}
 use Rattle.ts_core.proofs.aggregates.Folds.{length-same}
 use Rattle.ts_core.proofs.lists.Comparisons.{lt_from}
 use Rattle.ts_core.proofs.moves.StepStands.{keys_column}
 use Rattle.ts_core.proofs.moves.StepsLeft.{batches_left-same}
-use Rattle.ts_core.proofs.moves.MovesStand.{keys_once, key_there, key_not, put_cell-keys, GainsBeside, rules_changed}
+use Rattle.ts_core.proofs.moves.MovesStand.{keys_once, key_there, key_not, put_cell-keys, GainsOf}
+use Rattle.ts_core.proofs.moves.EachRule.{rules_changed}
+use Rattle.ts_core.proofs.store.StateLemmas.{AllZip-map}
 
 -- ---- cells with the same keys
 
@@ -25,14 +26,13 @@ abbrev pub BelowSame : ℤ → CellMap → CellMap → Type 0
 BelowSame low m n = length (filter (λ (k : Cell). int_lt k.index low) (finmap.keys n)) ≡ length (filter (λ (k : Cell). int_lt k.index low) (finmap.keys m))
 
 -- each rule keeps its keys
-pub turns_beside : (f : Rule → CellMap → CellMap) → ((r : Rule) (m : CellMap) → finmap.keys (f r m) ≡ finmap.keys m) → (rs : List Rule) (lows : List ℤ) (ms : List CellMap)
-    → batches_left (rules_of rs lows (changed_beside f rs ms)) ≡ batches_left (rules_of rs lows ms)
-turns_beside f h (r ∷ rs) (low ∷ lows) (m ∷ ms) = ap₂ (λ a b. batches_of a + b) (ap (λ ks. length (filter (λ (k : Cell). int_lt k.index low) ks)) (h r m)) (turns_beside f h rs lows ms)
-turns_beside f h _ lows ms = refl
+pub turns_in : (f : Rule → CellMap → CellMap) → ((r : Rule) (m : CellMap) → finmap.keys (f r m) ≡ finmap.keys m) → (rs : List RuleData) → batches_left (map rule_cells (map (in_cells f) rs)) ≡ batches_left (map rule_cells rs)
+turns_in f h [] = refl
+turns_in f h (x ∷ rs) = ap₂ (λ a b. batches_of a + b) (ap (λ ks. length (filter (λ (k : Cell). int_lt k.index x.low) ks)) (h x.rule x.cells)) (turns_in f h rs)
 
-turns_line : (rs : List Rule) (lows : List ℤ) (fs : List Fact) (before after : List ColumnPoints) (ms ns : List CellMap) → PutsFacts rs before ms after ns fs → batches_left (rules_of rs lows ns) ≡ batches_left (rules_of rs lows ms)
-turns_line rs lows [] before after ms ns p = ap (λ xs. batches_left (rules_of rs lows xs)) p.1
-turns_line rs lows (f ∷ fs) before after ms ns p = turns_line rs lows fs p.0 after (put_cells rs f (facts_of p.0) ms) ns p.2 ∙ turns_beside (λ (r : Rule). put_cell r f (facts_of p.0)) (λ r. put_cell-keys r f (facts_of p.0)) rs lows ms
+turns_line : (fs : List Fact) (before after : List ColumnPoints) (rs ss : List RuleData) → PutsFacts before rs after ss fs → batches_left (map rule_cells ss) ≡ batches_left (map rule_cells rs)
+turns_line [] before after rs ss p = ap (λ xs. batches_left (map rule_cells xs)) p.1
+turns_line (f ∷ fs) before after rs ss p = turns_line fs p.0 after (put_cells f (facts_of p.0) rs) ss p.2 ∙ turns_in (λ (r : Rule). put_cell r f (facts_of p.0)) (λ r. put_cell-keys r f (facts_of p.0)) rs
 
 -- ---- room
 
@@ -50,46 +50,46 @@ module _ (r : Rule) (low : ℤ) (facts : List Fact) (m n : CellMap) (spare : Gai
       length-same (filter is_below (finmap.keys n)) (filter is_below (finmap.keys m)) (AllDistinct-filter is_below (finmap.keys n) (keys_once n)) (AllDistinct-filter is_below (finmap.keys m) (keys_once m))
       (below_of n m (λ k l. sym (spare.above k l))) (below_of m n spare.above)
 
-turns_roomed : (rs : List Rule) (lows : List ℤ) (facts : List Fact) (ms ns : List CellMap) → GainEmptyCells rs lows facts ms ns → batches_left (rules_of rs lows ns) ≡ batches_left (rules_of rs lows ms)
-turns_roomed rs lows facts ms ns e =
-    batches_left-same (rules_of rs lows ms) (rules_of rs lows ns) (rules_changed (GainsBeside facts) (λ (x y : RuleCells). expired_count y ≡ expired_count x) (λ r low m n spare. below_roomed r low facts m n spare) rs lows ms ns e)
+turns_roomed : (facts : List Fact) (rs ss : List RuleData) → GainEmptyCells facts rs ss → batches_left (map rule_cells ss) ≡ batches_left (map rule_cells rs)
+turns_roomed facts rs ss e =
+    batches_left-same (map rule_cells rs) (map rule_cells ss)
+    (AllZip-map (λ (x y : RuleCells). expired_count y ≡ expired_count x) rule_cells rule_cells rs ss
+    (rules_changed (GainsOf facts) (λ (a b : RuleData). expired_count (rule_cells b) ≡ expired_count (rule_cells a)) (λ a n spare. below_roomed a.rule a.low facts a.cells n spare) rs ss e))
 
 -- ---- the moves
 
 -- the number of steps left of an open run
-left_open : (k : StoreData) → k.running ≡ true → steps_left (state_of k) ≡ length k.waiting + batches_left (rules_of k.settings.rules k.marks.lows k.cells) + 1
-left_open k e = ap (λ b. cond b (length k.waiting + batches_left (rules_of k.settings.rules k.marks.lows k.cells) + 1) 0) e
+left_open : (k : StoreData) → k.running ≡ true → steps_left (state_of k) ≡ length k.waiting + batches_left (map rule_cells k.rules) + 1
+left_open k e = ap (λ b. cond b (length k.waiting + batches_left (map rule_cells k.rules) + 1) 0) e
 
-pub left-begins : (k : StoreData) (now : ℤ) → steps_left (state_of (run_begun now k)) ≡ length k.columns + batches_left (rules_of k.settings.rules (raised now k.settings.rules k.marks.lows) k.cells) + 1
-left-begins k now = ap (λ n. n + batches_left (rules_of k.settings.rules (raised now k.settings.rules k.marks.lows) k.cells) + 1) (length-map k.columns column_of)
+pub left-begins : (k : StoreData) (now : ℤ) → steps_left (state_of (run_begun now k)) ≡ length k.columns + batches_left (map rule_cells (run_begun now k).rules) + 1
+left-begins k now = ap (λ n. n + batches_left (map rule_cells (run_begun now k).rules) + 1) (length-map k.columns column_of)
 
 pub left-moves : (k : StoreData) (c : Column) (ps : List (ℤ × ℤ)) (rest : List Column) → k.running ≡ true → k.waiting ≡ c ∷ rest → steps_left (state_of k) ≡ steps_left (state_of (column_moved c ps rest k)) + 1
 left-moves k c ps rest e w =
     let a = left_open k e in
     let b = left_open (column_moved c ps rest k) e in
     let n : length k.waiting ≡ length rest + 1 = ap (λ (ws : List Column). length ws) w ∙ (let m : length (c ∷ rest) ≡ length rest + 1 = omega arith in m) in
-    let left : List Fact = facts_of (map (kept_points c k.marks.raw) k.columns) in
-    let t = turns_beside (λ (r : Rule). moved_cells r c (points_below k.marks.raw ps) left) (λ r. keys_column r c (points_below k.marks.raw ps) left) k.settings.rules k.marks.lows k.cells in
+    let left : List Fact = facts_of (map (kept_points c k.raw_mark) k.columns) in
+    let t = turns_in (λ (r : Rule). moved_cells r c (points_below k.raw_mark ps) left) (λ r. keys_column r c (points_below k.raw_mark ps) left) k.rules in
     omega arith
 
-pub left-ends : (k : StoreData) → k.running ≡ true → k.waiting ≡ [] → batches_left (rules_of k.settings.rules k.marks.lows k.cells) ≡ 0 → (steps_left (state_of k) ≡ 1) × (steps_left (state_of (run_ended k)) ≡ 0)
+pub left-ends : (k : StoreData) → k.running ≡ true → k.waiting ≡ [] → batches_left (map rule_cells k.rules) ≡ 0 → (steps_left (state_of k) ≡ 1) × (steps_left (state_of (run_ended k)) ≡ 0)
 left-ends k e w t =
     let a = left_open k e in
     let n : length k.waiting ≡ 0 = ap (λ (ws : List Column). length ws) w in
     (omega arith, refl)
 
-pub left-last : (k : StoreData) → k.running ≡ true → steps_left (state_of k) ≡ 1 → (k.waiting ≡ []) × (batches_left (rules_of k.settings.rules k.marks.lows k.cells) ≡ 0)
+pub left-last : (k : StoreData) → k.running ≡ true → steps_left (state_of k) ≡ 1 → (k.waiting ≡ []) × (batches_left (map rule_cells k.rules) ≡ 0)
 left-last k e l =
     let a = left_open k e in
     (nil_from_length k.waiting (omega arith), omega arith)
 
-pub left-grows : (k : StoreData) (series : List Series) (columns : List ColumnPoints) (ms : List CellMap) (facts : List Fact) → GainEmptyCells k.settings.rules k.marks.lows facts k.cells ms
-    → steps_left (state_of (grown series columns ms k)) ≡ steps_left (state_of k)
-left-grows k series columns ms facts spare = ap (λ t. cond k.running (length k.waiting + t + 1) 0) (turns_roomed k.settings.rules k.marks.lows facts k.cells ms spare)
+pub left-grows : (k : StoreData) (series : List Series) (columns : List ColumnPoints) (rs : List RuleData) (facts : List Fact) → GainEmptyCells facts k.rules rs → steps_left (state_of (grown series columns rs k)) ≡ steps_left (state_of k)
+left-grows k series columns rs facts spare = ap (λ t. cond k.running (length k.waiting + t + 1) 0) (turns_roomed facts k.rules rs spare)
 
-pub left-puts : (k : StoreData) (columns : List ColumnPoints) (facts : List Fact) (ns : List CellMap) (n : ℕ) → PutsFacts k.settings.rules k.columns k.cells columns ns facts
-    → steps_left (state_of (put_facts columns ns n k)) ≡ steps_left (state_of k)
-left-puts k columns facts ns n p = ap (λ t. cond k.running (length k.waiting + t + 1) 0) (turns_line k.settings.rules k.marks.lows facts k.columns columns k.cells ns p)
+pub left-puts : (k : StoreData) (columns : List ColumnPoints) (facts : List Fact) (ss : List RuleData) (n : ℕ) → PutsFacts k.columns k.rules columns ss facts → steps_left (state_of (put_facts columns ss n k)) ≡ steps_left (state_of k)
+left-puts k columns facts ss n p = ap (λ t. cond k.running (length k.waiting + t + 1) 0) (turns_line facts k.columns columns k.rules ss p)
 
 -- ---- the bound
 

@@ -1,22 +1,20 @@
 -- The other transitions, on a store's content.
 use Rattle.std.proofs.lemmas.Bool.{not-true, false_from_ne_true}
 use Rattle.std.proofs.Common.{◌≡◌, ℤ, ◌≤ℤ◌, true, false, cond, not, ◌&&◌, List, [], ◌∷◌, filter, map, refl, sym, ◌∙◌, ap, subst, inl, inr, ◌⊎◌, ⊎_elim, true≢false, Some, None, is_eq, T}
-use Rattle.std.specs.Int.{int_max}
-use Rattle.std.specs.List.{AllByRecursion, AllZip, zip}
+use Rattle.std.specs.List.{AllByRecursion, AllZip}
 use Rattle.std.specs.FinMap as finmap
 use Rattle.std.specs.FinMap.{find, is_sorted, get-entries, entries_sorted}
 use Rattle.std.specs.FinMap.Entries.{below_all}
 use Rattle.ts_core.specs.lists.Members.{Among, AllDistinct}
-use Rattle.ts_core.specs.lists.Beside.{OfEach, AllZipBeside}
 use Rattle.ts_core.specs.facts.Facts.{Series, Column, Fact, Id, id_of, same_id}
 use Rattle.ts_core.specs.settings.Settings.{Rule, Settings}
-use Rattle.ts_core.specs.store.History.{History, Begin, Step, kept_since}
+use Rattle.ts_core.specs.store.History.{History, Begin, Step}
 use Rattle.ts_core.specs.facts.Latest.{latest_of}
-use Rattle.ts_core.specs.store.Marks.{index_of}
+use Rattle.std.proofs.lemmas.Simd.{map-map}
 use Rattle.ts_core.specs.aggregates.MergeLaws.{aggregate_laws}
 use Rattle.ts_core.specs.store.RawFacts.{kept_from}
 use Rattle.ts_core.specs.store.Cells.{Cell, cell_cmp, same_cell, cell_of, is_rolled, is_in_cell, total_of}
-use Rattle.ts_core.specs.store.StoreStates.{ColumnPoints, CellParts, RuleCells, StandsFor, HasCells, column_of, rule_of, lowest_of, facts_of}
+use Rattle.ts_core.specs.store.StoreStates.{ColumnPoints, CellParts, StandsFor, HasCells, column_of, rule_of, lowest_of, facts_of}
 use Rattle.ts_core.proofs.aggregates.Folds.{fold-same}
 use Rattle.ts_core.proofs.lists.MembersLemmas.{AllDistinct-filter, Among-filter_was, Among-filter_passes, Among-filter_stays}
 use Rattle.ts_core.proofs.plans.PieceCells.{same_cell-eq, same_cell-refl}
@@ -24,42 +22,34 @@ use Rattle.ts_core.proofs.facts.Ids.{same_id-eq}
 use Rattle.ts_core.proofs.lists.Places.{both_of, less_of}
 use Rattle.ts_core.proofs.store.Cuts.{one_fact}
 use Rattle.ts_core.proofs.store.Moves.{IsRaised, IsExpired, IsWritten, FactsToo}
-use Rattle.ts_core.proofs.store.StateLemmas.{AllZip-all, AllZip-maps, cons_not, same_rest}
+use Rattle.ts_core.proofs.store.StateLemmas.{AllZip-map, all_map, all_of_map}
 use Rattle.ts_core.proofs.store.Begins.{begin_stands}
 use Rattle.ts_core.proofs.store.RunSteps.{expire_stands, close_stands}
 use Rattle.ts_core.proofs.store.Writes.{is_other}
 use Rattle.ts_core.specs.store.TwoParts.{with_live}
 use Rattle.ts_core.specs.lists.Changes.{or_else}
 use Rattle.std.proofs.lemmas.Bool.{and_parts}
-use Rattle.ts_core.specs.store.StoreData.{CellMap, no_parts, StoreData, rule_cells, rules_of, state_of}
-use Rattle.ts_core.specs.moves.StoreMoves.{raised, run_begun, Expired, with_cells, run_ended, GainsEmptyCells, GainEmptyCells, grown, refolded, put_cell, put_cells, PutsFact}
+use Rattle.ts_core.specs.store.StoreData.{CellMap, no_parts, RuleData, StoreData, rule_cells, state_of}
+use Rattle.ts_core.specs.moves.StoreMoves.{in_cells, raised_rule, run_begun, KeepsFrom, Expired, with_rules, run_ended, GainsEmptyCells, GainEmptyCells, grown, refolded, put_cell, put_cells, PutsFact}
 use Rattle.ts_core.proofs.moves.Freezing.{frozen_in, live_in, changed_as, changed_here, changed_else, keys_changed}
+use Rattle.ts_core.proofs.moves.EachRule.{rules_changed, rules_keep, rules_gain, settings_same, marks_same, stands_changed}
 use Rattle.ts_core.proofs.moves.StepStands.{find_among, same_flip}
 
 -- ---- begin
 
-raised_rules : (now : ℤ) (rs : List Rule) (lows : List ℤ) (ms : List CellMap) → AllZip (IsRaised now) (rules_of rs lows ms) (rules_of rs (raised now rs lows) ms)
-raised_rules now (r ∷ rs) (low ∷ lows) (m ∷ ms) = (record { rule = refl; low = refl; cells = refl; parts = λ k. refl }, raised_rules now rs lows ms)
-raised_rules now _ lows ms = tt
-
-raised_lows : (now : ℤ) (rs : List Rule) (lows : List ℤ) (ms : List CellMap) → map lowest_of (rules_of rs lows ms) ≡ lows → map lowest_of (rules_of rs (raised now rs lows) ms) ≡ raised now rs lows
-raised_lows now [] lows ms e = e
-raised_lows now (r ∷ rs) [] ms e = refl
-raised_lows now (r ∷ rs) (low ∷ lows) [] e = absurd (cons_not (sym e))
-raised_lows now (r ∷ rs) (low ∷ lows) (m ∷ ms) e =
-    ap (λ xs. int_max low (index_of r (kept_since r.duration now)) ∷ xs) (raised_lows now rs lows ms (same_rest low low (map lowest_of (rules_of rs lows ms)) lows e))
+raised_rules : (now : ℤ) (rs : List RuleData) → AllZip (IsRaised now) (map rule_cells rs) (map rule_cells (map (raised_rule now) rs))
+raised_rules now [] = tt
+raised_rules now (r ∷ rs) = (record { rule = refl; low = refl; cells = refl; parts = λ k. refl }, raised_rules now rs)
 
 pub run_begins : (opening : Settings) (h : History) (k : StoreData) (now : ℤ) → StandsFor opening h (state_of k) → k.running ≡ false → StandsFor opening (Begin now ∷ h) (state_of (run_begun now k))
 run_begins opening h k now st e =
-    let after : List RuleCells = rules_of k.settings.rules (raised now k.settings.rules k.marks.lows) k.cells in
+    let after : List RuleData = (run_begun now k).rules in
     subst (StandsFor opening (Begin now ∷ h))
-    (λ i. record (state_of k) {
-      marks = record { raw = int_max k.marks.raw (kept_since k.settings.raw_duration now); lows = raised_lows now k.settings.rules k.marks.lows k.cells st.lows i };
-      running = true;
-      waiting = map column_of k.columns;
-      rules = after;
+    (λ i. record (state_of (run_begun now k)) {
+      settings = record { raw_duration = k.raw_duration; rules = sym (map-map (λ (a : RuleData). a.rule) (raised_rule now) k.rules) i };
+      marks = record { raw = (run_begun now k).raw_mark; lows = map-map lowest_of rule_cells after i };
     })
-    (begin_stands opening h (state_of k) now after st e (raised_rules now k.settings.rules k.marks.lows k.cells))
+    (begin_stands opening h (state_of k) now (map rule_cells after) st e (raised_rules now k.rules))
 
 -- ---- keys
 
@@ -92,67 +82,45 @@ key_not m k a e = find_among k (finmap.entries m) a (sym (get-entries m k) ∙ e
 
 -- ---- expiry
 
-expired_rules : (rs : List Rule) (lows : List ℤ) (ms ns : List CellMap) → Expired lows ms ns → AllZip IsExpired (rules_of rs lows ms) (rules_of rs lows ns)
-expired_rules (r ∷ rs) (low ∷ lows) [] (n ∷ ns) e = absurd e
-expired_rules (r ∷ rs) (low ∷ lows) (m ∷ ms) [] e = absurd e
-expired_rules (r ∷ rs) (low ∷ lows) (m ∷ ms) (n ∷ ns) e = (
-  record {
-    rule = refl;
-    low = refl;
-    once = keys_once n;
-    stays = λ k l a. key_there n k (λ z. key_not m k a (sym (e.0 k l) ∙ z));
-    parts = λ k l. ap (or_else no_parts) (e.0 k l);
-  },
-  expired_rules rs lows ms ns e.1,
-)
-expired_rules _ lows ms ns e = tt
+is_expired : (a : RuleData) (n : CellMap) → KeepsFrom a.low a.cells n → IsExpired (rule_cells a) (rule_cells (record a { cells = n }))
+is_expired a n e = record {
+  rule = refl;
+  low = refl;
+  once = keys_once n;
+  stays = λ k l b. key_there n k (λ z. key_not a.cells k b (sym (e k l) ∙ z));
+  parts = λ k l. ap (or_else no_parts) (e k l);
+}
 
-pub cells_go : (opening : Settings) (h : History) (k : StoreData) (ms : List CellMap) → StandsFor opening h (state_of k) → Expired k.marks.lows k.cells ms → StandsFor opening (Step false ∷ h) (state_of (with_cells ms k))
-cells_go opening h k ms st e = expire_stands opening h (state_of k) (rules_of k.settings.rules k.marks.lows ms) st (expired_rules k.settings.rules k.marks.lows k.cells ms e)
+pub cells_go : (opening : Settings) (h : History) (k : StoreData) (rs : List RuleData) → StandsFor opening h (state_of k) → Expired k.rules rs → StandsFor opening (Step false ∷ h) (state_of (with_rules rs k))
+cells_go opening h k rs st e =
+    let each = rules_changed (λ r. KeepsFrom) (λ (a b : RuleData). IsExpired (rule_cells a) (rule_cells b)) is_expired k.rules rs e in
+    stands_changed (λ r. KeepsFrom) opening (Step false ∷ h) (with_rules rs k) k.rules e
+    (expire_stands opening h (state_of k) (map rule_cells rs) st (AllZip-map IsExpired rule_cells rule_cells k.rules rs each))
 
 pub run_ends : (opening : Settings) (h : History) (k : StoreData) → StandsFor opening h (state_of k) → k.waiting ≡ [] → StandsFor opening (Step true ∷ h) (state_of (run_ended k))
 run_ends opening h k st e = close_stands opening h (state_of k) st e
 
 -- ---- what has grown
 
--- the cells of each rule change
-module _ (C : Rule × ℤ → CellMap → CellMap → Type 0) where
-  pub rules_changed : (R : RuleCells → RuleCells → Type 0) → ((r : Rule) (low : ℤ) (m n : CellMap) → C (r, low) m n → R (rule_cells r low m) (rule_cells r low n))
-      → (rs : List Rule) (lows : List ℤ) (ms ns : List CellMap) → AllZipBeside C (zip rs lows) ms ns → AllZip R (rules_of rs lows ms) (rules_of rs lows ns)
-  rules_changed R h (r ∷ rs) (low ∷ lows) [] (n ∷ ns) e = absurd e
-  rules_changed R h (r ∷ rs) (low ∷ lows) (m ∷ ms) [] e = absurd e
-  rules_changed R h (r ∷ rs) (low ∷ lows) (m ∷ ms) (n ∷ ns) e = (h r low m n e.0, rules_changed R h rs lows ms ns e.1)
-  rules_changed R h _ lows ms ns e = tt
-
-  pub rules_same : {X : Type 0} (f : RuleCells → X) → ((r : Rule) (low : ℤ) (m n : CellMap) → f (rule_cells r low m) ≡ f (rule_cells r low n)) → (rs : List Rule) (lows : List ℤ) (ms ns : List CellMap)
-      → AllZipBeside C (zip rs lows) ms ns → map f (rules_of rs lows ns) ≡ map f (rules_of rs lows ms)
-  rules_same f same rs lows ms ns e =
-      sym (AllZip-maps (λ (x y : RuleCells). f x ≡ f y) f f (λ x y h. h) (rules_of rs lows ms) (rules_of rs lows ns) (rules_changed (λ (x y : RuleCells). f x ≡ f y) (λ r low m n c. same r low m n) rs lows ms ns e))
-
-  pub rules_keep : (P Q : RuleCells → Type 0) → ((r : Rule) (low : ℤ) (m n : CellMap) → C (r, low) m n → P (rule_cells r low m) → Q (rule_cells r low n)) → (rs : List Rule) (lows : List ℤ) (ms ns : List CellMap)
-      → AllZipBeside C (zip rs lows) ms ns → AllByRecursion P (rules_of rs lows ms) → AllByRecursion Q (rules_of rs lows ns)
-  rules_keep P Q h rs lows ms ns e a =
-      AllZip-all (λ (x y : RuleCells). P x → Q y) P Q (λ x y k. k) (rules_of rs lows ms) (rules_of rs lows ns) (rules_changed (λ (x y : RuleCells). P x → Q y) h rs lows ms ns e) a
-
 -- a rule gains empty cells of these facts
-abbrev pub GainsBeside : List Fact → Rule × ℤ → CellMap → CellMap → Type 0
-GainsBeside facts x m n = GainsEmptyCells x.0 x.1 facts m n
+abbrev pub GainsOf : List Fact → Rule → ℤ → CellMap → CellMap → Type 0
+GainsOf facts r low = GainsEmptyCells r low facts
 
-grown_cells : (cut : Column → ℤ) (fs facts : List Fact) (r : Rule) (low : ℤ) (m n : CellMap) → GainsEmptyCells r low facts m n → HasCells cut fs (rule_cells r low m) → HasCells cut fs (rule_cells r low n)
-grown_cells cut fs facts r low m n e a = record {
+grown_cells : (cut : Column → ℤ) (fs facts : List Fact) (a : RuleData) (n : CellMap) → GainsEmptyCells a.rule a.low facts a.cells n → HasCells cut fs (rule_cells a) → HasCells cut fs (rule_cells (record a { cells = n }))
+grown_cells cut fs facts a n e has = record {
   once = keys_once n;
-  there = λ f b t l. key_there n (cell_of r f) (λ z. key_not m (cell_of r f) (a.there f b t l) (e.stays (cell_of r f) z));
-  frozen = λ k l. ap (λ (p : CellParts). p.frozen) (e.parts k) ∙ a.frozen k l;
-  live = λ k l. ap (λ (p : CellParts). p.live) (e.parts k) ∙ a.live k l;
+  there = λ f b t l. key_there n (cell_of a.rule f) (λ z. key_not a.cells (cell_of a.rule f) (has.there f b t l) (e.stays (cell_of a.rule f) z));
+  frozen = λ k l. ap (λ (p : CellParts). p.frozen) (e.parts k) ∙ has.frozen k l;
+  live = λ k l. ap (λ (p : CellParts). p.live) (e.parts k) ∙ has.live k l;
 }
 
-pub grows : (opening : Settings) (h : History) (k : StoreData) (series : List Series) (columns : List ColumnPoints) (ms : List CellMap) (facts : List Fact) → StandsFor opening h (state_of k)
+pub grows : (opening : Settings) (h : History) (k : StoreData) (series : List Series) (columns : List ColumnPoints) (rs : List RuleData) (facts : List Fact) → StandsFor opening h (state_of k)
     → AllDistinct (map column_of columns) → ((c : Column) → Among c (map column_of k.columns) → Among c (map column_of columns)) → ((c : Column) → Among c (map column_of columns) → Among c.series series)
-    → facts_of columns ≡ facts_of k.columns → GainEmptyCells k.settings.rules k.marks.lows facts k.cells ms → StandsFor opening h (state_of (grown series columns ms k))
-grows opening h k series columns ms facts st once stay registered same spare = record {
+    → facts_of columns ≡ facts_of k.columns → GainEmptyCells facts k.rules rs → StandsFor opening h (state_of (grown series columns rs k))
+grows opening h k series columns rs facts st once stay registered same spare = record {
   lawful = st.lawful;
-  settings = st.settings;
-  marks = st.marks;
+  settings = settings_same (GainsOf facts) (grown series columns rs k) k.rules spare ∙ st.settings;
+  marks = marks_same (GainsOf facts) (grown series columns rs k) k.rules spare ∙ st.marks;
   accepted = st.accepted;
   running = st.running;
   waiting_once = st.waiting_once;
@@ -163,11 +131,13 @@ grows opening h k series columns ms facts st once stay registered same spare = r
   registered = registered;
   once = subst AllDistinct (sym same) st.once;
   raw = λ f. (λ a. (st.raw f).0 (subst (Among f) same a), λ a. subst (Among f) (sym same) ((st.raw f).1 a));
-  rules = rules_same (GainsBeside facts) rule_of (λ r low m n. refl) k.settings.rules k.marks.lows k.cells ms spare ∙ st.rules;
-  lows = rules_same (GainsBeside facts) lowest_of (λ r low m n. refl) k.settings.rules k.marks.lows k.cells ms spare ∙ st.lows;
+  rules = map-map rule_of rule_cells rs;
+  lows = map-map lowest_of rule_cells rs;
   rolled =
       let cut : Column → ℤ = kept_from opening h k.waiting in
-      rules_keep (GainsBeside facts) (HasCells cut (latest_of h)) (HasCells cut (latest_of h)) (grown_cells cut (latest_of h) facts) k.settings.rules k.marks.lows k.cells ms spare st.rolled;
+      let P : RuleData → Type 0 = λ a. HasCells cut (latest_of h) (rule_cells a) in
+      all_map P (HasCells cut (latest_of h)) rule_cells (λ a b. b) rs
+      (rules_keep (GainsOf facts) P P (grown_cells cut (latest_of h) facts) k.rules rs spare (all_of_map P (HasCells cut (latest_of h)) rule_cells (λ a b. b) k.rules st.rolled));
 }
 
 -- ---- facts are put
@@ -199,13 +169,11 @@ elsewhere before after f d p r k e =
 pub record HasCellsOf (r : Rule) (low : ℤ) (facts : List Fact) (m : CellMap) : Type 0 where
   pub there : (f : Fact) → Among f facts → is_rolled r f ≡ true → low ≤ℤ (cell_of r f).index → finmap.get m (cell_of r f) ≡ None → ⊥
 
-abbrev pub HaveCellsOf : List Rule → List ℤ → List Fact → List CellMap → Type 0
-HaveCellsOf rs lows facts = OfEach (λ (x : Rule × ℤ). HasCellsOf x.0 x.1 facts) (zip rs lows)
+abbrev pub HaveCellsOf : List Fact → List RuleData → Type 0
+HaveCellsOf facts = AllByRecursion (λ (a : RuleData). HasCellsOf a.rule a.low facts a.cells)
 
-pub room_cells : (rs : List Rule) (lows : List ℤ) (facts : List Fact) (ms ns : List CellMap) → GainEmptyCells rs lows facts ms ns → HaveCellsOf rs lows facts ns
-room_cells (r ∷ rs) (low ∷ lows) facts [] (n ∷ ns) e = absurd e
-room_cells (r ∷ rs) (low ∷ lows) facts (m ∷ ms) (n ∷ ns) e = (record { there = e.0.there }, room_cells rs lows facts ms ns e.1)
-room_cells _ lows facts ms ns e = tt
+pub room_cells : (facts : List Fact) (rs ss : List RuleData) → GainEmptyCells facts rs ss → HaveCellsOf facts ss
+room_cells facts = rules_gain (GainsOf facts) (λ (a : RuleData). HasCellsOf a.rule a.low facts a.cells) (λ a n g. record { there = g.there })
 
 pub put_cell-keys : (r : Rule) (f : Fact) (facts : List Fact) (m : CellMap) → finmap.keys (put_cell r f facts m) ≡ finmap.keys m
 put_cell-keys r f facts m =
@@ -214,12 +182,11 @@ put_cell-keys r f facts m =
       | false ↦ refl
     ]
 
-pub cells_stay : (rs : List Rule) (lows : List ℤ) (f : Fact) (left facts : List Fact) (ms : List CellMap) → HaveCellsOf rs lows facts ms → HaveCellsOf rs lows facts (put_cells rs f left ms)
-cells_stay (r ∷ rs) (low ∷ lows) f left facts (m ∷ ms) e = (
-  record { there = λ g a t l n. key_not (put_cell r f left m) (cell_of r g) (subst (Among (cell_of r g)) (sym (put_cell-keys r f left m)) (key_there m (cell_of r g) (e.0.there g a t l))) n },
-  cells_stay rs lows f left facts ms e.1,
-)
-cells_stay _ lows f left facts ms e = tt
+pub cells_stay : (f : Fact) (left facts : List Fact) (rs : List RuleData) → HaveCellsOf facts rs → HaveCellsOf facts (put_cells f left rs)
+cells_stay f left facts rs e =
+    let P : RuleData → Type 0 = λ a. HasCellsOf a.rule a.low facts a.cells in
+    all_map P P (in_cells (λ (r : Rule). put_cell r f left))
+    (λ a has. record { there = λ g b t l n. key_not (put_cell a.rule f left a.cells) (cell_of a.rule g) (subst (Among (cell_of a.rule g)) (sym (put_cell-keys a.rule f left a.cells)) (key_there a.cells (cell_of a.rule g) (has.there g b t l))) n }) rs e
 
 -- the frozen parts stay, and each live part but that of the fact's own cell
 pub put_frozen : (r : Rule) (f : Fact) (facts : List Fact) (m : CellMap) (k : Cell) → frozen_in (finmap.get (put_cell r f facts m) k) ≡ frozen_in (finmap.get m k)
@@ -248,10 +215,12 @@ put_else r f facts m k t =
       | false ↦ λ e. refl
     ] t
 
-pub written_rules : (after : List ColumnPoints) (f : Fact) (facts : List Fact) → Among f facts → (rs : List Rule) (lows : List ℤ) (ms : List CellMap) → HaveCellsOf rs lows facts ms
-    → AllZip (IsWritten f after) (rules_of rs lows ms) (rules_of rs lows (put_cells rs f (facts_of after) ms))
-written_rules after f facts a (r ∷ rs) (low ∷ lows) (m ∷ ms) e =
+pub written_rules : (after : List ColumnPoints) (f : Fact) (facts : List Fact) → Among f facts → (rs : List RuleData) → HaveCellsOf facts rs → AllZip (IsWritten f after) (map rule_cells rs) (map rule_cells (put_cells f (facts_of after) rs))
+written_rules after f facts a [] e = tt
+written_rules after f facts a (x ∷ rs) e =
     let left : List Fact = facts_of after in
+    let r : Rule = x.rule in
+    let m : CellMap = x.cells in
     let keys : finmap.keys m ≡ finmap.keys (put_cell r f left m) = sym (put_cell-keys r f left m) in (
       record {
         rule = refl;
@@ -262,9 +231,8 @@ written_rules after f facts a (r ∷ rs) (low ∷ lows) (m ∷ ms) e =
         frozen = λ k l. put_frozen r f left m k;
         live_here = λ k l t.
             let p = and_parts (is_rolled r f) (same_cell (cell_of r f) k) t in
-            put_here r f left m k (e.0.there f a p.0 (subst (λ (x : Cell). low ≤ℤ x.index) (sym (same_cell-eq (cell_of r f) k p.1)) l)) t;
+            put_here r f left m k (e.0.there f a p.0 (subst (λ (c : Cell). x.low ≤ℤ c.index) (sym (same_cell-eq (cell_of r f) k p.1)) l)) t;
         live_elsewhere = λ k l t. ap live_in (put_else r f left m k t);
       },
-      written_rules after f facts a rs lows ms e.1,
+      written_rules after f facts a rs e.1,
     )
-written_rules after f facts a _ lows ms e = tt

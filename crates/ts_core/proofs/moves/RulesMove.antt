@@ -1,11 +1,10 @@
 -- Adding and dropping rules, on a store's content.
 use Rattle.std.proofs.Common.{◌≡◌, ℤ, ◌+◌, ◌≤◌, ◌≤ℤ◌, Bool, true, false, cond, List, [], ◌∷◌, ◌++◌, length, filter, map, refl, sym, ◌∙◌, ap, subst, arith, Some, None, int_lt, IsTrue}
-use Rattle.std.specs.List.{zip}
+use Rattle.std.proofs.lemmas.Simd.{map-map}
 use Rattle.std.specs.FinMap as finmap
 use Rattle.std.proofs.lemmas.Bool.{and_parts}
-use Rattle.std.proofs.lemmas.List.{length-append}
 use Rattle.ts_core.specs.facts.Facts.{Text, Fact}
-use Rattle.ts_core.specs.settings.Settings.{Rule, Settings, with_rule, without_rule, is_unnamed}
+use Rattle.ts_core.specs.settings.Settings.{Rule, Settings, is_unnamed}
 use Rattle.ts_core.specs.settings.SettingsFaults.{added_fault, is_named}
 use Rattle.ts_core.specs.store.History.{History, AddRule, DropRule}
 use Rattle.ts_core.specs.store.Marks.{first_from}
@@ -14,25 +13,24 @@ use Rattle.ts_core.specs.store.Cells.{Cell, same_cell, cell_of, is_rolled, is_in
 use Rattle.ts_core.specs.lists.Changes.{or_else}
 use Rattle.ts_core.specs.moves.Runs.{batches_of, batches_left, steps_left}
 use Rattle.ts_core.specs.store.StoreStates.{RuleCells, StandsFor, lowest_of, facts_of}
-use Rattle.ts_core.specs.store.StoreData.{CellMap, StoreData, no_parts, rule_cells, rules_of, state_of}
-use Rattle.ts_core.specs.lists.Beside.{kept_beside}
-use Rattle.ts_core.specs.moves.RuleMoves.{IsFresh, IsEven, rule_added, rule_dropped}
-use Rattle.ts_core.proofs.lists.BesideLemmas.{length-kept}
+use Rattle.ts_core.specs.store.StoreData.{CellMap, RuleData, StoreData, no_parts, rule_cells, store_settings, state_of}
+use Rattle.ts_core.specs.moves.RuleMoves.{IsFresh, rule_added, stays_without, rule_dropped}
+use Rattle.ts_core.proofs.lists.ListSteps.{map-push, filter-map}
 use Rattle.ts_core.proofs.lists.MembersLemmas.{no_members, Among-filter_was, Among-filter_passes}
 use Rattle.ts_core.proofs.plans.PieceCells.{same_cell-eq}
 use Rattle.ts_core.proofs.lists.Comparisons.{lt_from}
 use Rattle.ts_core.proofs.moves.MovesStand.{keys_once, key_there, key_not}
-use Rattle.ts_core.proofs.store.RulesCome.{StartsWith, added_stands, dropped_stands}
+use Rattle.ts_core.proofs.store.RulesCome.{StartsWith, stays_under, added_stands, dropped_stands}
 
 -- ---- a rule is added
 
-rules_push : (rs : List Rule) (lows : List ℤ) (ms : List CellMap) (r : Rule) (low : ℤ) (m : CellMap) → length lows ≡ length rs → length ms ≡ length rs
-    → rules_of (rs ++ r ∷ []) (lows ++ low ∷ []) (ms ++ m ∷ []) ≡ rules_of rs lows ms ++ rule_cells r low m ∷ []
-rules_push [] [] [] r low m a b = refl
-rules_push (q ∷ rs) (l ∷ lows) (x ∷ ms) r low m a b = ap (λ zs. rule_cells q l x ∷ zs) (rules_push rs lows ms r low m (omega arith) (omega arith))
-rules_push _ _ ms r low m a b = absurd (omega arith)
+abbrev new_rule : Rule → ℤ → CellMap → RuleData
+new_rule r low m = record { rule = r; low = low; cells = m }
 
-fresh_starts : (r : Rule) (low : ℤ) (facts : List Fact) (m : CellMap) → IsFresh r low facts m → StartsWith facts (rule_cells r low m)
+rules_push : (rs : List RuleData) (r : Rule) (low : ℤ) (m : CellMap) → map rule_cells (rs ++ new_rule r low m ∷ []) ≡ map rule_cells rs ++ rule_cells (new_rule r low m) ∷ []
+rules_push rs r low m = map-push rule_cells rs (new_rule r low m)
+
+fresh_starts : (r : Rule) (low : ℤ) (facts : List Fact) (m : CellMap) → IsFresh r low facts m → StartsWith facts (rule_cells (new_rule r low m))
 fresh_starts r low facts m f = record {
   once = keys_once m;
   there = λ x a t l. key_there m (cell_of r x) (f.there x a t l);
@@ -46,60 +44,40 @@ fresh_starts r low facts m f = record {
   ] refl;
 }
 
-pub rule_comes : (opening : Settings) (h : History) (k : StoreData) (r : Rule) (m : CellMap) → StandsFor opening h (state_of k) → IsEven k → added_fault k.settings r ≡ None → IsFresh r (first_from r k.marks.raw) (facts_of k.columns) m
-    → StandsFor opening (AddRule r ∷ h) (state_of (rule_added r (first_from r k.marks.raw) m k))
-rule_comes opening h k r m st even well fresh =
-    let low : ℤ = first_from r k.marks.raw in
+pub rule_comes : (opening : Settings) (h : History) (k : StoreData) (r : Rule) (m : CellMap) → StandsFor opening h (state_of k) → added_fault (store_settings k) r ≡ None → IsFresh r (first_from r k.raw_mark) (facts_of k.columns) m
+    → StandsFor opening (AddRule r ∷ h) (state_of (rule_added r (first_from r k.raw_mark) m k))
+rule_comes opening h k r m st well fresh =
+    let low : ℤ = first_from r k.raw_mark in
+    let x : RuleData = new_rule r low m in
     subst (StandsFor opening (AddRule r ∷ h))
     (λ i. record (state_of k) {
-      settings = with_rule r k.settings;
-      marks = record { raw = k.marks.raw; lows = k.marks.lows ++ low ∷ [] };
-      rules = sym (rules_push k.settings.rules k.marks.lows k.cells r low m even.lows even.cells) i;
+      settings = record { raw_duration = k.raw_duration; rules = sym (map-push (λ (a : RuleData). a.rule) k.rules x) i };
+      marks = record { raw = k.raw_mark; lows = sym (map-push (λ (a : RuleData). a.low) k.rules x) i };
+      rules = sym (rules_push k.rules r low m) i;
     })
-    (added_stands opening h (state_of k) (rule_cells r low m) st well refl (fresh_starts r low (facts_of k.columns) m fresh))
+    (added_stands opening h (state_of k) (rule_cells x) st well refl (fresh_starts r low (facts_of k.columns) m fresh))
 
 -- ---- a rule is dropped
 
-lows_of : (rs : List Rule) (lows : List ℤ) (ms : List CellMap) → length lows ≡ length rs → length ms ≡ length rs → map lowest_of (rules_of rs lows ms) ≡ lows
-lows_of [] [] ms a b = refl
-lows_of (r ∷ rs) (low ∷ lows) (m ∷ ms) a b = ap (λ zs. low ∷ zs) (lows_of rs lows ms (omega arith) (omega arith))
-lows_of _ _ ms a b = absurd (omega arith)
+turns_kept : (p : RuleCells → Bool) (rs : List RuleCells) → batches_left (filter p rs) ≤ batches_left rs
+turns_kept p [] = omega arith
+turns_kept p (r ∷ rs) =
+    let rest = turns_kept p rs in
+    elim (p r) as (λ c. batches_left (cond c (r ∷ filter p rs) (filter p rs)) ≤ batches_left (r ∷ rs)) [ true ↦ omega arith | false ↦ omega arith ]
 
-module _ (p : Rule → Bool) where
-  abbrev passes : RuleCells → Bool
-  passes r = p r.rule
-
-  pub rules_kept : (rs : List Rule) (lows : List ℤ) (ms : List CellMap) → length lows ≡ length rs → length ms ≡ length rs → filter passes (rules_of rs lows ms) ≡ rules_of (filter p rs) (kept_beside p rs lows) (kept_beside p rs ms)
-  rules_kept [] lows ms a b = refl
-  rules_kept (r ∷ rs) (low ∷ lows) (m ∷ ms) a b =
-      let rest = rules_kept rs lows ms (omega arith) (omega arith) in
-      elim (p r) as (λ c. cond c (rule_cells r low m ∷ filter passes (rules_of rs lows ms)) (filter passes (rules_of rs lows ms))
-      ≡ rules_of (cond c (r ∷ filter p rs) (filter p rs)) (map (λ z. z.1) (cond c ((r, low) ∷ filter (λ z. p z.0) (zip rs lows)) (filter (λ z. p z.0) (zip rs lows)))) (map (λ z. z.1) (cond c ((r, m) ∷ filter (λ z. p z.0) (zip rs ms)) (filter (λ z. p z.0) (zip rs ms))))) [
-        | true ↦ ap (λ zs. rule_cells r low m ∷ zs) rest
-        | false ↦ rest
-      ]
-  rules_kept (r ∷ rs) _ ms a b = absurd (omega arith)
-
-  turns_kept : (rs : List RuleCells) → batches_left (filter passes rs) ≤ batches_left rs
-  turns_kept [] = omega arith
-  turns_kept (r ∷ rs) =
-      let rest = turns_kept rs in
-      elim (p r.rule) as (λ c. batches_left (cond c (r ∷ filter passes rs) (filter passes rs)) ≤ batches_left (r ∷ rs)) [ true ↦ omega arith | false ↦ omega arith ]
-
-pub rule_goes : (opening : Settings) (h : History) (k : StoreData) (name : Text) → StandsFor opening h (state_of k) → IsEven k → IsTrue (is_named k.settings.rules name) → StandsFor opening (DropRule name ∷ h) (state_of (rule_dropped name k))
-rule_goes opening h k name st even named =
-    let p : Rule → Bool = is_unnamed name in
-    let rules = rules_kept p k.settings.rules k.marks.lows k.cells even.lows even.cells in
-    let lows = ap (map lowest_of) rules ∙ lows_of (filter p k.settings.rules) (kept_beside p k.settings.rules k.marks.lows) (kept_beside p k.settings.rules k.cells) (length-kept p k.settings.rules k.marks.lows even.lows) (length-kept p k.settings.rules k.cells even.cells) in
+pub rule_goes : (opening : Settings) (h : History) (k : StoreData) (name : Text) → StandsFor opening h (state_of k) → IsTrue (is_named (store_settings k).rules name) → StandsFor opening (DropRule name ∷ h) (state_of (rule_dropped name k))
+rule_goes opening h k name st named =
+    let rules = filter-map (stays_under name) rule_cells k.rules in
+    let lows = ap (map lowest_of) rules ∙ map-map lowest_of rule_cells (filter (stays_without name) k.rules) in
     subst (StandsFor opening (DropRule name ∷ h))
     (λ i. record (state_of k) {
-      settings = without_rule name k.settings;
-      marks = record { raw = k.marks.raw; lows = lows i };
+      settings = record { raw_duration = k.raw_duration; rules = filter-map (is_unnamed name) (λ (a : RuleData). a.rule) k.rules i };
+      marks = record { raw = k.raw_mark; lows = lows i };
       rules = rules i;
     })
     (dropped_stands opening h (state_of k) name st named)
 
--- ---- what is kept beside
+-- ---- what else stays
 
 -- no cell is below the low index
 none_expired : (r : Rule) (low : ℤ) (facts : List Fact) (m : CellMap) → IsFresh r low facts m → length (filter (λ (k : Cell). int_lt k.index low) (finmap.keys m)) ≡ 0
@@ -111,31 +89,17 @@ turns_push : (rs : List RuleCells) (r : RuleCells) → batches_left (r ∷ []) �
 turns_push [] r e = e
 turns_push (q ∷ rs) r e = let rest = turns_push rs r e in omega arith
 
-pub left_added : (k : StoreData) (r : Rule) (low : ℤ) (m : CellMap) → IsEven k → IsFresh r low (facts_of k.columns) m → steps_left (state_of (rule_added r low m k)) ≡ steps_left (state_of k)
-left_added k r low m even fresh =
+pub left_added : (k : StoreData) (r : Rule) (low : ℤ) (m : CellMap) → IsFresh r low (facts_of k.columns) m → steps_left (state_of (rule_added r low m k)) ≡ steps_left (state_of k)
+left_added k r low m fresh =
     let none = none_expired r low (facts_of k.columns) m fresh in
     ap (λ t. cond k.running (length k.waiting + t + 1) 0)
-    (ap batches_left (rules_push k.settings.rules k.marks.lows k.cells r low m even.lows even.cells)
-    ∙ turns_push (rules_of k.settings.rules k.marks.lows k.cells) (rule_cells r low m) (ap (λ n. batches_of n + 0) none))
+    (ap batches_left (rules_push k.rules r low m) ∙ turns_push (map rule_cells k.rules) (rule_cells (new_rule r low m)) (ap (λ n. batches_of n + 0) none))
 
-pub left_dropped : (k : StoreData) (name : Text) → IsEven k → steps_left (state_of (rule_dropped name k)) ≤ steps_left (state_of k)
-left_dropped k name even =
-    let fewer = turns_kept (is_unnamed name) (rules_of k.settings.rules k.marks.lows k.cells) in
-    let same = ap batches_left (rules_kept (is_unnamed name) k.settings.rules k.marks.lows k.cells even.lows even.cells) in
-    elim k.running as (λ b. cond b (length k.waiting + batches_left (rules_of (filter (is_unnamed name) k.settings.rules) (kept_beside (is_unnamed name) k.settings.rules k.marks.lows) (kept_beside (is_unnamed name) k.settings.rules k.cells)) + 1) 0
-    ≤ cond b (length k.waiting + batches_left (rules_of k.settings.rules k.marks.lows k.cells) + 1) 0) [
+pub left_dropped : (k : StoreData) (name : Text) → steps_left (state_of (rule_dropped name k)) ≤ steps_left (state_of k)
+left_dropped k name =
+    let fewer = turns_kept (stays_under name) (map rule_cells k.rules) in
+    let same = ap batches_left (filter-map (stays_under name) rule_cells k.rules) in
+    elim k.running as (λ b. cond b (length k.waiting + batches_left (map rule_cells (filter (stays_without name) k.rules)) + 1) 0 ≤ cond b (length k.waiting + batches_left (map rule_cells k.rules) + 1) 0) [
       | true ↦ omega arith
       | false ↦ omega arith
     ]
-
-pub even_added : (k : StoreData) (r : Rule) (low : ℤ) (m : CellMap) → IsEven k → IsEven (rule_added r low m k)
-even_added k r low m e =
-    let a = e.lows in
-    let b = e.cells in
-    let x = length-append k.settings.rules (r ∷ []) in
-    let y = length-append k.marks.lows (low ∷ []) in
-    let z = length-append k.cells (m ∷ []) in
-    record { lows = omega arith; cells = omega arith }
-
-pub even_dropped : (k : StoreData) (name : Text) → IsEven k → IsEven (rule_dropped name k)
-even_dropped k name e = record { lows = length-kept (is_unnamed name) k.settings.rules k.marks.lows e.lows; cells = length-kept (is_unnamed name) k.settings.rules k.cells e.cells }

@@ -28,8 +28,9 @@ use Rattle.ts_core.proofs.store.ColumnFacts.{facts_of-there}
 use Rattle.ts_core.proofs.lists.ListSteps.{length-filter}
 use Rattle.ts_core.proofs.store.StateLemmas.{StandsFor-Holds}
 use Rattle.ts_core.proofs.store.RunSteps.{facts_of-left, move_stands}
-use Rattle.ts_core.specs.store.StoreData.{CellMap, StoreData, rule_cells, rules_of, state_of}
-use Rattle.ts_core.specs.moves.StoreMoves.{frozen_points, refolded_points, moved_cells, all_moved, points_below, column_moved}
+use Rattle.ts_core.proofs.moves.EachRule.{AnyCells, stands_changed, each_in}
+use Rattle.ts_core.specs.store.StoreData.{CellMap, RuleData, StoreData, rule_cells, state_of}
+use Rattle.ts_core.specs.moves.StoreMoves.{in_cells, frozen_points, refolded_points, moved_cells, all_moved, points_below, column_moved}
 use Rattle.ts_core.proofs.moves.Freezing.{in_points, frozen_in, live_in, any_in, frozen_gives, frozen_none, frozen_live, keys_frozen, refolded_frozen, refolded_live, keys_refolded, frozen_some, gone_held}
 
 -- ---- counts
@@ -177,9 +178,12 @@ keys_column r c ps left m =
     ]
 
 rule_moved : (opening : Settings) (h : History) → IsLawful opening h → (cut : Column → ℤ) (c : Column) (mark : ℤ) (before : List ColumnPoints) (ps : List (ℤ × ℤ)) → AllDistinct (map column_of before) → Among (record { column = c; points = ps }) before
-    → Holds cut (latest_of h) (facts_of before) → (r : Rule) (low : ℤ) (m : CellMap) → HasCells cut (latest_of h) (rule_cells r low m)
-    → IsMoved c mark before (map (left_points c mark) before) (rule_cells r low m) (rule_cells r low (moved_cells r c (points_below mark ps) (facts_of (map (left_points c mark) before)) m))
-rule_moved opening h lawful cut c mark before ps once there held r low m has =
+    → Holds cut (latest_of h) (facts_of before) → (x : RuleData) → HasCells cut (latest_of h) (rule_cells x)
+    → IsMoved c mark before (map (left_points c mark) before) (rule_cells x) (rule_cells (in_cells (λ (r : Rule). moved_cells r c (points_below mark ps) (facts_of (map (left_points c mark) before))) x))
+rule_moved opening h lawful cut c mark before ps once there held x has =
+    let r : Rule = x.rule in
+    let low : ℤ = x.low in
+    let m : CellMap = x.cells in
     let fs : List Fact = latest_of h in
     let below : List (ℤ × ℤ) = points_below mark ps in
     let left : List Fact = facts_of (map (left_points c mark) before) in
@@ -211,16 +215,17 @@ rule_moved opening h lawful cut c mark before ps once there held r low m has =
     }
 
 rules_moved : (opening : Settings) (h : History) → IsLawful opening h → (cut : Column → ℤ) (c : Column) (mark : ℤ) (before : List ColumnPoints) (ps : List (ℤ × ℤ)) → AllDistinct (map column_of before) → Among (record { column = c; points = ps }) before
-    → Holds cut (latest_of h) (facts_of before) → (rs : List Rule) (lows : List ℤ) (ms : List CellMap) → AllByRecursion (HasCells cut (latest_of h)) (rules_of rs lows ms)
-    → AllZip (IsMoved c mark before (map (left_points c mark) before)) (rules_of rs lows ms) (rules_of rs lows (all_moved rs c (points_below mark ps) (facts_of (map (left_points c mark) before)) ms))
-rules_moved opening h lawful cut c mark before ps once there held (r ∷ rs) (low ∷ lows) (m ∷ ms) a =
-    (rule_moved opening h lawful cut c mark before ps once there held r low m a.0, rules_moved opening h lawful cut c mark before ps once there held rs lows ms a.1)
-rules_moved opening h lawful cut c mark before ps once there held _ lows ms a = tt
+    → Holds cut (latest_of h) (facts_of before) → (rs : List RuleData) → AllByRecursion (HasCells cut (latest_of h)) (map rule_cells rs)
+    → AllZip (IsMoved c mark before (map (left_points c mark) before)) (map rule_cells rs) (map rule_cells (all_moved c (points_below mark ps) (facts_of (map (left_points c mark) before)) rs))
+rules_moved opening h lawful cut c mark before ps once there held [] a = tt
+rules_moved opening h lawful cut c mark before ps once there held (x ∷ rs) a = (rule_moved opening h lawful cut c mark before ps once there held x a.0, rules_moved opening h lawful cut c mark before ps once there held rs a.1)
 
 -- a step that moves the first of the waiting columns, on what the store keeps
 pub step_stands : (opening : Settings) (h : History) (k : StoreData) (c : Column) (ps : List (ℤ × ℤ)) (rest : List Column) → StandsFor opening h (state_of k) → k.waiting ≡ c ∷ rest → Among (record { column = c; points = ps }) k.columns
     → StandsFor opening (Step false ∷ h) (state_of (column_moved c ps rest k))
 step_stands opening h k c ps rest st w there =
     let s : StoreState = state_of k in
-    move_stands opening h s c rest (rules_of k.settings.rules k.marks.lows (all_moved k.settings.rules c (points_below k.marks.raw ps) (facts_of (columns_left c s)) k.cells)) st w
-    (rules_moved opening h st.lawful (kept_from opening h k.waiting) c k.marks.raw k.columns ps st.columns_once there (StandsFor-Holds opening h s st) k.settings.rules k.marks.lows k.cells st.rolled)
+    let new : StoreData = column_moved c ps rest k in
+    stands_changed AnyCells opening (Step false ∷ h) new k.rules (each_in AnyCells (λ (r : Rule). moved_cells r c (points_below k.raw_mark ps) (facts_of (columns_left c s))) (λ a. tt) k.rules)
+    (move_stands opening h s c rest (map rule_cells new.rules) st w
+    (rules_moved opening h st.lawful (kept_from opening h k.waiting) c k.raw_mark k.columns ps st.columns_once there (StandsFor-Holds opening h s st) k.rules st.rolled))

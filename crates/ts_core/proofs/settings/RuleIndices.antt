@@ -3,17 +3,18 @@ use Rattle.std.proofs.lemmas.Bool.{not_from_false, false_from_ne_true}
 use Rattle.std.proofs.Common.{◌≡◌, ℕ, zero, suc, ◌+◌, ◌<◌, Bool, true, false, cond, not, inl, inr, ◌||◌, List, [], ◌∷◌, length, filter, map, refl, sym, ap, ◌∙◌, subst, arith, Option, Some, None, IfSome, IsNone, true≢false}
 use Rattle.std.specs.List.{AllByRecursion, list_any, position_from, remove}
 use Rattle.std.proofs.lemmas.Option.{none-some, same_Some}
+use Rattle.std.proofs.lemmas.Simd.{map-map}
 use Rattle.ts_core.specs.lists.Members.{Among, AllDistinct}
 use Rattle.ts_core.specs.lists.Numbered.{IsAt}
 use Rattle.ts_core.specs.facts.Facts.{Text, same_text}
 use Rattle.ts_core.specs.settings.Settings.{Rule, Settings, is_unnamed}
 use Rattle.ts_core.specs.settings.SettingsFaults.{settings_fault, is_named}
-use Rattle.ts_core.specs.moves.RuleMoves.{IsRuleAt}
-use Rattle.ts_core.specs.lists.Beside.{kept_beside}
+use Rattle.ts_core.specs.moves.RuleMoves.{stays_without, IsRuleAt}
+use Rattle.ts_core.specs.store.StoreData.{RuleData}
 use Rattle.ts_core.proofs.facts.Ids.{same_text-eq}
 use Rattle.ts_core.proofs.settings.SettingsLaws.{settings_are}
 use Rattle.ts_core.proofs.settings.RuleLaws.{without_rule-faultless}
-use Rattle.ts_core.proofs.lists.BesideLemmas.{FailsAt, filter-fails, beside-fails}
+use Rattle.ts_core.proofs.lists.BesideLemmas.{FailsAt, filter-fails}
 use Rattle.ts_core.proofs.lists.Comparisons.{same_text-refl}
 use Rattle.ts_core.proofs.lists.MembersLemmas.{Among-map}
 use Rattle.ts_core.proofs.lists.NumberedLemmas.{at_among}
@@ -82,8 +83,9 @@ rule_found name rs n distinct e =
       inside = omega arith;
       named = f.any;
       without = subst (λ (t : Text). filter (is_unnamed t) rs ≡ remove rs n) named (filter-fails (is_unnamed f.item.name) rs n fails);
-      lows = λ lows even. subst (λ (t : Text). kept_beside (is_unnamed t) rs lows ≡ remove lows n) named (beside-fails (is_unnamed f.item.name) rs lows n even fails);
-      cells = λ cells even. subst (λ (t : Text). kept_beside (is_unnamed t) rs cells ≡ remove cells n) named (beside-fails (is_unnamed f.item.name) rs cells n even fails);
+      data_without = λ all same.
+          let passes = subst (λ bs. FailsAt bs n) (ap (map (is_unnamed f.item.name)) (sym same) ∙ map-map (is_unnamed f.item.name) (λ (x : RuleData). x.rule) all) fails in
+          subst (λ (t : Text). filter (stays_without t) all ≡ remove all n) named (filter-fails (stays_without f.item.name) all n passes);
     }
 
 pub if_found : (name : Text) (rs : List Rule) (r : Option ℕ) → AllDistinct (map (λ (r : Rule). r.name) rs) → r ≡ position_from (λ (r : Rule). same_text r.name name) 0 rs → IfSome r (λ n. IsRuleAt name rs n)

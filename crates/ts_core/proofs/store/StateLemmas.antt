@@ -32,6 +32,19 @@ AllZip-maps R f g h [] [] t = refl
 AllZip-maps R f g h (x ∷ xs) (y ∷ ys) t = ap₂ (λ a bs. a ∷ bs) (h x y t.0) (AllZip-maps R f g h xs ys t.1)
 AllZip-maps R f g h _ _ t = absurd t
 
+pub AllZip-map : {X Y Z W : Type 0} (R : Z → W → Type 0) (f : X → Z) (g : Y → W) (xs : List X) (ys : List Y) → AllZip (λ x y. R (f x) (g y)) xs ys → AllZip R (map f xs) (map g ys)
+AllZip-map R f g [] [] t = tt
+AllZip-map R f g (x ∷ xs) (y ∷ ys) t = (t.0, AllZip-map R f g xs ys t.1)
+AllZip-map R f g _ _ t = absurd t
+
+pub all_map : {X Y : Type 0} (P : X → Type 0) (Q : Y → Type 0) (f : X → Y) → ((x : X) → P x → Q (f x)) → (xs : List X) → AllByRecursion P xs → AllByRecursion Q (map f xs)
+all_map P Q f h [] a = tt
+all_map P Q f h (x ∷ xs) a = (h x a.0, all_map P Q f h xs a.1)
+
+pub all_of_map : {X Y : Type 0} (P : X → Type 0) (Q : Y → Type 0) (f : X → Y) → ((x : X) → Q (f x) → P x) → (xs : List X) → AllByRecursion Q (map f xs) → AllByRecursion P xs
+all_of_map P Q f h [] a = tt
+all_of_map P Q f h (x ∷ xs) a = (h x a.0, all_of_map P Q f h xs a.1)
+
 abbrev head_or : {X : Type 0} → X → List X → X
 head_or d [] = d
 head_or d (x ∷ xs) = x

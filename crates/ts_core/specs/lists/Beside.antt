@@ -1,4 +1,4 @@
--- Lists side by side, such as a store's rules, their low indices and their cells. (Own rules.)
+-- Lists side by side, as a store's rules and rollups in memory are. (Own rules.)
 use Rattle.std.specs.Prelude.{List, [], ◌∷◌, Bool, map, filter}
 use Rattle.std.specs.List.{zip}
 
@@ -7,14 +7,6 @@ abbrev pub OfEach : {X Y : Type 0} → (X → Y → Type 0) → List X → List 
 OfEach R [] ys = Unit {0}
 OfEach R (x ∷ xs) [] = Unit {0}
 OfEach R (x ∷ xs) (y ∷ ys) = R x y × OfEach R xs ys
-
--- R holds at each place that all three lists have; ys and zs end together, unless xs ends first
-abbrev pub AllZipBeside : {X Y Z : Type 0} → (X → Y → Z → Type 0) → List X → List Y → List Z → Type 0
-AllZipBeside R xs [] [] = Unit {0}
-AllZipBeside R xs [] (z ∷ zs) = ⊥
-AllZipBeside R xs (y ∷ ys) [] = ⊥
-AllZipBeside R [] (y ∷ ys) (z ∷ zs) = Unit {0}
-AllZipBeside R (x ∷ xs) (y ∷ ys) (z ∷ zs) = R x y z × AllZipBeside R xs ys zs
 
 -- each item of the second list whose neighbour in the first passes the test
 abbrev pub kept_beside : {X Y : Type 0} → (X → Bool) → List X → List Y → List Y

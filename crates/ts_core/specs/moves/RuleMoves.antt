@@ -1,13 +1,12 @@
 -- Transitions of a store's content that add and drop rules, and their laws. (Own rules.)
-use Rattle.std.specs.Prelude.{◌≡◌, ℕ, ◌<◌, ℤ, pos, filter, ◌+ℤ◌, ◌≤ℤ◌, ◌<ℤ◌, ◌≤◌, ◌^◌, unsigned_abs, FitsSigned, true, IsTrue, List, [], ◌∷◌, ◌++◌, length, Some, None}
+use Rattle.std.specs.Prelude.{◌≡◌, ℕ, ◌<◌, ℤ, pos, filter, map, ◌+ℤ◌, ◌≤ℤ◌, ◌<ℤ◌, ◌≤◌, ◌^◌, unsigned_abs, FitsSigned, Bool, true, IsTrue, List, [], ◌∷◌, ◌++◌, length, Some, None}
 use Rattle.std.specs.Int.{int_max, w64}
 use Rattle.std.specs.List.{remove}
 use Rattle.std.specs.FinMap as finmap
-use Rattle.ts_core.specs.lists.Beside.{kept_beside}
 use Rattle.ts_core.specs.lists.Members.{Among}
 use Rattle.ts_core.specs.facts.Facts.{Text, Fact}
 use Rattle.ts_core.specs.facts.Times.{least_time}
-use Rattle.ts_core.specs.settings.Settings.{Rule, Settings, Outlasts, with_rule, without_rule, is_unnamed}
+use Rattle.ts_core.specs.settings.Settings.{Rule, Settings, Outlasts, is_unnamed}
 use Rattle.ts_core.specs.settings.SettingsFaults.{settings_fault, added_fault, is_named}
 use Rattle.ts_core.specs.store.History.{History, AddRule, DropRule, settings_of, raw_mark, IsLawful}
 use Rattle.ts_core.specs.aggregates.Aggregates.{empty_aggregate}
@@ -15,7 +14,7 @@ use Rattle.ts_core.specs.store.Cells.{Cell, cell_of, is_rolled, total_of}
 use Rattle.ts_core.specs.store.Marks.{index_of, first_from, low_of, since_added, start_of_rule, IsFirstFrom, IsGreatestLeft}
 use Rattle.ts_core.specs.moves.Runs.{steps_left}
 use Rattle.ts_core.specs.store.StoreStates.{CellParts, facts_of}
-use Rattle.ts_core.specs.store.StoreData.{CellMap, StoreData, state_of, AreLive, GoesOn}
+use Rattle.ts_core.specs.store.StoreData.{CellMap, RuleData, StoreData, store_settings, state_of, AreLive, GoesOn}
 
 -- ---- a rule is added
 
@@ -27,55 +26,42 @@ pub record IsFresh (r : Rule) (low : ℤ) (facts : List Fact) (m : CellMap) : Ty
   pub live : (k : Cell) (p : CellParts) → finmap.get m k ≡ Some p → p.live ≡ total_of r k facts
 
 abbrev pub rule_added : Rule → ℤ → CellMap → StoreData → StoreData
-rule_added r low m k = record k {
-  settings = with_rule r k.settings;
-  marks = record { raw = k.marks.raw; lows = k.marks.lows ++ low ∷ [] };
-  cells = k.cells ++ m ∷ [];
-}
+rule_added r low m k = record k { rules = k.rules ++ record { rule = r; low = low; cells = m } ∷ [] }
 
 -- ---- a rule is dropped
+
+-- the rule doesn't have the name
+abbrev pub stays_without : Text → RuleData → Bool
+stays_without name r = is_unnamed name r.rule
 
 -- The rule at an index has the name, and no other rule has it. So dropping the name removes the rule with this index.
 pub record IsRuleAt (name : Text) (rules : List Rule) (index : ℕ) : Type 0 where
   pub inside : index < length rules
   pub named : IsTrue (is_named rules name)
   pub without : filter (is_unnamed name) rules ≡ remove rules index
-  pub lows : (lows : List ℤ) → length lows ≡ length rules → kept_beside (is_unnamed name) rules lows ≡ remove lows index
-  pub cells : (cells : List CellMap) → length cells ≡ length rules → kept_beside (is_unnamed name) rules cells ≡ remove cells index
+  pub data_without : (all : List RuleData) → map (λ (r : RuleData). r.rule) all ≡ rules → filter (stays_without name) all ≡ remove all index
 
 abbrev pub rule_dropped : Text → StoreData → StoreData
-rule_dropped name k = record k {
-  settings = without_rule name k.settings;
-  marks = record { raw = k.marks.raw; lows = kept_beside (is_unnamed name) k.settings.rules k.marks.lows };
-  cells = kept_beside (is_unnamed name) k.settings.rules k.cells;
-}
+rule_dropped name k = record k { rules = filter (stays_without name) k.rules }
 
 -- ---- laws
 
--- each rule has a low index and cells
-pub record IsEven (k : StoreData) : Type 0 where
-  pub lows : length k.marks.lows ≡ length k.settings.rules
-  pub cells : length k.cells ≡ length k.settings.rules
-
 -- adding a valid rule is an event of the history, if its low index is the first bucket at or above the raw mark
 abbrev pub RuleAdded : Type 0
-RuleAdded = (k : StoreData) (r : Rule) (m : CellMap) → IsEven k → added_fault k.settings r ≡ None → IsFresh r (first_from r k.marks.raw) (facts_of k.columns) m
-    → GoesOn k (AddRule r) (rule_added r (first_from r k.marks.raw) m k)
+RuleAdded = (k : StoreData) (r : Rule) (m : CellMap) → added_fault (store_settings k) r ≡ None → IsFresh r (first_from r k.raw_mark) (facts_of k.columns) m
+    → GoesOn k (AddRule r) (rule_added r (first_from r k.raw_mark) m k)
 
 -- dropping an existing rule is an event of the history
 abbrev pub RuleDropped : Type 0
-RuleDropped = (k : StoreData) (name : Text) → IsEven k → IsTrue (is_named k.settings.rules name) → GoesOn k (DropRule name) (rule_dropped name k)
+RuleDropped = (k : StoreData) (name : Text) → IsTrue (is_named (store_settings k).rules name) → GoesOn k (DropRule name) (rule_dropped name k)
 
 -- Live parts are still those of the raw facts. An added rule doesn't change the number of steps left, and a dropped one
 -- doesn't raise it.
 pub record RulesKeep : Type 0 where
-  pub added_live : (k : StoreData) (r : Rule) (low : ℤ) (m : CellMap) → IsEven k → IsFresh r low (facts_of k.columns) m → AreLive k.columns k.settings.rules k.cells
-      → AreLive k.columns (k.settings.rules ++ r ∷ []) (k.cells ++ m ∷ [])
-  pub dropped_live : (k : StoreData) (name : Text) → AreLive k.columns k.settings.rules k.cells → AreLive k.columns (without_rule name k.settings).rules (rule_dropped name k).cells
-  pub added_left : (k : StoreData) (r : Rule) (low : ℤ) (m : CellMap) → IsEven k → IsFresh r low (facts_of k.columns) m → steps_left (state_of (rule_added r low m k)) ≡ steps_left (state_of k)
-  pub dropped_left : (k : StoreData) (name : Text) → IsEven k → steps_left (state_of (rule_dropped name k)) ≤ steps_left (state_of k)
-  pub added_even : (k : StoreData) (r : Rule) (low : ℤ) (m : CellMap) → IsEven k → IsEven (rule_added r low m k)
-  pub dropped_even : (k : StoreData) (name : Text) → IsEven k → IsEven (rule_dropped name k)
+  pub added_live : (k : StoreData) (r : Rule) (low : ℤ) (m : CellMap) → IsFresh r low (facts_of k.columns) m → AreLive k.columns k.rules → AreLive k.columns (rule_added r low m k).rules
+  pub dropped_live : (k : StoreData) (name : Text) → AreLive k.columns k.rules → AreLive k.columns (rule_dropped name k).rules
+  pub added_left : (k : StoreData) (r : Rule) (low : ℤ) (m : CellMap) → IsFresh r low (facts_of k.columns) m → steps_left (state_of (rule_added r low m k)) ≡ steps_left (state_of k)
+  pub dropped_left : (k : StoreData) (name : Text) → steps_left (state_of (rule_dropped name k)) ≤ steps_left (state_of k)
 
 -- after a lawful history the settings have no fault
 abbrev pub SettingsStayFaultless : Type 0

@@ -10,9 +10,9 @@ use Rattle.ts_core.specs.settings.Settings.{Rule, Settings}
 use Rattle.ts_core.specs.settings.SettingsFaults.{settings_fault}
 use Rattle.ts_core.specs.store.History.{Line, Begin, Step, IsLawful}
 use Rattle.ts_core.specs.store.StoreStates.{ColumnPoints, StandsFor, column_of, facts_at, facts_of}
-use Rattle.ts_core.specs.store.StoreData.{CellMap, StoreData, rules_of, state_of, new_data, AreLive, OfEachHistory, GoesOn, StaysFor, ShowsEach}
+use Rattle.ts_core.specs.store.StoreData.{RuleData, StoreData, rule_cells, state_of, new_data, AreLive, OfEachHistory, GoesOn, StaysFor, ShowsEach}
 use Rattle.ts_core.specs.moves.Runs.{batches_left, steps_left, Falls, count_steps, last_left}
-use Rattle.ts_core.specs.moves.StoreMoves.{kept_points, points_below, PutsFact, column_moved, raised, run_begun, Expired, AreOf, with_cells, run_ended, GainEmptyCells, grown, PutsFacts, put_facts}
+use Rattle.ts_core.specs.moves.StoreMoves.{kept_points, points_below, PutsFact, column_moved, run_begun, Expired, AreOf, with_rules, run_ended, GainEmptyCells, grown, PutsFacts, put_facts}
 
 -- a new store with valid settings represents the empty history
 abbrev pub NewStands : Type 0
@@ -28,7 +28,7 @@ StepMoves = (k : StoreData) (c : Column) (ps : List (ℤ × ℤ)) (rest : List C
 
 -- a step removes cells below the low indices
 abbrev pub CellsGo : Type 0
-CellsGo = (k : StoreData) (ms : List CellMap) → Expired k.marks.lows k.cells ms → GoesOn k (Step false) (with_cells ms k)
+CellsGo = (k : StoreData) (rs : List RuleData) → Expired k.rules rs → GoesOn k (Step false) (with_rules rs k)
 
 -- if no column waits, a step ends the run
 abbrev pub RunEnds : Type 0
@@ -36,15 +36,15 @@ RunEnds = (k : StoreData) → k.waiting ≡ [] → GoesOn k (Step true) (run_end
 
 -- adding series, columns without points, and cells without facts doesn't change the history
 abbrev pub Grows : Type 0
-Grows = (k : StoreData) (series : List Series) (columns : List ColumnPoints) (ms : List CellMap) (facts : List Fact)
+Grows = (k : StoreData) (series : List Series) (columns : List ColumnPoints) (rs : List RuleData) (facts : List Fact)
     → AllDistinct (map column_of columns) → ((c : Column) → Among c (map column_of k.columns) → Among c (map column_of columns)) → ((c : Column) → Among c (map column_of columns) → Among c.series series)
-    → facts_of columns ≡ facts_of k.columns → GainEmptyCells k.settings.rules k.marks.lows facts k.cells ms → StaysFor k (grown series columns ms k)
+    → facts_of columns ≡ facts_of k.columns → GainEmptyCells facts k.rules rs → StaysFor k (grown series columns rs k)
 
 -- the facts of a line are inserted if the cells for them exist
 abbrev pub LinePut : Type 0
-LinePut = (k : StoreData) (columns : List ColumnPoints) (facts : List Fact) (ms ns : List CellMap)
-    → GainEmptyCells k.settings.rules k.marks.lows facts ms k.cells → ((f : Fact) → Among f facts → Among f.column (map column_of k.columns)) → PutsFacts k.settings.rules k.columns k.cells columns ns facts
-    → OfEachHistory k (λ opening h. IsLawful opening (Line facts ∷ h) → StandsFor opening (Line facts ∷ h) (state_of (put_facts columns ns (length facts) k)))
+LinePut = (k : StoreData) (columns : List ColumnPoints) (facts : List Fact) (rs ss : List RuleData)
+    → GainEmptyCells facts rs k.rules → ((f : Fact) → Among f facts → Among f.column (map column_of k.columns)) → PutsFacts k.columns k.rules columns ss facts
+    → OfEachHistory k (λ opening h. IsLawful opening (Line facts ∷ h) → StandsFor opening (Line facts ∷ h) (state_of (put_facts columns ss (length facts) k)))
 
 -- the view shows every history that the store represents
 abbrev pub AllShow : Type 0
@@ -53,17 +53,17 @@ AllShow = (k : StoreData) → ShowsEach k
 -- ---- live parts of all cells
 
 abbrev pub IsLiveData : StoreData → Type 0
-IsLiveData k = AreLive k.columns k.settings.rules k.cells
+IsLiveData k = AreLive k.columns k.rules
 
 -- The live part of each existing cell is the fold of its raw facts: in a new store, after a step, and after a write. A
 -- run that begins or ends leaves columns and cells as they are.
 pub record LivesKept : Type 0 where
   pub new : (opening : Settings) → IsLiveData (new_data opening)
   pub moved : (k : StoreData) (c : Column) (ps : List (ℤ × ℤ)) (rest : List Column) → AllDistinct (map column_of k.columns) → Among (record { column = c; points = ps }) k.columns → IsLiveData k → IsLiveData (column_moved c ps rest k)
-  pub gone : (k : StoreData) (ms : List CellMap) → AreOf k.cells ms → IsLiveData k → IsLiveData (with_cells ms k)
-  pub grown : (k : StoreData) (series : List Series) (columns : List ColumnPoints) (ms : List CellMap) (facts : List Fact)
-      → facts_of columns ≡ facts_of k.columns → GainEmptyCells k.settings.rules k.marks.lows facts k.cells ms → IsLiveData k → OfEachHistory k (λ opening h. IsLiveData (grown series columns ms k))
-  pub put : (k : StoreData) (columns : List ColumnPoints) (facts : List Fact) (ns : List CellMap) (n : ℕ) → AllDistinct (facts_of k.columns) → PutsFacts k.settings.rules k.columns k.cells columns ns facts → IsLiveData k → IsLiveData (put_facts columns ns n k)
+  pub gone : (k : StoreData) (rs : List RuleData) → AreOf k.rules rs → IsLiveData k → IsLiveData (with_rules rs k)
+  pub grown : (k : StoreData) (series : List Series) (columns : List ColumnPoints) (rs : List RuleData) (facts : List Fact)
+      → facts_of columns ≡ facts_of k.columns → GainEmptyCells facts k.rules rs → IsLiveData k → OfEachHistory k (λ opening h. IsLiveData (grown series columns rs k))
+  pub put : (k : StoreData) (columns : List ColumnPoints) (facts : List Fact) (ss : List RuleData) (n : ℕ) → AllDistinct (facts_of k.columns) → PutsFacts k.columns k.rules columns ss facts → IsLiveData k → IsLiveData (put_facts columns ss n k)
 
 -- ---- ways to compute a live part
 
@@ -89,13 +89,13 @@ pub record LiveWays : Type 0 where
 -- A begin leaves each column to be moved, with its points as they were. A step lowers the number by one. One step is
 -- left if no column waits and no cell is below its low index. Growth and insertions don't change the number.
 pub record LeftFalls : Type 0 where
-  pub begins : (k : StoreData) (now : ℤ) → steps_left (state_of (run_begun now k)) ≡ length k.columns + batches_left (rules_of k.settings.rules (raised now k.settings.rules k.marks.lows) k.cells) + 1
+  pub begins : (k : StoreData) (now : ℤ) → steps_left (state_of (run_begun now k)) ≡ length k.columns + batches_left (map rule_cells (run_begun now k).rules) + 1
   pub waiting : (k : StoreData) (now : ℤ) → ((run_begun now k).waiting ≡ map column_of k.columns) × ((run_begun now k).columns ≡ k.columns)
   pub moves : (k : StoreData) (c : Column) (ps : List (ℤ × ℤ)) (rest : List Column) → k.running ≡ true → k.waiting ≡ c ∷ rest → steps_left (state_of k) ≡ steps_left (state_of (column_moved c ps rest k)) + 1
-  pub ends : (k : StoreData) → k.running ≡ true → k.waiting ≡ [] → batches_left (rules_of k.settings.rules k.marks.lows k.cells) ≡ 0 → (steps_left (state_of k) ≡ 1) × (steps_left (state_of (run_ended k)) ≡ 0)
-  pub last : (k : StoreData) → k.running ≡ true → steps_left (state_of k) ≡ 1 → (k.waiting ≡ []) × (batches_left (rules_of k.settings.rules k.marks.lows k.cells) ≡ 0)
-  pub grows : (k : StoreData) (series : List Series) (columns : List ColumnPoints) (ms : List CellMap) (facts : List Fact) → GainEmptyCells k.settings.rules k.marks.lows facts k.cells ms
-      → steps_left (state_of (grown series columns ms k)) ≡ steps_left (state_of k)
-  pub puts : (k : StoreData) (columns : List ColumnPoints) (facts : List Fact) (ns : List CellMap) (n : ℕ) → PutsFacts k.settings.rules k.columns k.cells columns ns facts
-      → steps_left (state_of (put_facts columns ns n k)) ≡ steps_left (state_of k)
+  pub ends : (k : StoreData) → k.running ≡ true → k.waiting ≡ [] → batches_left (map rule_cells k.rules) ≡ 0 → (steps_left (state_of k) ≡ 1) × (steps_left (state_of (run_ended k)) ≡ 0)
+  pub last : (k : StoreData) → k.running ≡ true → steps_left (state_of k) ≡ 1 → (k.waiting ≡ []) × (batches_left (map rule_cells k.rules) ≡ 0)
+  pub grows : (k : StoreData) (series : List Series) (columns : List ColumnPoints) (rs : List RuleData) (facts : List Fact) → GainEmptyCells facts k.rules rs
+      → steps_left (state_of (grown series columns rs k)) ≡ steps_left (state_of k)
+  pub puts : (k : StoreData) (columns : List ColumnPoints) (facts : List Fact) (ss : List RuleData) (n : ℕ) → PutsFacts k.columns k.rules columns ss facts
+      → steps_left (state_of (put_facts columns ss n k)) ≡ steps_left (state_of k)
   pub bound : (left : ℕ) (calls : List (Bool × ℕ)) → Falls left calls → count_steps calls + last_left left calls ≤ left

@@ -2,10 +2,9 @@
 -- cells of a line are created, and its facts are inserted. (Own rules.)
 use Rattle.std.specs.Prelude.{◌≡◌, ◌⊎◌, ◌+◌, ℕ, ℤ, ◌≤ℤ◌, ◌<ℤ◌, true, false, Some, None, int_lt, int_le, List, [], ◌∷◌, filter, map, if◌then◌else◌}
 use Rattle.std.specs.Int.{int_max}
-use Rattle.std.specs.List.{AllZip, zip}
 use Rattle.std.specs.FinMap as finmap
 use Rattle.ts_core.specs.lists.Members.{Among, AllDistinct}
-use Rattle.ts_core.specs.lists.Beside.{AllZipBeside, changed_beside}
+use Rattle.ts_core.specs.lists.Beside.{changed_beside}
 use Rattle.ts_core.specs.store.History.{kept_since}
 use Rattle.ts_core.specs.store.Marks.{index_of}
 use Rattle.ts_core.specs.facts.Facts.{Series, Column, Fact, same_text, id_of, same_id}
@@ -16,7 +15,11 @@ use Rattle.ts_core.specs.store.StoreStates.{ColumnPoints, CellParts, column_of, 
 use Rattle.ts_core.specs.store.RawFacts.{same_column}
 use Rattle.ts_core.specs.store.TwoParts.{in_frozen, with_live}
 use Rattle.ts_core.specs.lists.Changes.{changed, or_else}
-use Rattle.ts_core.specs.store.StoreData.{CellMap, no_parts, StoreData}
+use Rattle.ts_core.specs.store.StoreData.{CellMap, no_parts, RuleData, StoreData, OfEachRule}
+
+-- changes the cells of a rule
+abbrev pub in_cells : (Rule → CellMap → CellMap) → RuleData → RuleData
+in_cells f r = record r { cells = f r.rule r.cells }
 
 -- ---- a step moves a column: points below the raw mark are frozen, and the live parts of their cells are folded anew
 
@@ -40,8 +43,8 @@ abbrev pub moved_cells : Rule → Column → List (ℤ × ℤ) → List Fact →
 moved_cells r c ps facts m = if same_text c.series.measurement r.measurement then refolded_points r c ps facts (frozen_points r c ps m) else m
 
 -- the same for each rule
-abbrev pub all_moved : List Rule → Column → List (ℤ × ℤ) → List Fact → List CellMap → List CellMap
-all_moved rs c ps facts = changed_beside (λ (r : Rule). moved_cells r c ps facts) rs
+abbrev pub all_moved : Column → List (ℤ × ℤ) → List Fact → List RuleData → List RuleData
+all_moved c ps facts = map (in_cells (λ (r : Rule). moved_cells r c ps facts))
 
 -- the points below a mark; `kept_points` leaves the others in the column
 abbrev pub points_below : ℤ → List (ℤ × ℤ) → List (ℤ × ℤ)
@@ -54,18 +57,26 @@ kept_points c mark s = if same_column s.column c then record { column = s.column
 abbrev pub column_moved : Column → List (ℤ × ℤ) → List Column → StoreData → StoreData
 column_moved c ps rest k = record k {
   waiting = rest;
-  columns = map (kept_points c k.marks.raw) k.columns;
-  cells = all_moved k.settings.rules c (points_below k.marks.raw ps) (facts_of (map (kept_points c k.marks.raw) k.columns)) k.cells;
+  columns = map (kept_points c k.raw_mark) k.columns;
+  rules = all_moved c (points_below k.raw_mark ps) (facts_of (map (kept_points c k.raw_mark) k.columns)) k.rules;
 }
 
 -- ---- a run begins
 
+abbrev pub raised_low : ℤ → Rule → ℤ → ℤ
+raised_low now r low = int_max low (index_of r (kept_since r.duration now))
+
+-- the low indices of these rules, raised
 abbrev pub raised : ℤ → List Rule → List ℤ → List ℤ
-raised now = changed_beside (λ (r : Rule) (low : ℤ). int_max low (index_of r (kept_since r.duration now)))
+raised now = changed_beside (raised_low now)
+
+abbrev pub raised_rule : ℤ → RuleData → RuleData
+raised_rule now r = record r { low = raised_low now r.rule r.low }
 
 abbrev pub run_begun : ℤ → StoreData → StoreData
 run_begun now k = record k {
-  marks = record { raw = int_max k.marks.raw (kept_since k.settings.raw_duration now); lows = raised now k.settings.rules k.marks.lows };
+  raw_mark = int_max k.raw_mark (kept_since k.raw_duration now);
+  rules = map (raised_rule now) k.rules;
   running = true;
   waiting = map column_of k.columns;
 }
@@ -77,19 +88,19 @@ abbrev pub KeepsFrom : ℤ → CellMap → CellMap → Type 0
 KeepsFrom low m n = (k : Cell) → low ≤ℤ k.index → finmap.get n k ≡ finmap.get m k
 
 -- the same for each rule
-abbrev pub Expired : List ℤ → List CellMap → List CellMap → Type 0
-Expired = AllZipBeside KeepsFrom
+abbrev pub Expired : List RuleData → List RuleData → Type 0
+Expired = OfEachRule (λ r. KeepsFrom)
 
 -- each cell of the second map is in the first, with the same parts
 abbrev pub IsOf : CellMap → CellMap → Type 0
 IsOf m n = (k : Cell) (p : CellParts) → finmap.get n k ≡ Some p → finmap.get m k ≡ Some p
 
 -- the same for each rule
-abbrev pub AreOf : List CellMap → List CellMap → Type 0
-AreOf = AllZip IsOf
+abbrev pub AreOf : List RuleData → List RuleData → Type 0
+AreOf = OfEachRule (λ r low. IsOf)
 
-abbrev pub with_cells : List CellMap → StoreData → StoreData
-with_cells ms k = record k { cells = ms }
+abbrev pub with_rules : List RuleData → StoreData → StoreData
+with_rules rs k = record k { rules = rs }
 
 abbrev pub run_ended : StoreData → StoreData
 run_ended k = record k { running = false }
@@ -105,12 +116,12 @@ pub record GainsEmptyCells (r : Rule) (low : ℤ) (facts : List Fact) (m n : Cel
   pub above : (k : Cell) → k.index <ℤ low → finmap.get n k ≡ finmap.get m k
 
 -- the same for each rule
-abbrev pub GainEmptyCells : List Rule → List ℤ → List Fact → List CellMap → List CellMap → Type 0
-GainEmptyCells rs lows facts = AllZipBeside (λ (x : Rule × ℤ). GainsEmptyCells x.0 x.1 facts) (zip rs lows)
+abbrev pub GainEmptyCells : List Fact → List RuleData → List RuleData → Type 0
+GainEmptyCells facts = OfEachRule (λ r low. GainsEmptyCells r low facts)
 
 -- more series, columns and cells, but no more facts
-abbrev pub grown : List Series → List ColumnPoints → List CellMap → StoreData → StoreData
-grown series columns ms k = record k { series = series; columns = columns; cells = ms }
+abbrev pub grown : List Series → List ColumnPoints → List RuleData → StoreData → StoreData
+grown series columns rs k = record k { series = series; columns = columns; rules = rs }
 
 -- inserts a fact, replacing the one with its id; nothing else changes
 pub record Puts (before after : List Fact) (f : Fact) : Type 0 where
@@ -128,13 +139,13 @@ abbrev pub put_cell : Rule → Fact → List Fact → CellMap → CellMap
 put_cell r f facts m = if is_rolled r f then refolded r (cell_of r f) facts m else m
 
 -- the same for each rule
-abbrev pub put_cells : List Rule → Fact → List Fact → List CellMap → List CellMap
-put_cells rs f facts = changed_beside (λ (r : Rule). put_cell r f facts) rs
+abbrev pub put_cells : Fact → List Fact → List RuleData → List RuleData
+put_cells f facts = map (in_cells (λ (r : Rule). put_cell r f facts))
 
 -- inserts facts one after another, each into its column, and then into its cells
-abbrev pub PutsFacts : List Rule → List ColumnPoints → List CellMap → List ColumnPoints → List CellMap → List Fact → Type 0
-PutsFacts rs before ms after ns [] = (after ≡ before) × (ns ≡ ms)
-PutsFacts rs before ms after ns (f ∷ fs) = (between : List ColumnPoints) × PutsFact before between f × PutsFacts rs between (put_cells rs f (facts_of between) ms) after ns fs
+abbrev pub PutsFacts : List ColumnPoints → List RuleData → List ColumnPoints → List RuleData → List Fact → Type 0
+PutsFacts before rs after ss [] = (after ≡ before) × (ss ≡ rs)
+PutsFacts before rs after ss (f ∷ fs) = (between : List ColumnPoints) × PutsFact before between f × PutsFacts between (put_cells f (facts_of between) rs) after ss fs
 
-abbrev pub put_facts : List ColumnPoints → List CellMap → ℕ → StoreData → StoreData
-put_facts columns ms n k = record k { columns = columns; accepted = k.accepted + n; cells = ms }
+abbrev pub put_facts : List ColumnPoints → List RuleData → ℕ → StoreData → StoreData
+put_facts columns rs n k = record k { columns = columns; accepted = k.accepted + n; rules = rs }

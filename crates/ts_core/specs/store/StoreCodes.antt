@@ -9,7 +9,7 @@ use Rattle.ts_core.specs.aggregates.Aggregates.{Aggregate}
 use Rattle.ts_core.specs.store.Cells.{Cell}
 use Rattle.ts_core.specs.store.StoreStates.{ColumnPoints}
 use Rattle.ts_core.specs.store.TwoParts.{coded_parts}
-use Rattle.ts_core.specs.store.StoreData.{CellMap, StoreData}
+use Rattle.ts_core.specs.store.StoreData.{CellMap, RuleData, StoreData}
 
 abbrev pub coded_text : Coded Text
 coded_text = coded_list coded_ℕ
@@ -42,19 +42,22 @@ coded_column = code_by (Series × Text) (coded× coded_series coded_text) (λ c.
 abbrev pub coded_column_points : Coded ColumnPoints
 coded_column_points = code_by (Column × List (ℤ × ℤ)) (coded× coded_column (coded_list (coded× coded_ℤ coded_ℤ))) (λ c. (c.column, c.points)) (λ p. record { column = p.0; points = p.1 }) (λ _. refl)
 
+abbrev pub coded_rule_data : Coded RuleData
+coded_rule_data = code_by (Rule × (ℤ × CellMap)) (coded× coded_rule (coded× coded_ℤ coded_cell_map)) (λ r. (r.rule, (r.low, r.cells))) (λ p. record { rule = p.0; low = p.1.0; cells = p.1.1 }) (λ _. refl)
+
 abbrev pub coded_store_data : Coded StoreData
 coded_store_data =
-    code_by ((ℕ × List Rule) × ((ℤ × List ℤ) × (Bool × (List Column × (List Series × (List ColumnPoints × (ℕ × List CellMap)))))))
-    (coded× (coded× coded_ℕ (coded_list coded_rule)) (coded× (coded× coded_ℤ (coded_list coded_ℤ)) (coded× coded_bool (coded× (coded_list coded_column) (coded× (coded_list coded_series) (coded× (coded_list coded_column_points) (coded× coded_ℕ (coded_list coded_cell_map))))))))
-    (λ k. ((k.settings.raw_duration, k.settings.rules), ((k.marks.raw, k.marks.lows), (k.running, (k.waiting, (k.series, (k.columns, (k.accepted, k.cells))))))))
+    code_by (ℕ × (ℤ × (List RuleData × (Bool × (List Column × (List Series × (List ColumnPoints × ℕ)))))))
+    (coded× coded_ℕ (coded× coded_ℤ (coded× (coded_list coded_rule_data) (coded× coded_bool (coded× (coded_list coded_column) (coded× (coded_list coded_series) (coded× (coded_list coded_column_points) coded_ℕ)))))))
+    (λ k. (k.raw_duration, (k.raw_mark, (k.rules, (k.running, (k.waiting, (k.series, (k.columns, k.accepted))))))))
     (λ p. record {
-      settings = record { raw_duration = p.0.0; rules = p.0.1 };
-      marks = record { raw = p.1.0.0; lows = p.1.0.1 };
-      running = p.1.1.0;
-      waiting = p.1.1.1.0;
-      series = p.1.1.1.1.0;
-      columns = p.1.1.1.1.1.0;
-      accepted = p.1.1.1.1.1.1.0;
-      cells = p.1.1.1.1.1.1.1;
+      raw_duration = p.0;
+      raw_mark = p.1.0;
+      rules = p.1.1.0;
+      running = p.1.1.1.0;
+      waiting = p.1.1.1.1.0;
+      series = p.1.1.1.1.1.0;
+      columns = p.1.1.1.1.1.1.0;
+      accepted = p.1.1.1.1.1.1.1;
     })
     (λ _. refl)

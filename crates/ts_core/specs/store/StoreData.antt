@@ -1,17 +1,17 @@
 -- A store's content as data, and the state that it represents. (Own rules.)
 use Rattle.std.specs.Prelude.{◌≡◌, ℕ, ℤ, Bool, false, List, [], ◌∷◌, map, Some}
-use Rattle.std.specs.List.{zip}
+use Rattle.std.specs.List.{AllByRecursion, AllZip}
 use Rattle.std.specs.FinMap as finmap
 use Rattle.std.specs.FinMap.{FinMap}
 use Rattle.ts_core.specs.facts.Facts.{Series, Column}
+use Rattle.ts_core.specs.facts.Times.{least_time}
 use Rattle.ts_core.specs.settings.Settings.{Rule, Settings}
 use Rattle.ts_core.specs.store.History.{Event, History}
-use Rattle.ts_core.specs.store.Marks.{Marks, marks_of}
+use Rattle.ts_core.specs.store.Marks.{Marks, index_of}
 use Rattle.ts_core.specs.aggregates.Aggregates.{empty_aggregate}
 use Rattle.ts_core.specs.store.Cells.{Cell, cell_cmp, total_of}
 use Rattle.ts_core.specs.store.StoreStates.{ColumnPoints, CellParts, RuleCells, StoreState, StandsFor, facts_of}
 use Rattle.ts_core.specs.store.Views.{Shows, view_state_of}
-use Rattle.ts_core.specs.lists.Beside.{OfEach}
 use Rattle.ts_core.specs.lists.Changes.{or_else}
 use Rattle.ts_core.specs.store.TwoParts.{both_parts}
 
@@ -23,10 +23,18 @@ CellMap = FinMap cell_cmp CellParts
 abbrev pub no_parts : CellParts
 no_parts = both_parts empty_aggregate
 
+-- a rule with its low index and its cells
+pub record RuleData : Type 0 where
+  pub rule : Rule
+  pub low : ℤ
+  pub cells : CellMap
+
 -- the content of a store
 pub record StoreData : Type 0 where
-  pub settings : Settings
-  pub marks : Marks
+  -- how long raw points are kept, and the raw mark
+  pub raw_duration : ℕ
+  pub raw_mark : ℤ
+  pub rules : List RuleData
   -- true if a run is in progress; and the columns that it hasn't moved yet
   pub running : Bool
   pub waiting : List Column
@@ -35,41 +43,45 @@ pub record StoreData : Type 0 where
   pub columns : List ColumnPoints
   -- the number of accepted facts, including repeats
   pub accepted : ℕ
-  -- the cells of each rule of the settings
-  pub cells : List CellMap
+
+abbrev pub store_settings : StoreData → Settings
+store_settings k = record { raw_duration = k.raw_duration; rules = map (λ (r : RuleData). r.rule) k.rules }
+
+abbrev pub store_marks : StoreData → Marks
+store_marks k = record { raw = k.raw_mark; lows = map (λ (r : RuleData). r.low) k.rules }
+
+-- Each rule stays with its low index. The relation holds of these and of the cells before and after.
+abbrev pub OfEachRule : (Rule → ℤ → CellMap → CellMap → Type 0) → List RuleData → List RuleData → Type 0
+OfEachRule R = AllZip (λ (a b : RuleData). (b.rule ≡ a.rule) × (b.low ≡ a.low) × R a.rule a.low a.cells b.cells)
 
 -- ---- the state that the data represents
 
-abbrev pub rule_cells : Rule → ℤ → CellMap → RuleCells
-rule_cells r low m = record { rule = r; low = low; cells = finmap.keys m; parts = λ k. or_else no_parts (finmap.get m k) }
-
--- each rule with its low index and its cells
-abbrev pub rules_of : List Rule → List ℤ → List CellMap → List RuleCells
-rules_of rs lows ms = map (λ (p : Rule × (ℤ × CellMap)). rule_cells p.0 p.1.0 p.1.1) (zip rs (zip lows ms))
+abbrev pub rule_cells : RuleData → RuleCells
+rule_cells r = record { rule = r.rule; low = r.low; cells = finmap.keys r.cells; parts = λ k. or_else no_parts (finmap.get r.cells k) }
 
 abbrev pub state_of : StoreData → StoreState
 state_of k = record {
-  settings = k.settings;
-  marks = k.marks;
+  settings = store_settings k;
+  marks = store_marks k;
   running = k.running;
   waiting = k.waiting;
   series = k.series;
   columns = k.columns;
   accepted = k.accepted;
-  rules = rules_of k.settings.rules k.marks.lows k.cells;
+  rules = map rule_cells k.rules;
 }
 
 -- before any write
 abbrev pub new_data : Settings → StoreData
 new_data opening = record {
-  settings = opening;
-  marks = marks_of opening [];
+  raw_duration = opening.raw_duration;
+  raw_mark = least_time;
+  rules = map (λ (r : Rule). record { rule = r; low = index_of r least_time; cells = finmap.empty }) opening.rules;
   running = false;
   waiting = [];
   series = [];
   columns = [];
   accepted = 0;
-  cells = map (λ (r : Rule). finmap.empty) opening.rules;
 }
 
 -- ---- properties of the histories that it represents
@@ -98,5 +110,5 @@ abbrev pub IsLive : List ColumnPoints → Rule → CellMap → Type 0
 IsLive columns r m = (k : Cell) (p : CellParts) → finmap.get m k ≡ Some p → p.live ≡ total_of r k (facts_of columns)
 
 -- the same for each rule
-abbrev pub AreLive : List ColumnPoints → List Rule → List CellMap → Type 0
-AreLive columns = OfEach (IsLive columns)
+abbrev pub AreLive : List ColumnPoints → List RuleData → Type 0
+AreLive columns = AllByRecursion (λ (r : RuleData). IsLive columns r.rule r.cells)

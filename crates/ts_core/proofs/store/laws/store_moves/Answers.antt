@@ -20,16 +20,16 @@ pub returns-clause-steps : goal.returns-clause-steps
 returns-clause-steps c = λ k m ps rest e a opening h st. step_stands opening h k m ps rest st e a
 
 pub returns-clause-expires : goal.returns-clause-expires
-returns-clause-expires c = λ k ms e opening h st. cells_go opening h k ms st e
+returns-clause-expires c = λ k rs e opening h st. cells_go opening h k rs st e
 
 pub returns-clause-ends : goal.returns-clause-ends
 returns-clause-ends c = λ k e opening h st. run_ends opening h k st e
 
 pub returns-clause-grows : goal.returns-clause-grows
-returns-clause-grows c = λ k series columns ms facts once stay registered same spare opening h st. grows opening h k series columns ms facts st once stay registered same spare
+returns-clause-grows c = λ k series columns rs facts once stay registered same spare opening h st. grows opening h k series columns rs facts st once stay registered same spare
 
 pub returns-clause-line : goal.returns-clause-line
-returns-clause-line c = λ k columns facts ms ns spare there puts opening h st lawful. line_put opening h k columns facts ms ns st spare there puts lawful
+returns-clause-line c = λ k columns facts rs ss spare there puts opening h st lawful. line_put opening h k columns facts rs ss st spare there puts lawful
 
 pub returns-clause-shows : goal.returns-clause-shows
 returns-clause-shows c = λ k opening h st. stands_shows opening h (state_of k) st
@@ -37,10 +37,10 @@ returns-clause-shows c = λ k opening h st. stands_shows opening h (state_of k) 
 pub returns-clause-lives : goal.returns-clause-lives
 returns-clause-lives c = record {
   new = λ opening. no_live [] opening.rules;
-  moved = λ k m ps rest once there a. lives_left m k.marks.raw k.columns ps once there k.settings.rules k.cells a;
-  gone = λ k ms e a. lives_go k.columns k.settings.rules k.cells ms e a;
-  grown = λ k series columns ms facts same spare a opening h st. lives_grow opening h k columns ms facts st same spare a;
-  put = λ k columns facts ns n d p a. lives_line k.settings.rules facts k.columns columns k.cells ns d p a;
+  moved = λ k m ps rest once there a. lives_left m k.raw_mark k.columns ps once there k.rules a;
+  gone = λ k rs e a. lives_go k.columns k.rules rs e a;
+  grown = λ k series columns rs facts same spare a opening h st. lives_grow opening h k columns rs facts st same spare a;
+  put = λ k columns facts ss n d p a. lives_line facts k.columns columns k.rules ss d p a;
 }
 
 pub returns-clause-ways : goal.returns-clause-ways
