@@ -3,6 +3,7 @@ pub mod Stands
 -- Inventories: columns and cells that exist
 pub mod InventoriesKept
 -- SizedStores
+pub mod RuleListLemmas
 pub mod SizesKept
 -- PossibleCells
 pub mod PossibleCellsKept

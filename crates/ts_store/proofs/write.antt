@@ -8,7 +8,6 @@ pub mod LivesGrown
 -- ColumnStates, Registered, PointsRead: columns and their points
 pub mod StagedColumns
 -- Rollups, Rooms: rollups when a rollup series, a column or a cell is created, and when a line is inserted
-pub mod RuleLists
 pub mod RollupsPut
 pub mod CellsCreatedLemmas
 pub mod CellsMade

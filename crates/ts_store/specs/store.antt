@@ -4,6 +4,7 @@ pub mod Inventories
 pub mod WholeStates
 pub mod BlocksHeld
 -- used only by models and proofs of the code
+pub mod RuleLists
 pub mod ColumnStates
 pub mod CellCounts
 pub mod SizedStores

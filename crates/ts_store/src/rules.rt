@@ -1,6 +1,7 @@
 //! Rules that are added and dropped while the store is in use.
 ghost use Rattle.std.specs.Prelude.{◌≡◌, None, [], ◌∷◌, ◌++◌, IfOk, OnOk, OnErr};
 ghost use Rattle.ts_core.specs.store.Marks.{first_from};
+ghost use Rattle.ts_core.specs.store.StoreData.{store_settings};
 ghost use Rattle.ts_core.specs.settings.Settings.{with_rule};
 ghost use Rattle.ts_core.specs.settings.SettingsFaults.{added_fault};
 ghost use Rattle.ts_core.specs.facts.Times.{IsTime};
@@ -60,9 +61,9 @@ impl<A: Allocator + Copy> Store<A> {
     /// Returns the low index of a rule that is added now: the first bucket that starts at or above the raw mark. Its
     /// contract also states that the mark is a valid time.
     fn start_of(&self, rule: &Rule<A>) -> i64
-        requires { added_fault self.now.settings rule.now ≡ None }
-        ensures low { result ≡ first_from rule.now self.now.marks.raw }
-        ensures mark { IsTime self.now.marks.raw }
+        requires { added_fault (store_settings self.now) rule.now ≡ None }
+        ensures low { result ≡ first_from rule.now self.now.raw_mark }
+        ensures mark { IsTime self.now.raw_mark }
     {
         // for the proof: the contract of this call states that the offset fits
         let _ = rule.duration();
@@ -71,9 +72,9 @@ impl<A: Allocator + Copy> Store<A> {
 
     /// Appends a rule with this low index. On allocation failure, nothing changes.
     fn append_rule(&mut self, rule: Rule<A>, low: i128) -> Result<(), AllocError>
-        requires rule { added_fault self.old.settings rule ≡ None }
-        requires low { low ≡ first_from rule self.old.marks.raw }
-        requires mark { IsTime self.old.marks.raw }
+        requires rule { added_fault (store_settings self.old) rule ≡ None }
+        requires low { low ≡ first_from rule self.old.raw_mark }
+        requires mark { IsTime self.old.raw_mark }
         ensures ok { OnOk result (RuleComes self.old self.new rule low) }
         ensures err { OnErr result (self.new ≡ self.old) }
     {

@@ -1,5 +1,5 @@
 -- Cells of a walk with frozen facts: exactly those of the map, from the low index on.
-use Rattle.std.proofs.Common.{◌≡◌, ℕ, zero, suc, length, get_or, Some, ◌&&◌, ◌<◌, ◌≤◌, ◌^◌, ℤ, pos, negsuc, ◌≤ℤ◌, ◌<ℤ◌, int_le, nat_lt, Bool, true, false, cond, List, [], ◌∷◌, map, filter, unsigned_abs, FitsSigned, w64, refl, sym, ◌∙◌, ap, ap₂, subst, inl, inr, ◌+◌, not, int_lt, arith}
+use Rattle.std.proofs.Common.{◌≡◌, ℕ, zero, suc, length, get_or, Option, Some, ◌&&◌, ◌<◌, ◌≤◌, ◌^◌, ℤ, pos, negsuc, ◌≤ℤ◌, ◌<ℤ◌, int_le, nat_lt, Bool, true, false, cond, List, [], ◌∷◌, map, filter, unsigned_abs, FitsSigned, w64, refl, sym, ◌∙◌, ap, ap₂, subst, inl, inr, ◌+◌, not, int_lt, arith}
 use Rattle.std.proofs.lemmas.Int.{ints}
 use Rattle.std.specs.FinMap as finmap
 use Rattle.std.specs.List.{AllByRecursion}
@@ -8,23 +8,28 @@ use Rattle.std.proofs.lemmas.Option.{none-some, same_Some, slice_get-get_or}
 use Rattle.ts_core.specs.lists.Numbered.{IsAt}
 use Rattle.ts_core.specs.lists.Members.{Among}
 use Rattle.ts_core.specs.facts.Times.{IsTime}
-use Rattle.ts_core.specs.facts.Facts.{Column, is_within}
+use Rattle.ts_core.specs.facts.Facts.{is_within}
 use Rattle.ts_core.specs.aggregates.Aggregates.{Aggregate}
 use Rattle.ts_core.specs.settings.Settings.{Rule, IsPossibleRule}
 use Rattle.ts_core.specs.store.Marks.{index_of}
 use Rattle.ts_core.specs.store.Cells.{Cell}
 use Rattle.ts_core.specs.store.StoreStates.{CellParts}
-use Rattle.ts_core.specs.store.StoreData.{CellMap}
+use Rattle.ts_core.specs.store.StoreData.{CellMap, RuleData, StoreData}
 use Rattle.ts_core.proofs.lists.Comparisons.{lt_true}
 use Rattle.ts_core.proofs.aggregates.IndicesFit.{indices_fit}
 use Rattle.ts_core.proofs.lists.MembersLemmas.{Among-map}
-use Rattle.ts_store.proofs.read.ShownCells.{cells_at}
+use Rattle.ts_core.specs.settings.Settings.{Settings}
+use Rattle.ts_core.specs.store.Marks.{Marks}
+use Rattle.ts_core.specs.store.StoreStates.{column_of}
+use Rattle.ts_store.specs.retain.OpenRuns.{Run, data_of_parts}
+use Rattle.ts_store.specs.store.SoundStores.{IsSoundStore}
+use Rattle.ts_store.proofs.read.ShownCells.{its_part, its_data, data_at}
 use Rattle.ts_cells.specs.FrozenCounts.{frozen_cell_count}
 use Rattle.ts_cells.specs.Walks.{CellWithPart, entry_of, entries_within}
-use Rattle.ts_store.specs.store.PossibleCells.{IsBucketIndex, HasPossibleCells, HavePossibleCells}
+use Rattle.ts_store.specs.store.PossibleCells.{IsBucketIndex, HasPossibleCells}
 use Rattle.ts_store.specs.store.ColumnStates.{StoreContent}
 use Rattle.ts_store.specs.read.LiveCells.{rollup_at}
-use Rattle.ts_store.specs.rollup.Rollups.{RollupState, new_rollup, AreRollups, cells_of}
+use Rattle.ts_store.specs.rollup.Rollups.{RollupState, new_rollup}
 use Rattle.ts_store.proofs.rollup.RollupsGrow.{rollups-length}
 use Rattle.ts_cells.proofs.FrozenLemmas.{count_split}
 use Rattle.ts_store.specs.image.FrozenLeft.{holds_frozen, frozen_cell, frozen_left, HasNearCells}
@@ -141,20 +146,20 @@ at_all P [] n x at h = absurd (none-some x at)
 at_all P (y ∷ xs) zero x at h = subst P (same_Some y x at) h.0
 at_all P (y ∷ xs) (suc n) x at h = at_all P xs n x at h.1
 
-pub store_near : (rs : List Rule) (names : List Column) (held : StoreContent) (n : ℕ) (r : Rule) → AreRollups rs names held.rollups → HavePossibleCells rs (cells_of held.rollups) → AllByRecursion (λ (q : Rule). pos 1000000000 ≤ℤ q.interval) rs → AllByRecursion IsPossibleRule rs
-    → n < length rs → r ≡ get_or rs n r → HasNearCells held r n
-store_near rs names held n r rollups cells seconds possible there read =
-    let below : n < length held.rollups = let l = rollups-length rs names held.rollups rollups in omega (arith, l, there) in
-    let at : IsAt rs n r = slice_get-get_or rs n r there ∙ ap Some (sym read) in
-    let here : IsAt held.rollups n (rollup_at held.rollups n) = slice_get-get_or held.rollups n new_rollup below in
-    record {
-      there = below;
-      second = at_all (λ (q : Rule). pos 1000000000 ≤ℤ q.interval) rs n r at seconds;
-      offset = (at_all IsPossibleRule rs n r at possible).offset;
-      possible = cells_at HasPossibleCells rs held.rollups n r (rollup_at held.rollups n) cells at here;
-    }
+module _ (settings : Settings) (marks : Marks) (accepted : ℕ) (held : StoreContent) (run : Option Run) (n : ℕ) (r : Rule) (kept : IsSoundStore settings marks accepted held run) (there : n < length settings.rules) (read : r ≡ get_or settings.rules n r) where
+  pub store_near : AllByRecursion (λ (q : Rule). pos 1000000000 ≤ℤ q.interval) settings.rules → AllByRecursion IsPossibleRule settings.rules → HasNearCells held r n
+  store_near seconds possible =
+      let at : IsAt settings.rules n r = slice_get-get_or settings.rules n r there ∙ ap Some (sym read) in
+      record {
+        there = let l = rollups-length settings.rules (map column_of held.columns) held.rollups kept.rollups in omega (arith, l, there);
+        second = at_all (λ (q : Rule). pos 1000000000 ≤ℤ q.interval) settings.rules n r at seconds;
+        offset = (at_all IsPossibleRule settings.rules n r at possible).offset;
+        possible = its_part settings marks accepted held run n r kept there read (λ (x : RuleData). HasPossibleCells x.rule x.cells) kept.possible;
+      }
 
-pub cells_at_rule : (ss : List RollupState) (n : ℕ) → (rollup_at ss n).grid.cells ≡ get_or (cells_of ss) n finmap.empty
-cells_at_rule [] n = refl
-cells_at_rule (s ∷ ss) zero = refl
-cells_at_rule (s ∷ ss) (suc n) = cells_at_rule ss n
+  -- the rule with this index is this one
+  pub its_cells : (k : StoreData) → data_of_parts settings marks accepted held run ≡ k → (x : RuleData) → IsAt k.rules n x → frozen_from (get_or marks.lows n (pos 0)) (rollup_at held.rollups n).grid.cells ≡ frozen_from x.low x.cells
+  its_cells k view x at =
+      let held_rule : RuleData = its_data settings marks accepted held run n r kept there read in
+      let same : held_rule ≡ x = same_Some held_rule x (sym (subst (λ (z : StoreData). IsAt z.rules n held_rule) view (data_at settings marks accepted held run n r kept there read)) ∙ at) in
+      ap (λ (y : RuleData). frozen_from y.low y.cells) same

@@ -3,7 +3,6 @@ use Rattle.std.proofs.Common.{◌≡◌, ◌≤◌, ◌+◌, ℕ, ℤ, Bool, tru
 use Rattle.std.specs.List.{AllByRecursion}
 use Rattle.std.specs.Option.{is_some}
 use Rattle.std.proofs.Math.Seq.{take-length}
-use Rattle.std.proofs.lemmas.List.{length-map}
 use Rattle.ts_core.specs.lists.Members.{Among}
 use Rattle.ts_core.specs.facts.Facts.{Series, Column, Fact}
 use Rattle.ts_core.specs.settings.Settings.{Rule, Settings}
@@ -11,28 +10,29 @@ use Rattle.ts_core.specs.settings.SettingsFaults.{settings_fault}
 use Rattle.ts_core.specs.store.Marks.{Marks}
 use Rattle.ts_core.specs.store.Cells.{cell_of}
 use Rattle.ts_core.specs.store.StoreStates.{ColumnPoints, column_of, facts_of}
-use Rattle.ts_core.specs.store.StoreData.{CellMap, rules_of, AreLive}
+use Rattle.ts_core.specs.store.StoreData.{CellMap, RuleData, OfEachRule, AreLive}
 use Rattle.ts_core.proofs.moves.MovesStand.{key_there}
 use Rattle.std.proofs.lemmas.Slice.Zip.{AllZip-long}
 use Rattle.ts_store.specs.image.Building.{AreLowIndices, IsBuildable, IsBuiltFrom, HaveCells, waiting_of, IsLowIndex}
 use Rattle.ts_store.specs.image.BuildingParts.{built_of, IsInOrder, FillsCells}
 use Rattle.ts_store.specs.store.CellCounts.{HoldFew, live_count, HoldsFew}
 use Rattle.ts_store.specs.store.ColumnStates.{StoreContent}
-use Rattle.ts_store.specs.write.LinesPut.{OfEachRule, PutsCells}
+use Rattle.ts_store.specs.write.LinesPut.{PutsCells}
+use Rattle.ts_store.specs.store.RuleLists.{rules_with}
+use Rattle.ts_store.proofs.store.RuleListLemmas.{settings_read, marks_read}
 use Rattle.ts_store.specs.retain.OpenRuns.{Run, run_of, unflagged, waiting_in, data_of_parts, IsWithin}
 use Rattle.ts_store.specs.store.SoundStores.{IsSoundStore}
-use Rattle.ts_store.specs.rollup.Rollups.{RollupState, AreRollups, cells_of}
+use Rattle.ts_store.specs.rollup.Rollups.{AreRollups, cells_of}
 use Rattle.ts_store.specs.store.SizedStores.{IsSizedRule}
 use Rattle.ts_store.proofs.retain.RollupMoves.{rollups_with}
-use Rattle.ts_store.proofs.rollup.RollupsGrow.{rollups-length}
-use Rattle.ts_store.proofs.write.RuleLists.{of_rules}
+use Rattle.ts_core.proofs.moves.EachRule.{rules_keep}
 
 -- ---- rules
 
 pub lows-length : (mark : ℤ) (rs : List Rule) (lows : List ℤ) → AreLowIndices mark rs lows → length lows ≡ length rs
 lows-length mark rs lows h = AllZip-long (IsLowIndex mark) rs lows h
 
-rules-sized : (mark : ℤ) (facts : List Fact) (rs : List Rule) (lows : List ℤ) (ns : List CellMap) → AreLowIndices mark rs lows → HaveCells rs lows facts ns → AllByRecursion (IsSizedRule mark facts) (rules_of rs lows ns)
+rules-sized : (mark : ℤ) (facts : List Fact) (rs : List Rule) (lows : List ℤ) (ns : List CellMap) → AreLowIndices mark rs lows → HaveCells facts (rules_with rs lows ns) → AllByRecursion (IsSizedRule mark facts) (rules_with rs lows ns)
 rules-sized mark facts [] lows ns h has_cells = tt
 rules-sized mark facts (r ∷ rs) [] ns h has_cells = tt
 rules-sized mark facts (r ∷ rs) (low ∷ lows) [] h has_cells = tt
@@ -41,9 +41,10 @@ rules-sized mark facts (r ∷ rs) (low ∷ lows) (n ∷ ns) h has_cells = (
   rules-sized mark facts rs lows ns h.1 has_cells.1,
 )
 
-counts-built : (count : ℕ) (facts : List Fact) (columns : List ColumnPoints) (rs : List Rule) (lows : List ℤ) (ms ns : List CellMap) → length lows ≡ length rs → OfEachRule (PutsCells facts) rs lows ms ns → HoldFew count columns rs ms → HoldFew count columns rs ns
-counts-built count facts columns rs lows ms ns l puts h =
-    of_rules (PutsCells facts) (HoldsFew count columns) (HoldsFew count columns) (λ r low m n one few k. subst (λ a. a + live_count r k columns ≤ count) (sym (ap (λ a. a.count) (one.frozen k))) (few k)) rs lows ms ns l puts h
+counts-built : (count : ℕ) (facts : List Fact) (columns : List ColumnPoints) (rs ss : List RuleData) → OfEachRule (PutsCells facts) rs ss → HoldFew count columns rs → HoldFew count columns ss
+counts-built count facts columns =
+    rules_keep (PutsCells facts) (λ (x : RuleData). HoldsFew count columns x.rule x.cells) (λ (x : RuleData). HoldsFew count columns x.rule x.cells)
+    (λ x n one few k. subst (λ a. a + live_count x.rule k columns ≤ count) (sym (ap (λ a. a.count) (one.frozen k))) (few k))
 
 -- ---- columns that wait
 
@@ -89,19 +90,28 @@ module _ (settings : Settings) (marks : Marks) (running : Bool) (count : ℕ) (h
   many : length passed ≡ length after.columns
   many = order.each ∙ sym (ap length same_columns)
 
-  rules_many : length (cells_of after.rollups) ≡ length settings.rules
-  rules_many = fills.cells.0 ∙ length-map held.rollups (λ (s : RollupState). s.grid.cells) ∙ rollups-length settings.rules (map column_of held.columns) held.rollups order.rollups
+  lows : length marks.lows ≡ length settings.rules
+  lows = lows-length marks.raw settings.rules marks.lows can.lows
 
-  pub kept_built : IsSoundStore (data_of_parts settings marks count after run) after run
+  rollups : AreRollups settings.rules (map column_of after.columns) after.rollups
+  rollups = subst (λ (h : StoreContent). AreRollups settings.rules (map column_of h.columns) h.rollups) (sym fills.others) (rollups_with settings.rules (map column_of held.columns) (cells_of after.rollups) held.rollups order.rollups)
+
+  abbrev before : List RuleData
+  before = rules_with settings.rules marks.lows (cells_of held.rollups)
+
+  abbrev now : List RuleData
+  now = rules_with settings.rules marks.lows (cells_of after.rollups)
+
+  pub kept_built : IsSoundStore settings marks count after run
   kept_built = record {
-    rollups = subst (λ (h : StoreContent). AreRollups settings.rules (map column_of h.columns) h.rollups) (sym fills.others) (rollups_with settings.rules (map column_of held.columns) (cells_of after.rollups) held.rollups order.rollups);
+    rollups = rollups;
+    lows = lows;
     few = within-built running after.columns passed;
-    counts = counts-built count (facts_of held.columns) after.columns settings.rules marks.lows (cells_of held.rollups) (cells_of after.rollups) (lows-length marks.raw settings.rules marks.lows can.lows) fills.cells
-        (subst (λ (cs : List ColumnPoints). HoldFew count cs settings.rules (cells_of held.rollups)) (sym same_columns) can.counts);
-    live = subst (λ (cs : List ColumnPoints). AreLive cs settings.rules (cells_of after.rollups)) (sym same_columns) fills.live;
+    counts = counts-built count (facts_of held.columns) after.columns before now fills.cells (subst (λ (cs : List ColumnPoints). HoldFew count cs before) (sym same_columns) can.counts);
+    live = subst (λ (cs : List ColumnPoints). AreLive cs now) (sym same_columns) fills.live;
     possible = fills.possible can.possible;
     sized = record {
-      settings = well;
+      settings = ap settings_fault (settings_read settings marks after (map column_of after.columns) lows rollups count run) ∙ well;
       accepted = can.accepted;
       facts = subst (λ (cs : List ColumnPoints). length (facts_of cs) ≤ count) (sym same_columns) can.facts;
       series = subst (λ (xs : List Series). length xs ≤ 1000000) (sym same_series) order.few;
@@ -110,17 +120,15 @@ module _ (settings : Settings) (marks : Marks) (running : Bool) (count : ℕ) (h
       registered = fills.known.registered;
       keys = λ c a. order.keys c (subst (λ (cs : List ColumnPoints). Among c (map column_of cs)) same_columns a);
       once = fills.once;
-      lows = lows-length marks.raw settings.rules marks.lows can.lows;
-      cells = rules_many;
-      rules = subst (λ (cs : List ColumnPoints). AllByRecursion (IsSizedRule marks.raw (facts_of cs)) (rules_of settings.rules marks.lows (cells_of after.rollups))) (sym same_columns)
+      rules = subst (λ (cs : List ColumnPoints). AllByRecursion (IsSizedRule marks.raw (facts_of cs)) now) (sym same_columns)
           (rules-sized marks.raw (facts_of held.columns) settings.rules marks.lows (cells_of after.rollups) can.lows fills.has_cells);
     };
   }
 
   pub built_from : IsBuiltFrom (built_of settings marks running count held passed) (data_of_parts settings marks count after run)
   built_from = record {
-    settings = refl;
-    marks = refl;
+    settings = settings_read settings marks after (map column_of after.columns) lows rollups count run;
+    marks = marks_read settings marks after (map column_of after.columns) lows rollups count run;
     running = running-built running 0 (length after.columns) passed;
     accepted = refl;
     series = same_series;

@@ -1,10 +1,10 @@
 -- The cells of a walk with their parts: those that a store shows of the rule.
-use Rattle.std.proofs.Common.{◌≡◌, ℕ, zero, suc, ℤ, pos, ◌<◌, ◌≤◌, ◌^◌, true, false, cond, List, [], ◌∷◌, length, map, filter, get_or, Option, Some, refl, sym, ◌∙◌, ap, ap₂, subst, inl, inr, arith}
+use Rattle.std.proofs.Common.{◌≡◌, ℕ, ℤ, pos, ◌<◌, ◌≤◌, ◌^◌, true, false, cond, List, [], ◌∷◌, length, map, filter, get_or, Option, Some, refl, sym, ◌∙◌, ap, ap₂, subst, inl, inr, arith}
 use Rattle.std.specs.FinMap as finmap
 use Rattle.std.specs.FinMap.{get-entries, entries_sorted}
 use Rattle.std.specs.List.{AllByRecursion}
 use Rattle.std.proofs.lemmas.List.{get_or_default}
-use Rattle.std.proofs.lemmas.Option.{none-some, same_Some, slice_get-get_or}
+use Rattle.std.proofs.lemmas.Option.{slice_get-get_or, get_or_from_slice_get}
 use Rattle.ts_core.specs.lists.Members.{Among}
 use Rattle.ts_core.specs.facts.Facts.{Fact, is_within}
 use Rattle.ts_core.specs.settings.Settings.{Rule, Settings}
@@ -13,8 +13,8 @@ use Rattle.ts_core.specs.aggregates.Aggregates.{Aggregate}
 use Rattle.ts_core.specs.aggregates.MergeLaws.{aggregate_laws}
 use Rattle.ts_core.specs.store.Cells.{Cell, is_in_cell}
 use Rattle.ts_core.specs.lists.Changes.{or_else}
-use Rattle.ts_core.specs.store.StoreStates.{ColumnPoints, CellParts, column_of, facts_of, RuleCells, rule_of}
-use Rattle.ts_core.specs.store.StoreData.{CellMap, StoreData, no_parts, rule_cells, rules_of, state_of, IsLive, AreLive}
+use Rattle.ts_core.specs.store.StoreStates.{ColumnPoints, CellParts, column_of, facts_of, RuleCells}
+use Rattle.ts_core.specs.store.StoreData.{CellMap, RuleData, no_parts, rule_cells, state_of, IsLive}
 use Rattle.ts_core.specs.store.Views.{view_state_of}
 use Rattle.ts_core.proofs.store.Cuts.{one_fact}
 use Rattle.ts_core.proofs.aggregates.Folds.{fold-count}
@@ -22,10 +22,11 @@ use Rattle.ts_core.proofs.lists.MembersLemmas.{Among-filter_was, at_map_of}
 use Rattle.ts_core.proofs.plans.PieceCells.{cells_total}
 use Rattle.ts_core.proofs.lists.Sorted.{found_among}
 use Rattle.ts_core.specs.lists.Numbered.{IsAt}
-use Rattle.ts_core.proofs.lists.BesideLemmas.{OfEach-at}
-use Rattle.ts_core.specs.lists.Beside.{OfEach}
+use Rattle.ts_core.proofs.lists.NumberedLemmas.{at_among}
+use Rattle.ts_core.proofs.lists.Permutations.{pick}
+use Rattle.ts_store.proofs.store.RuleListLemmas.{with_at}
 use Rattle.ts_cells.specs.Walks.{CellWithPart, entry_of, entries_within}
-use Rattle.ts_store.specs.store.CellCounts.{HoldsFew, HoldFew, frozen_count}
+use Rattle.ts_store.specs.store.CellCounts.{HoldsFew, frozen_count}
 use Rattle.ts_store.specs.store.ColumnStates.{StoreContent}
 use Rattle.ts_store.specs.retain.OpenRuns.{Run, data_of_parts}
 use Rattle.ts_store.specs.store.SoundStores.{IsSoundStore}
@@ -40,7 +41,7 @@ use Rattle.ts_store.proofs.rollup.RollupsGrow.{rollups-length}
 abbrev IsFound : CellMap → CellWithPart CellParts → Type 0
 IsFound m k = finmap.get m k.cell ≡ Some k.part
 
-parts_shown : (r : Rule) (low : ℤ) (m : CellMap) (k : CellWithPart CellParts) → IsFound m k → walked_cell k ≡ with_parts (rule_cells r low m).parts k.cell
+parts_shown : (r : Rule) (low : ℤ) (m : CellMap) (k : CellWithPart CellParts) → IsFound m k → walked_cell k ≡ with_parts (rule_cells (record { rule = r; low = low; cells = m })).parts k.cell
 parts_shown r low m k found =
     let parts : k.part ≡ or_else no_parts (finmap.get m k.cell) = sym (ap (or_else no_parts) found) in
     λ i. record { cell = k.cell; parts = parts i }
@@ -71,7 +72,7 @@ all_whole : (r : Rule) (columns : List ColumnPoints) (m : CellMap) → IsLive co
 all_whole r columns m live counts [] found = tt
 all_whole r columns m live counts (k ∷ ks) found = (cell_whole r columns m live counts k found.0, all_whole r columns m live counts ks found.1)
 
-all_shown : (r : Rule) (low : ℤ) (m : CellMap) (ks : List (CellWithPart CellParts)) → AllByRecursion (IsFound m) ks → walked_cells ks ≡ map (with_parts (rule_cells r low m).parts) (map (λ (e : Cell × CellParts). e.0) (map entry_of ks))
+all_shown : (r : Rule) (low : ℤ) (m : CellMap) (ks : List (CellWithPart CellParts)) → AllByRecursion (IsFound m) ks → walked_cells ks ≡ map (with_parts (rule_cells (record { rule = r; low = low; cells = m })).parts) (map (λ (e : Cell × CellParts). e.0) (map entry_of ks))
 all_shown r low m [] found = refl
 all_shown r low m (k ∷ ks) found = ap₂ (λ (x : SeenCell) (xs : List SeenCell). x ∷ xs) (parts_shown r low m k found.0) (all_shown r low m ks found.1)
 
@@ -86,72 +87,53 @@ keys_within a b (e ∷ es) =
     ]
 
 -- and they are those that are shown
-walk_shows : (r : Rule) (low : ℤ) (m : CellMap) (a b : ℤ) (ks : List (CellWithPart CellParts)) → map entry_of ks ≡ entries_within a b m → walked_cells ks ≡ cells_within (rule_cells r low m) a b
+walk_shows : (r : Rule) (low : ℤ) (m : CellMap) (a b : ℤ) (ks : List (CellWithPart CellParts)) → map entry_of ks ≡ entries_within a b m → walked_cells ks ≡ cells_within (rule_cells (record { rule = r; low = low; cells = m })) a b
 walk_shows r low m a b ks e =
-    let parts : Cell → CellParts = (rule_cells r low m).parts in
+    let parts : Cell → CellParts = (rule_cells (record { rule = r; low = low; cells = m })).parts in
     all_shown r low m ks (walk_found m a b ks e)
     ∙ ap (λ es. map (with_parts parts) (map (λ (x : Cell × CellParts). x.0) es)) e
     ∙ ap (map (with_parts parts)) (keys_within a b (finmap.entries m))
 
--- ---- the rule of a number
-
--- what holds of the cells of each rule, holds of those of one
-pub cells_at : (R : Rule → CellMap → Type 0) (rs : List Rule) (ss : List RollupState) (n : ℕ) (r : Rule) (s : RollupState) → OfEach R rs (cells_of ss) → IsAt rs n r → IsAt ss n s → R r s.grid.cells
-cells_at R rs ss n r s all at here = OfEach-at R rs (cells_of ss) n r s.grid.cells all at (at_map_of (λ (x : RollupState). x.grid.cells) ss n s here)
-
--- it is shown by its index
-shown_at : (rs : List Rule) (lows : List ℤ) (ss : List RollupState) (n : ℕ) (r : Rule) (s : RollupState) → IsAt rs n r → IsAt ss n s → length lows ≡ length rs
-    → (low : ℤ) × (get_or (rules_of rs lows (cells_of ss)) n no_rule ≡ rule_cells r low s.grid.cells)
-shown_at [] lows ss n r s at here l = absurd (none-some r at)
-shown_at (x ∷ rs) [] ss n r s at here l = absurd (omega (arith, l))
-shown_at (x ∷ rs) (low ∷ lows) [] n r s at here l = absurd (none-some s here)
-shown_at (x ∷ rs) (low ∷ lows) (y ∷ ss) zero r s at here l = (low, ap₂ (λ (q : Rule) (t : RollupState). rule_cells q low t.grid.cells) (same_Some x r at) (same_Some y s here))
-shown_at (x ∷ rs) (low ∷ lows) (y ∷ ss) (suc n) r s at here l = shown_at rs lows ss n r s at here (omega (arith, l))
-
--- ---- of a whole store
-
--- each rule is shown
-pub rules-length : (rs : List Rule) (lows : List ℤ) (ms : List CellMap) → length lows ≡ length rs → length ms ≡ length rs → length (rules_of rs lows ms) ≡ length rs
-rules-length [] lows ms e f = refl
-rules-length (r ∷ rs) [] ms e f = absurd (omega (arith, e))
-rules-length (r ∷ rs) (low ∷ lows) [] e f = absurd (omega (arith, f))
-rules-length (r ∷ rs) (low ∷ lows) (m ∷ ms) e f = ap suc (rules-length rs lows ms (omega (arith, e)) (omega (arith, f)))
-
-pub rules-shown : (rs : List Rule) (lows : List ℤ) (ms : List CellMap) → length lows ≡ length rs → length ms ≡ length rs → map rule_of (rules_of rs lows ms) ≡ rs
-rules-shown [] lows ms e f = refl
-rules-shown (r ∷ rs) [] ms e f = absurd (omega (arith, e))
-rules-shown (r ∷ rs) (low ∷ lows) [] e f = absurd (omega (arith, f))
-rules-shown (r ∷ rs) (low ∷ lows) (m ∷ ms) e f = ap (λ (xs : List Rule). r ∷ xs) (rules-shown rs lows ms (omega (arith, e)) (omega (arith, f)))
+-- ---- the rule of a number, of a whole store
 
 rule_few : (n m : ℕ) (columns : List ColumnPoints) (r : Rule) (cells : CellMap) → n ≤ m → HoldsFew n columns r cells → HoldsFew m columns r cells
 rule_few n m columns r cells more few = λ k. let f = few k in omega (arith, f, more)
 
--- the rule of a number, of a store between two calls
-pub store_ruled : (k : StoreData) (held : StoreContent) (run : Option Run) (n : ℕ) (r : Rule) → IsSoundStore k held run → k.columns ≡ held.columns → k.cells ≡ cells_of held.rollups → n < length k.settings.rules → r ≡ get_or k.settings.rules n r → IsRuled held r n
-store_ruled k held run n r kept columns cells there read =
-    let rs : List Rule = k.settings.rules in
-    let below : n < length held.rollups = let l = rollups-length rs (map column_of held.columns) held.rollups kept.rollups in omega (arith, l, there) in
-    let at : IsAt rs n r = slice_get-get_or rs n r there ∙ ap Some (sym read) in
-    let here : IsAt held.rollups n (rollup_at held.rollups n) = slice_get-get_or held.rollups n new_rollup below in
-    let counts : HoldFew k.accepted held.columns rs (cells_of held.rollups) = subst (λ ms. HoldFew k.accepted held.columns rs ms) cells (subst (λ cs. HoldFew k.accepted cs rs k.cells) columns kept.counts) in
-    let live : AreLive held.columns rs (cells_of held.rollups) = subst (λ ms. AreLive held.columns rs ms) cells (subst (λ cs. AreLive cs rs k.cells) columns kept.live) in
-    record {
-      there = below;
-      live = cells_at (IsLive held.columns) rs held.rollups n r (rollup_at held.rollups n) live at here;
-      few = rule_few k.accepted (2 ^ 62) held.columns r (rollup_at held.rollups n).grid.cells kept.sized.accepted
-          (cells_at (HoldsFew k.accepted held.columns) rs held.rollups n r (rollup_at held.rollups n) counts at here);
-    }
+module _ (settings : Settings) (marks : Marks) (accepted : ℕ) (held : StoreContent) (run : Option Run) (n : ℕ) (r : Rule) (kept : IsSoundStore settings marks accepted held run) (there : n < length settings.rules) (read : r ≡ get_or settings.rules n r) where
+  below : n < length held.rollups
+  below = let l = rollups-length settings.rules (map column_of held.columns) held.rollups kept.rollups in omega (arith, l, there)
 
--- its cells are shown
-pub store_shows : (settings : Settings) (marks : Marks) (accepted : ℕ) (held : StoreContent) (run : Option Run) (n : ℕ) (r : Rule) (a b : ℤ) → IsSoundStore (data_of_parts settings marks accepted held run) held run → n < length settings.rules → r ≡ get_or settings.rules n r
-    → cells_of_rule held r n a b ≡ view_cells_at (view_state_of (state_of (data_of_parts settings marks accepted held run))).rules n a b
-store_shows settings marks accepted held run n r a b kept there read =
-    let rs : List Rule = settings.rules in
-    let below : n < length held.rollups = let l = rollups-length rs (map column_of held.columns) held.rollups kept.rollups in omega (arith, l, there) in
-    let at : IsAt rs n r = slice_get-get_or rs n r there ∙ ap Some (sym read) in
-    let here : IsAt held.rollups n (rollup_at held.rollups n) = slice_get-get_or held.rollups n new_rollup below in
-    let shown = shown_at rs marks.lows held.rollups n r (rollup_at held.rollups n) at here kept.sized.lows in
-    sym (ap (λ (t : RuleCells). cells_within t a b) shown.1)
+  at : IsAt settings.rules n r
+  at = slice_get-get_or settings.rules n r there ∙ ap Some (sym read)
+
+  here : IsAt held.rollups n (rollup_at held.rollups n)
+  here = slice_get-get_or held.rollups n new_rollup below
+
+  -- the rule with its low index and its cells
+  abbrev pub its_data : RuleData
+  its_data = record { rule = r; low = get_or marks.lows n (pos 0); cells = (rollup_at held.rollups n).grid.cells }
+
+  pub data_at : IsAt (data_of_parts settings marks accepted held run).rules n its_data
+  data_at = with_at settings.rules marks.lows (cells_of held.rollups) n r (rollup_at held.rollups n).grid.cells kept.lows at (at_map_of (λ (x : RollupState). x.grid.cells) held.rollups n (rollup_at held.rollups n) here)
+
+  -- what holds of each rule, holds of it
+  pub its_part : (P : RuleData → Type 0) → AllByRecursion P (data_of_parts settings marks accepted held run).rules → P its_data
+  its_part P all = pick P its_data _ all (at_among _ n its_data data_at)
+
+  pub store_ruled : IsRuled held r n
+  store_ruled = record {
+    there = below;
+    live = its_part (λ (x : RuleData). IsLive held.columns x.rule x.cells) kept.live;
+    few = rule_few accepted (2 ^ 62) held.columns r (rollup_at held.rollups n).grid.cells kept.sized.accepted
+        (its_part (λ (x : RuleData). HoldsFew accepted held.columns x.rule x.cells) kept.counts);
+  }
+
+  -- its cells are shown
+  pub store_shows : (a b : ℤ) → cells_of_rule held r n a b ≡ view_cells_at (view_state_of (state_of (data_of_parts settings marks accepted held run))).rules n a b
+  store_shows a b =
+      let rules : List RuleData = (data_of_parts settings marks accepted held run).rules in
+      let shown : get_or (map rule_cells rules) n no_rule ≡ rule_cells its_data = get_or_from_slice_get (map rule_cells rules) n (rule_cells its_data) no_rule (at_map_of rule_cells rules n its_data data_at) in
+      sym (ap (λ (t : RuleCells). cells_within t a b) shown)
 
 -- ---- a walk over the cells of the rule of a number
 

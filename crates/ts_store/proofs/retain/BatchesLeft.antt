@@ -1,6 +1,6 @@
 -- The number of removal steps left: one less after cells below a low index were removed, and the same after points were
 -- frozen.
-use Rattle.std.proofs.Common.{◌≡◌, ℕ, zero, suc, ℤ, ◌+◌, ◌≤◌, ◌<ℤ◌, ◌≤ℤ◌, Bool, true, false, true≢false, cond, List, [], ◌∷◌, length, filter, refl, sym, ◌∙◌, ap, ap₂, subst, inl, inr, ⊎_elim, arith, None, Some, int_lt}
+use Rattle.std.proofs.Common.{◌≡◌, ℕ, zero, suc, ℤ, ◌+◌, ◌≤◌, ◌<ℤ◌, ◌≤ℤ◌, Bool, true, false, true≢false, cond, List, [], ◌∷◌, length, filter, map, refl, sym, ◌∙◌, ap, ap₂, subst, inl, inr, ⊎_elim, arith, None, Some, int_lt}
 use Rattle.std.specs.FinMap as finmap
 use Rattle.std.specs.FinMap.{get-remove}
 use Rattle.std.proofs.Math.Nat.{eq-or-lt_of_le}
@@ -10,18 +10,18 @@ use Rattle.ts_core.specs.store.Cells.{Cell, same_cell}
 use Rattle.ts_core.specs.lists.Changes.{or_else}
 use Rattle.std.proofs.lemmas.Option.{none-some}
 use Rattle.ts_core.specs.store.StoreStates.{ColumnPoints, CellParts}
-use Rattle.ts_core.specs.store.StoreData.{CellMap, no_parts, rules_of}
-use Rattle.ts_core.specs.moves.StoreMoves.{Expired, AreOf, IsOf}
-use Rattle.ts_core.specs.moves.Runs.{batches_of, batches_left}
+use Rattle.ts_core.specs.store.StoreData.{CellMap, RuleData, OfEachRule, no_parts, rule_cells}
+use Rattle.ts_core.specs.moves.StoreMoves.{KeepsFrom, Expired, AreOf, IsOf}
+use Rattle.ts_core.specs.moves.Runs.{batches_of, batches_left, expired_count}
 use Rattle.ts_core.proofs.aggregates.Folds.{length-same}
 use Rattle.ts_core.proofs.lists.MembersLemmas.{no_members, Among-filter_was, Among-filter_passes, Among-filter_stays, AllDistinct-filter}
 use Rattle.ts_core.proofs.moves.MovesStand.{keys_once, key_there, key_not}
 use Rattle.ts_core.proofs.plans.PieceCells.{cells_total, same_cell-eq, same_cell-refl}
 use Rattle.ts_core.proofs.lists.Comparisons.{lt_from, lt_true}
-use Rattle.ts_core.proofs.lists.BesideLemmas.{AllZip-same}
+use Rattle.ts_core.proofs.moves.EachRule.{rules_keep, each_same}
 use Rattle.std.proofs.lemmas.Int.{ints}
 use Rattle.ts_cells.specs.Expiry.{Removes, RemovesOne, IsAbove}
-use Rattle.ts_store.specs.store.CellCounts.{frozen_count, HoldFew}
+use Rattle.ts_store.specs.store.CellCounts.{frozen_count, HoldsFew, HoldFew}
 use Rattle.ts_store.specs.retain.WholeRuns.{AreAbove, LosesCells, FirstLoses}
 
 -- ---- cells below an index
@@ -76,15 +76,21 @@ turn_taken low m n l =
     let some = l.some in
     ⊎_elim {C = batches_of (below_count low m) ≡ batches_of (below_count low n) + 1} (λ e. omega (arith, e, fewer)) (λ h. let none : below_count low n ≡ 0 = none_below low n (l.below.all h) in omega (arith, h, fewer, none)) (eq-or-lt_of_le l.below.few)
 
-pub batches_left-loses : (rs : List Rule) (lows : List ℤ) (ms ns : List CellMap) → length ms ≡ length rs → FirstLoses lows ms ns → batches_left (rules_of rs lows ms) ≡ batches_left (rules_of rs lows ns) + 1
-batches_left-loses rs [] ms ns e l = absurd l
-batches_left-loses rs (low ∷ lows) [] ns e l = absurd l
-batches_left-loses rs (low ∷ lows) (m ∷ ms) [] e l = absurd l
-batches_left-loses [] (low ∷ lows) (m ∷ ms) (n ∷ ns) e l = absurd (omega arith)
-batches_left-loses (r ∷ rs) (low ∷ lows) (m ∷ ms) (n ∷ ns) e l =
-    ⊎_elim {C = batches_left (rules_of (r ∷ rs) (low ∷ lows) (m ∷ ms)) ≡ batches_left (rules_of (r ∷ rs) (low ∷ lows) (n ∷ ns)) + 1}
-    (λ p. let one = turn_taken low m n p.0 in let others : batches_left (rules_of rs lows ns) ≡ batches_left (rules_of rs lows ms) = ap (λ (xs : List CellMap). batches_left (rules_of rs lows xs)) p.1 in omega arith)
-    (λ p. let same : batches_of (below_count low n) ≡ batches_of (below_count low m) = ap (λ (x : CellMap). batches_of (below_count low x)) p.1 in let others = batches_left-loses rs lows ms ns (omega arith) p.2 in omega arith) l
+pub batches_left-loses : (rs ss : List RuleData) → FirstLoses rs ss → batches_left (map rule_cells rs) ≡ batches_left (map rule_cells ss) + 1
+batches_left-loses [] ss l = absurd l
+batches_left-loses (a ∷ rs) [] l = absurd l
+batches_left-loses (a ∷ rs) (b ∷ ss) l =
+    ⊎_elim {C = batches_left (map rule_cells (a ∷ rs)) ≡ batches_left (map rule_cells (b ∷ ss)) + 1}
+    (λ p.
+    let one = turn_taken a.low a.cells b.cells p.0.0 in
+    let same : expired_count (rule_cells b) ≡ below_count a.low b.cells = ap (λ (x : RuleData). expired_count (rule_cells x)) p.0.1 in
+    let first : batches_of (expired_count (rule_cells b)) ≡ batches_of (below_count a.low b.cells) = ap batches_of same in
+    let others : batches_left (map rule_cells ss) ≡ batches_left (map rule_cells rs) = ap (λ (xs : List RuleData). batches_left (map rule_cells xs)) p.1 in
+    omega (arith, one, first, others))
+    (λ p.
+    let same : batches_of (expired_count (rule_cells b)) ≡ batches_of (expired_count (rule_cells a)) = ap (λ (x : RuleData). batches_of (expired_count (rule_cells x))) p.1 in
+    let others = batches_left-loses rs ss p.2 in
+    omega (arith, same, others)) l
 
 -- ---- what is removed
 
@@ -97,19 +103,17 @@ removes_above low (suc n) m after r k l =
     let one : RemovesOne low r.0 after = r.2 in
     ap (λ (x : CellMap). finmap.get x k) one.3 ∙ get-remove cells_total r.0 one.0 k ∙ ap (λ b. cond b None (finmap.get r.0 k)) (apart low k one.0 l one.1) ∙ removes_above low n m r.0 r.1 k l
 
-expired-same : (lows : List ℤ) (ms : List CellMap) → Expired lows ms ms
-expired-same [] [] = tt
-expired-same (low ∷ lows) [] = tt
-expired-same [] (m ∷ ms) = tt
-expired-same (low ∷ lows) (m ∷ ms) = (λ k l. refl, expired-same lows ms)
+-- what holds of the cells of a rule that loses some, and of cells that stay, holds of each rule
+each_loses : (R : Rule → ℤ → CellMap → CellMap → Type 0) → ((r : Rule) (low : ℤ) (m : CellMap) → R r low m m) → ((r : Rule) (low : ℤ) (m n : CellMap) → LosesCells low m n → R r low m n) → (rs ss : List RuleData) → FirstLoses rs ss → OfEachRule R rs ss
+each_loses R same loses [] ss l = absurd l
+each_loses R same loses (a ∷ rs) [] l = absurd l
+each_loses R same loses (a ∷ rs) (b ∷ ss) l =
+    ⊎_elim {C = OfEachRule R (a ∷ rs) (b ∷ ss)}
+    (λ p. ((ap (λ (x : RuleData). x.rule) p.0.1, ap (λ (x : RuleData). x.low) p.0.1, loses a.rule a.low a.cells b.cells p.0.0), subst (OfEachRule R rs) (sym p.1) (each_same R same rs)))
+    (λ p. ((ap (λ (x : RuleData). x.rule) p.1, ap (λ (x : RuleData). x.low) p.1, subst (λ (x : RuleData). R a.rule a.low a.cells x.cells) (sym p.1) (same a.rule a.low a.cells)), each_loses R same loses rs ss p.2)) l
 
-pub expired-loses : (lows : List ℤ) (ms ns : List CellMap) → FirstLoses lows ms ns → Expired lows ms ns
-expired-loses [] ms ns l = absurd l
-expired-loses (low ∷ lows) [] ns l = absurd l
-expired-loses (low ∷ lows) (m ∷ ms) [] l = absurd l
-expired-loses (low ∷ lows) (m ∷ ms) (n ∷ ns) l =
-    ⊎_elim {C = Expired (low ∷ lows) (m ∷ ms) (n ∷ ns)} (λ p. (removes_above low p.0.count m n p.0.below.removed, subst (λ (xs : List CellMap). Expired lows ms xs) (sym p.1) (expired-same lows ms)))
-    (λ p. (λ k a. ap (λ (x : CellMap). finmap.get x k) p.1, expired-loses lows ms ns p.2)) l
+pub expired-loses : (rs ss : List RuleData) → FirstLoses rs ss → Expired rs ss
+expired-loses = each_loses (λ r. KeepsFrom) (λ r low m k l. refl) (λ r low m n l. removes_above low l.count m n l.below.removed)
 
 -- ---- cells hold no more after a removal
 
@@ -123,14 +127,13 @@ all_hold : (low : ℤ) (count : ℕ) (m after : CellMap) (k : Cell) → Removes 
 all_hold low zero m after k r = let e = ap (λ (x : CellMap). frozen_count x k) r in omega arith
 all_hold low (suc count) m after k r = let one = one_holds low r.0 after k r.2 in let rest = all_hold low count m r.0 k r.1 in omega arith
 
-pub counts-removed : (n : ℕ) (cs : List ColumnPoints) (rs : List Rule) (lows : List ℤ) (ms ns : List CellMap) → FirstLoses lows ms ns → HoldFew n cs rs ms → HoldFew n cs rs ns
-counts-removed n cs rs [] ms ns l few = absurd l
-counts-removed n cs rs (low ∷ lows) [] ns l few = absurd l
-counts-removed n cs rs (low ∷ lows) (m ∷ ms) [] l few = absurd l
-counts-removed n cs [] (low ∷ lows) (m ∷ ms) (x ∷ xs) l few = tt
-counts-removed n cs (r ∷ rs) (low ∷ lows) (m ∷ ms) (x ∷ xs) l few =
-    ⊎_elim {C = HoldFew n cs (r ∷ rs) (x ∷ xs)} (λ p. (λ k. let most = all_hold low p.0.count m x k p.0.below.removed in let all = few.0 k in omega arith, subst (λ (ys : List CellMap). HoldFew n cs rs ys) (sym p.1) few.1))
-    (λ p. (λ k. let same : frozen_count x k ≡ frozen_count m k = ap (λ (y : CellMap). frozen_count y k) p.1 in let all = few.0 k in omega arith, counts-removed n cs rs lows ms xs p.2 few.1)) l
+abbrev HoldsNoMore : Rule → ℤ → CellMap → CellMap → Type 0
+HoldsNoMore r low m o = (k : Cell) → frozen_count o k ≤ frozen_count m k
+
+pub counts-removed : (n : ℕ) (cs : List ColumnPoints) (rs ss : List RuleData) → FirstLoses rs ss → HoldFew n cs rs → HoldFew n cs ss
+counts-removed n cs rs ss l few =
+    rules_keep HoldsNoMore (λ (a : RuleData). HoldsFew n cs a.rule a.cells) (λ (a : RuleData). HoldsFew n cs a.rule a.cells) (λ a m fewer all k. let most = fewer k in let max = all k in omega (arith, most, max)) rs ss
+    (each_loses HoldsNoMore (λ r low m k. let most : frozen_count m k ≤ frozen_count m k = omega arith in most) (λ r low m o loses k. all_hold low loses.count m o k loses.below.removed) rs ss l) few
 
 -- ---- cells that go, and none that comes
 
@@ -146,18 +149,11 @@ pub of-all : (low : ℤ) (count : ℕ) (m after : CellMap) → Removes low count
 of-all low zero m after r k p e = ap (λ (x : CellMap). finmap.get x k) (sym r) ∙ e
 of-all low (suc count) m after r k p e = of-all low count m r.0 r.1 k p (of-one low r.0 after r.2 k p e)
 
-pub of-loses : (lows : List ℤ) (ms ns : List CellMap) → FirstLoses lows ms ns → AreOf ms ns
-of-loses [] ms ns l = absurd l
-of-loses (low ∷ lows) [] ns l = absurd l
-of-loses (low ∷ lows) (m ∷ ms) [] l = absurd l
-of-loses (low ∷ lows) (m ∷ ms) (n ∷ ns) l =
-    ⊎_elim {C = AreOf (m ∷ ms) (n ∷ ns)} (λ q. (of-all low q.0.count m n q.0.below.removed, subst (AreOf ms) (sym q.1) (AllZip-same IsOf (λ m k p e. e) ms)))
-    (λ q. (λ k p e. ap (λ (x : CellMap). finmap.get x k) (sym q.1) ∙ e, of-loses lows ms ns q.2)) l
+pub of-loses : (rs ss : List RuleData) → FirstLoses rs ss → AreOf rs ss
+of-loses = each_loses (λ r low. IsOf) (λ r low m k p e. e) (λ r low m n l. of-all low l.count m n l.below.removed)
 
 -- ---- no batch is left where no rule has cells below its low index
 
-pub batches_left-above : (rs : List Rule) (lows : List ℤ) (ms : List CellMap) → AreAbove lows ms → batches_left (rules_of rs lows ms) ≡ 0
-batches_left-above [] lows ms a = refl
-batches_left-above (r ∷ rs) [] ms a = refl
-batches_left-above (r ∷ rs) (low ∷ lows) [] a = refl
-batches_left-above (r ∷ rs) (low ∷ lows) (m ∷ ms) a = ap₂ (λ x y. batches_of x + y) (none_below low m a.0) (batches_left-above rs lows ms a.1)
+pub batches_left-above : (rs : List RuleData) → AreAbove rs → batches_left (map rule_cells rs) ≡ 0
+batches_left-above [] a = refl
+batches_left-above (x ∷ rs) a = ap₂ (λ m n. batches_of m + n) (none_below x.low x.cells a.0) (batches_left-above rs a.1)

@@ -8,13 +8,15 @@ use Rattle.ts_core.specs.aggregates.Aggregates.{Aggregate, aggregate_of_one, mer
 use Rattle.ts_core.specs.store.Cells.{Cell, same_cell, cell_of, is_in_cell}
 use Rattle.ts_core.specs.lists.Changes.{changed}
 use Rattle.ts_core.specs.store.StoreStates.{ColumnPoints, column_of, fact_at, facts_at, facts_of}
-use Rattle.ts_core.specs.store.StoreData.{CellMap}
-use Rattle.ts_core.specs.moves.StoreMoves.{frozen_points, refolded_points, moved_cells, all_moved, points_below, kept_points}
+use Rattle.ts_core.specs.store.StoreData.{CellMap, RuleData}
+use Rattle.ts_core.specs.moves.StoreMoves.{in_cells, frozen_points, refolded_points, moved_cells, all_moved, points_below, kept_points}
 use Rattle.ts_core.specs.store.TwoParts.{in_frozen}
 use Rattle.ts_core.proofs.moves.Freezing.{gone_held, refolded_frozen}
 use Rattle.ts_core.proofs.store.Moves.{is_left}
 use Rattle.ts_core.proofs.store.RunSteps.{facts_of-left}
-use Rattle.ts_core.proofs.lists.BesideLemmas.{OfEach-weaker, OfEach-beside}
+use Rattle.ts_core.proofs.lists.BesideLemmas.{OfEach-weaker}
+use Rattle.ts_core.proofs.store.StateLemmas.{all_map}
+use Rattle.ts_core.specs.lists.Beside.{OfEach}
 use Rattle.ts_store.specs.store.CellCounts.{frozen_count, live_count, HoldFew, HoldsFew}
 use Rattle.ts_store.specs.retain.RollupSteps.{points_in_cell, FreezeFit, FreezesFit}
 use Rattle.ts_store.proofs.retain.PointsFrozen.{frozen_most, first_in}
@@ -75,16 +77,16 @@ live_moved r k mark s cs once there =
 -- ---- under each rule
 
 module _ (n : ℕ) (mark : ℤ) (s : ColumnPoints) (cs : List ColumnPoints) (once : AllDistinct (map column_of cs)) (there : Among s cs) where
-  pub counts-fit : n ≤ 2 ^ 62 → (rs : List Rule) (ms : List CellMap) → HoldFew n cs rs ms → FreezeFit rs s.column (points_below mark s.points) ms
+  pub counts-fit : n ≤ 2 ^ 62 → (rs : List Rule) (ms : List CellMap) → OfEach (HoldsFew n cs) rs ms → FreezeFit rs s.column (points_below mark s.points) ms
   counts-fit most rs ms few =
       OfEach-weaker (HoldsFew n cs) (λ (r : Rule). FreezesFit r s.column (points_below mark s.points)) (λ r m all k. let moved = live_moved r k mark s cs once there in let count = all k in omega arith) rs ms few
 
-  pub counts-moved : (rs : List Rule) (ms : List CellMap) → HoldFew n cs rs ms → HoldFew n (map (kept_points s.column mark) cs) rs (all_moved rs s.column (points_below mark s.points) (facts_of (map (kept_points s.column mark) cs)) ms)
-  counts-moved rs ms few =
+  pub counts-moved : (rs : List RuleData) → HoldFew n cs rs → HoldFew n (map (kept_points s.column mark) cs) (all_moved s.column (points_below mark s.points) (facts_of (map (kept_points s.column mark) cs)) rs)
+  counts-moved =
       let left : List Fact = facts_of (map (kept_points s.column mark) cs) in
-      OfEach-beside (HoldsFew n cs) (HoldsFew n (map (kept_points s.column mark) cs)) (λ (r : Rule). moved_cells r s.column (points_below mark s.points) left)
-      (λ r m all k.
-      let moved = live_moved r k mark s cs once there in
-      let frozen = column_most r s.column (points_below mark s.points) left m k in
+      all_map (λ (x : RuleData). HoldsFew n cs x.rule x.cells) (λ (x : RuleData). HoldsFew n (map (kept_points s.column mark) cs) x.rule x.cells) (in_cells (λ (r : Rule). moved_cells r s.column (points_below mark s.points) left))
+      (λ x all k.
+      let moved = live_moved x.rule k mark s cs once there in
+      let frozen = column_most x.rule s.column (points_below mark s.points) left x.cells k in
       let count = all k in
-      omega arith) rs ms few
+      omega arith)

@@ -14,8 +14,9 @@ use Rattle.ts_core.specs.facts.Facts.{Column, Fact}
 use Rattle.ts_core.specs.settings.Settings.{Rule}
 use Rattle.ts_core.specs.store.RawFacts.{same_column}
 use Rattle.ts_core.specs.store.StoreStates.{ColumnPoints, column_of}
-use Rattle.ts_core.specs.store.StoreData.{CellMap, AreLive}
-use Rattle.ts_core.specs.moves.StoreMoves.{frozen_points, refolded_points, moved_cells, all_moved, points_below, kept_points}
+use Rattle.ts_core.specs.store.StoreData.{CellMap, IsLive}
+use Rattle.ts_core.specs.lists.Beside.{OfEach}
+use Rattle.ts_core.specs.moves.StoreMoves.{frozen_points, refolded_points, moved_cells, points_below, kept_points}
 use Rattle.ts_core.proofs.store.StateLemmas.{same_column-refl, same_column-eq}
 use Rattle.ts_raw.specs.Columns.{PointMap, ColumnState, points_from}
 use Rattle.ts_raw.specs.Indexed.{Indexed}
@@ -23,7 +24,7 @@ use Rattle.ts_core.proofs.lists.NumberedLemmas.{at_among}
 use Rattle.ts_store.specs.store.ColumnStates.{point_maps, with_points, columns_in, no_column, content_of, IsSoundContent}
 use Rattle.ts_store.specs.read.PointsRead.{number_of_points}
 use Rattle.ts_store.specs.rollup.Rollups.{RollupState, IsRollupSeriesOf, AreRollups, rollup_series_at, with_grid_cells, cells_of}
-use Rattle.ts_store.specs.retain.RollupSteps.{with_all_grid_cells, FreezeFit, facts_left, content_moved}
+use Rattle.ts_store.specs.retain.RollupSteps.{with_all_grid_cells, cells_moved, FreezeFit, facts_left, content_moved}
 use Rattle.ts_store.specs.retain.PointMoves.{MovesPoints}
 use Rattle.ts_store.proofs.store.ColumnsLemmas.{names_held}
 use Rattle.ts_store.proofs.write.StagedColumns.{points_at}
@@ -121,7 +122,7 @@ with_points-at (c ∷ cs) (m ∷ ms) zero s e = let is = same_Some (record { col
 with_points-at (c ∷ cs) (m ∷ ms) (suc n) s e = with_points-at cs ms n s e
 
 pub held_moves : (index : Indexed) (ss : List ColumnState) (us vs : List RollupState) (rs : List Rule) (mark : ℤ) (n : ℕ) (x y : ColumnState) → IsSoundContent index ss → n < length ss → x ≡ get_or ss n x → y.points ≡ points_from x.points mark
-    → AreRollups rs (map column_of (columns_in index ss)) us → AreLive (columns_in index ss) rs (cells_of us)
+    → AreRollups rs (map column_of (columns_in index ss)) us → OfEach (IsLive (columns_in index ss)) rs (cells_of us)
     → MovesPoints rs ss n mark us vs
     → (s : ColumnPoints) → slice_get (columns_in index ss) n ≡ Some s → FreezeFit rs s.column (points_below mark s.points) (cells_of us) → content_of index (set ss n y) vs ≡ content_moved rs s mark (content_of index ss us)
 held_moves index ss us vs rs mark n x y held within is left a live moved s at fit =
@@ -136,11 +137,11 @@ held_moves index ss us vs rs mark n x y held within is left a live moved s at fi
     map-set (λ (t : ColumnState). t.points) ss n y ∙ ap (set ms n) (left ∙ ap (λ (m : PointMap). points_from m mark) (sym its)) in
     let columns : columns_in index (set ss n y) ≡ map (kept_points s.column mark) (columns_in index ss) = ap (with_points cs) rest ∙ columns_left s.column mark cs ms n held.sound.columns_once each index_is.0 in
     let have : AreRollups rs cs us = subst (λ (names : List Column). AreRollups rs names us) (names_held index ss held.each) a in
-    let rollups : vs ≡ with_all_grid_cells (all_moved rs s.column (points_below mark s.points) (facts_left mark s.column cs ss) (cells_of us)) us =
+    let rollups : vs ≡ with_all_grid_cells (cells_moved rs s.column (points_below mark s.points) (facts_left mark s.column cs ss) (cells_of us)) us =
     moved cs s.column (record {
       over = record { each = held.each; once = held.sound.columns_once; rollups = have; live = live };
       at = index_is.0;
       fit = subst (λ (ps : List (ℤ × ℤ)). FreezeFit rs s.column (points_below mark ps) (cells_of us)) points fit;
     })
-    ∙ ap (λ (ps : List (ℤ × ℤ)). with_all_grid_cells (all_moved rs s.column (points_below mark ps) (facts_left mark s.column cs ss) (cells_of us)) us) (sym points) in
+    ∙ ap (λ (ps : List (ℤ × ℤ)). with_all_grid_cells (cells_moved rs s.column (points_below mark ps) (facts_left mark s.column cs ss) (cells_of us)) us) (sym points) in
     λ i. record { series = index.series; columns = columns i; rollups = rollups i }

@@ -1,6 +1,7 @@
 -- A begin and the steps of a run, on a store's content: it still represents its history, and has its invariant.
-use Rattle.std.proofs.Common.{◌≡◌, ◌⊎◌, ℕ, ℤ, ◌+◌, ◌≤◌, ◌^◌, true, false, true≢false, List, [], ◌∷◌, length, map, refl, sym, ◌∙◌, ap, ap₂, subst, inl, inr, arith, Option, Some, None, cond, filter, int_le, get_or}
+use Rattle.std.proofs.Common.{◌≡◌, ◌⊎◌, ℕ, ℤ, ◌+◌, ◌≤◌, ◌^◌, true, false, true≢false, List, [], ◌∷◌, length, map, refl, sym, ◌∙◌, ap, ap₂, subst, inl, inr, ⊎_elim, arith, Option, Some, None, cond, filter, int_le, get_or}
 use Rattle.std.specs.Int.{int_max}
+use Rattle.std.specs.List.{AllByRecursion}
 use Rattle.std.proofs.lemmas.List.{length-map, append-nil}
 use Rattle.std.proofs.lemmas.Option.{slice_get-get_or}
 use Rattle.ts_core.specs.facts.Facts.{Column, Fact}
@@ -9,17 +10,19 @@ use Rattle.ts_core.specs.store.Marks.{Marks}
 use Rattle.ts_core.specs.store.History.{Step, kept_since}
 use Rattle.ts_core.specs.store.RawFacts.{same_column}
 use Rattle.ts_core.specs.store.StoreStates.{ColumnPoints, StandsFor, column_of, facts_of}
-use Rattle.ts_core.specs.store.StoreData.{CellMap, StoreData, rules_of, state_of, AreLive, GoesOn}
+use Rattle.ts_core.specs.store.StoreData.{CellMap, RuleData, StoreData, store_settings, store_marks, state_of, IsLive, AreLive, GoesOn}
 use Rattle.ts_core.proofs.moves.LivesKept.{lives_go, lives_left}
-use Rattle.ts_core.specs.moves.StoreMoves.{all_moved, points_below, kept_points, column_moved, raised, run_begun, with_cells, run_ended, moved_cells}
-use Rattle.ts_core.specs.moves.Runs.{batches_left, steps_left}
-use Rattle.ts_core.proofs.moves.StepStands.{step_stands, keys_column}
+use Rattle.ts_core.specs.moves.StoreMoves.{all_moved, points_below, kept_points, column_moved, raised_low, raised, raised_rule, run_begun, KeepsFrom, with_rules, run_ended, moved_cells}
+use Rattle.ts_core.specs.moves.Runs.{steps_left}
+use Rattle.ts_core.proofs.moves.StepStands.{step_stands}
+use Rattle.ts_core.proofs.moves.EachRule.{AnyCells, settings_same, marks_same, each_in}
+use Rattle.ts_core.proofs.store.StateLemmas.{all_map}
 use Rattle.ts_core.proofs.moves.MovesStand.{cells_go, run_ends}
 use Rattle.ts_core.specs.lists.Numbered.{IsAt}
 use Rattle.ts_core.proofs.lists.NumberedLemmas.{at_among}
-use Rattle.ts_core.proofs.moves.LeftOnData.{turns_beside}
+use Rattle.ts_core.proofs.moves.LeftOnData.{left-moves}
 use Rattle.ts_core.proofs.lists.BesideLemmas.{length-beside}
-use Rattle.ts_store.specs.store.CellCounts.{HoldFew}
+use Rattle.ts_store.specs.store.CellCounts.{HoldsFew, HoldFew}
 use Rattle.ts_store.specs.store.ColumnStates.{StoreContent}
 use Rattle.std.specs.Option.{is_some}
 use Rattle.ts_store.specs.retain.OpenRuns.{Run, run_over, waiting_in, IsWithin, TakesFirst, data_of_parts}
@@ -28,14 +31,17 @@ use Rattle.ts_store.proofs.retain.WaitingColumns.{same_waiting, within_more, all
 use Rattle.ts_store.specs.rollup.Rollups.{RollupState, AreRollups, cells_of}
 use Rattle.ts_store.specs.read.ViewResults.{no_points}
 use Rattle.ts_store.specs.store.SizedStores.{IsSized}
-use Rattle.ts_store.specs.store.PossibleCells.{HavePossibleCells}
-use Rattle.ts_store.specs.retain.RollupSteps.{content_with_cells, FreezeFit, content_moved}
+use Rattle.ts_store.specs.store.PossibleCells.{HasPossibleCells, HavePossibleCells}
+use Rattle.ts_store.specs.store.RuleLists.{rules_with}
+use Rattle.ts_store.specs.retain.RollupSteps.{content_with_cells, cells_moved, FreezeFit, content_moved}
 use Rattle.ts_store.proofs.retain.CountsMoved.{counts-fit, counts-moved}
 use Rattle.ts_store.proofs.retain.RollupMoves.{cells_with, rollups_with}
-use Rattle.ts_store.proofs.rollup.RollupsGrow.{rollups-length}
+use Rattle.ts_store.proofs.store.RuleListLemmas.{with_changed, with_raised, with_first, each_with}
 use Rattle.ts_store.proofs.store.PossibleCellsKept.{possible_moved, possible_gone}
 use Rattle.ts_store.proofs.store.SizesKept.{sized_begun, sized_moved, sized_gone, sized_ended}
-use Rattle.ts_store.specs.retain.WholeRuns.{AreAbove, FirstLoses, MovesFirst, RemovesCells}
+use Rattle.ts_store.specs.retain.WholeRuns.{AreAbove, LosesCells, FirstLoses, MovesFirst, RemovesCells}
+use Rattle.ts_store.specs.rollup.ChangedLists.{FirstChanges}
+use Rattle.ts_cells.specs.Expiry.{IsAbove}
 use Rattle.ts_store.proofs.retain.BatchesLeft.{batches_left-loses, of-loses, expired-loses, counts-removed, batches_left-above}
 
 -- ---- a column keeps its name
@@ -49,19 +55,20 @@ kept-names c mark (s ∷ cs) =
 
 module _ (settings : Settings) (marks : Marks) (n : ℕ) where
   -- no count overflows
-  pub few_accepted : (held : StoreContent) (run : Option Run) → IsSoundStore (data_of_parts settings marks n held run) held run → n ≤ 2 ^ 62
+  pub few_accepted : (held : StoreContent) (run : Option Run) → IsSoundStore settings marks n held run → n ≤ 2 ^ 62
   few_accepted held run k = k.sized.accepted
 
-  pub few_facts : (held : StoreContent) (run : Option Run) → IsSoundStore (data_of_parts settings marks n held run) held run → length (facts_of held.columns) ≤ 2 ^ 62
+  pub few_facts : (held : StoreContent) (run : Option Run) → IsSoundStore settings marks n held run → length (facts_of held.columns) ≤ 2 ^ 62
   few_facts held run k = let facts = k.sized.facts in let few = k.sized.accepted in omega (arith, facts, few)
 
-  pub kept-fits : (held : StoreContent) (run : Option Run) (next : ℕ) (s : ColumnPoints) → IsSoundStore (data_of_parts settings marks n held run) held run → IsAt held.columns next s → FreezeFit settings.rules s.column (points_below marks.raw s.points) (cells_of held.rollups)
-  kept-fits held run next s k at = counts-fit n marks.raw s held.columns k.sized.columns (at_among held.columns next s at) (few_accepted held run k) settings.rules (cells_of held.rollups) k.counts
+  pub kept-fits : (held : StoreContent) (run : Option Run) (next : ℕ) (s : ColumnPoints) → IsSoundStore settings marks n held run → IsAt held.columns next s → FreezeFit settings.rules s.column (points_below marks.raw s.points) (cells_of held.rollups)
+  kept-fits held run next s k at = counts-fit n marks.raw s held.columns k.sized.columns (at_among held.columns next s at) (few_accepted held run k) settings.rules (cells_of held.rollups)
+      (each_with (HoldsFew n held.columns) settings.rules marks.lows (cells_of held.rollups) k.lows k.counts)
 
   -- ---- a column is moved
 
   module _ (held : StoreContent) (run left : Run) (number : ℕ) (s : ColumnPoints) (first : waiting_in (Some run) held.columns ≡ s.column ∷ waiting_in (Some left) held.columns) (within : IsWithin (Some left) held.columns) (at : IsAt held.columns number s)
-      (kept : IsSoundStore (data_of_parts settings marks n held (Some run)) held (Some run)) where
+      (kept : IsSoundStore settings marks n held (Some run)) where
     abbrev before : StoreData
     before = data_of_parts settings marks n held (Some run)
 
@@ -78,23 +85,32 @@ module _ (settings : Settings) (marks : Marks) (n : ℕ) where
     unfolding rest
     waits = first
 
-    cells : cells_of after.rollups ≡ all_moved settings.rules s.column (points_below marks.raw s.points) (facts_of (map (kept_points s.column marks.raw) held.columns)) (cells_of held.rollups)
-    cells = cells_with (all_moved settings.rules s.column (points_below marks.raw s.points) (facts_of (map (kept_points s.column marks.raw) held.columns)) (cells_of held.rollups)) held.rollups
-        (length-beside (λ (r : Rule). moved_cells r s.column (points_below marks.raw s.points) (facts_of (map (kept_points s.column marks.raw) held.columns))) settings.rules (cells_of held.rollups) ∙ length-map held.rollups (λ (u : RollupState). u.grid.cells))
+    abbrev left_facts : List Fact
+    left_facts = facts_of (map (kept_points s.column marks.raw) held.columns)
+
+    abbrev below : List (ℤ × ℤ)
+    below = points_below marks.raw s.points
+
+    cells : cells_of after.rollups ≡ cells_moved settings.rules s.column below left_facts (cells_of held.rollups)
+    cells = cells_with (cells_moved settings.rules s.column below left_facts (cells_of held.rollups)) held.rollups
+        (length-beside (λ (r : Rule). moved_cells r s.column below left_facts) settings.rules (cells_of held.rollups) ∙ length-map held.rollups (λ (u : RollupState). u.grid.cells))
+
+    its_rules : all_moved s.column below left_facts before.rules ≡ moved.rules
+    its_rules = with_changed (λ (r : Rule). moved_cells r s.column below left_facts) settings.rules marks.lows (cells_of held.rollups) ∙ ap (rules_with settings.rules marks.lows) (sym cells)
 
     is_moved : column_moved s.column s.points rest before ≡ moved
     unfolding rest
     is_moved =
         let others : rest ≡ waiting_in (Some left) after.columns = same_waiting (Some left) held.columns after.columns (sym (kept-names s.column marks.raw held.columns)) in
         λ i. record {
-          settings = settings;
-          marks = marks;
+          raw_duration = settings.raw_duration;
+          raw_mark = marks.raw;
+          rules = its_rules i;
           running = true;
           waiting = others i;
           series = held.series;
           columns = map (kept_points s.column marks.raw) held.columns;
           accepted = n;
-          cells = sym cells i;
         }
 
     pub moves-first : MovesFirst before moved
@@ -106,90 +122,80 @@ module _ (settings : Settings) (marks : Marks) (n : ℕ) where
         subst (λ (k : StoreData). StandsFor opening (Step false ∷ h) (state_of k)) is_moved (step_stands opening h before s.column s.points rest st waits (at_among held.columns number s at))
 
     pub moved-steps : steps_left (state_of before) ≡ steps_left (state_of moved) + 1
-    moved-steps =
-        let one : length before.waiting ≡ length rest + 1 = ap (λ (ws : List Column). length ws) waits ∙ (let m : length (s.column ∷ rest) ≡ length rest + 1 = omega arith in m) in
-        let others : length moved.waiting ≡ length rest = ap (λ (k : StoreData). length k.waiting) (sym is_moved) in
-        let facts : List Fact = facts_of (map (kept_points s.column marks.raw) held.columns) in
-        let batches : batches_left (rules_of settings.rules marks.lows moved.cells) ≡ batches_left (rules_of settings.rules marks.lows (cells_of held.rollups)) =
-        ap (λ (ms : List CellMap). batches_left (rules_of settings.rules marks.lows ms)) cells
-        ∙ turns_beside (λ (r : Rule). moved_cells r s.column (points_below marks.raw s.points) facts) (λ r. keys_column r s.column (points_below marks.raw s.points) facts) settings.rules marks.lows (cells_of held.rollups) in
-        omega arith
+    unfolding rest
+    moved-steps = left-moves before s.column s.points rest refl waits ∙ ap (λ (k : StoreData). steps_left (state_of k) + 1) is_moved
 
-    pub moved-kept : IsSoundStore moved after (Some left)
+    pub moved-kept : IsSoundStore settings marks n after (Some left)
     moved-kept = record {
       rollups = subst (λ (cs : List Column). AreRollups settings.rules cs after.rollups) (sym (kept-names s.column marks.raw held.columns))
-          (rollups_with settings.rules (map column_of held.columns) (all_moved settings.rules s.column (points_below marks.raw s.points) (facts_of (map (kept_points s.column marks.raw) held.columns)) (cells_of held.rollups)) held.rollups kept.rollups);
+          (rollups_with settings.rules (map column_of held.columns) (cells_moved settings.rules s.column below left_facts (cells_of held.rollups)) held.rollups kept.rollups);
+      lows = kept.lows;
       few = within_more (Some left) held.columns after.columns [] (kept-names s.column marks.raw held.columns ∙ sym (append-nil (map column_of held.columns))) within;
-      counts = subst (λ (ms : List CellMap). HoldFew n after.columns settings.rules ms) (sym cells)
-          (counts-moved n marks.raw s held.columns kept.sized.columns (at_among held.columns number s at) settings.rules (cells_of held.rollups) kept.counts);
-      live = subst (λ (ms : List CellMap). AreLive after.columns settings.rules ms) (sym cells)
-          (lives_left s.column marks.raw held.columns s.points kept.sized.columns (at_among held.columns number s at) settings.rules (cells_of held.rollups) kept.live);
-      possible = subst (λ (ms : List CellMap). HavePossibleCells settings.rules ms) (sym cells)
-          (possible_moved s.column (points_below marks.raw s.points) (facts_of (map (kept_points s.column marks.raw) held.columns)) settings.rules (cells_of held.rollups) kept.possible);
+      counts = subst (HoldFew n after.columns) its_rules (counts-moved n marks.raw s held.columns kept.sized.columns (at_among held.columns number s at) before.rules kept.counts);
+      live = subst (AreLive after.columns) its_rules (lives_left s.column marks.raw held.columns s.points kept.sized.columns (at_among held.columns number s at) before.rules kept.live);
+      possible = subst HavePossibleCells its_rules (possible_moved s.column below left_facts before.rules kept.possible);
       sized = subst IsSized is_moved (sized_moved before s.column s.points rest kept.sized);
     }
 
   -- ---- cells are removed
 
-  module _ (held left : StoreContent) (run : Run) (is : left ≡ content_with_cells (cells_of left.rollups) held) (loses : FirstLoses marks.lows (cells_of held.rollups) (cells_of left.rollups)) (kept : IsSoundStore (data_of_parts settings marks n held (Some run)) held (Some run)) where
+  module _ (held left : StoreContent) (run : Run) (is : left ≡ content_with_cells (cells_of left.rollups) held) (loses : FirstChanges IsAbove LosesCells marks.lows (cells_of held.rollups) (cells_of left.rollups)) (kept : IsSoundStore settings marks n held (Some run)) where
     abbrev full : StoreData
     full = data_of_parts settings marks n held (Some run)
 
-    is_removed : with_cells (cells_of left.rollups) full ≡ data_of_parts settings marks n left (Some run)
+    abbrev less : StoreData
+    less = data_of_parts settings marks n left (Some run)
+
+    first_loses : FirstLoses full.rules less.rules
+    first_loses = with_first settings.rules marks.lows (cells_of held.rollups) (cells_of left.rollups) kept.lows loses
+
+    is_removed : with_rules less.rules full ≡ less
     is_removed = λ i.
         let h : StoreContent = sym is i in
-        record { settings = settings; marks = marks; running = true; waiting = waiting_in (Some run) h.columns; series = h.series; columns = h.columns; accepted = n; cells = cells_of left.rollups }
+        record { raw_duration = settings.raw_duration; raw_mark = marks.raw; rules = less.rules; running = true; waiting = waiting_in (Some run) h.columns; series = h.series; columns = h.columns; accepted = n }
 
-    pub removes-cells : waiting_in (Some run) held.columns ≡ [] → RemovesCells full (data_of_parts settings marks n left (Some run))
-    removes-cells none = record { waits = none; loses = loses; others = sym is_removed }
+    pub removes-cells : waiting_in (Some run) held.columns ≡ [] → RemovesCells full less
+    removes-cells none = record { waits = none; loses = first_loses; others = sym is_removed }
 
-    pub removed-stands : GoesOn full (Step false) (data_of_parts settings marks n left (Some run))
+    pub removed-stands : GoesOn full (Step false) less
     removed-stands = λ opening h st.
-        subst (λ (k : StoreData). StandsFor opening (Step false ∷ h) (state_of k)) is_removed (cells_go opening h full (cells_of left.rollups) st (expired-loses marks.lows (cells_of held.rollups) (cells_of left.rollups) loses))
+        subst (λ (k : StoreData). StandsFor opening (Step false ∷ h) (state_of k)) is_removed (cells_go opening h full less.rules st (expired-loses full.rules less.rules first_loses))
 
-    pub removed-steps : steps_left (state_of full) ≡ steps_left (state_of (data_of_parts settings marks n left (Some run))) + 1
+    pub removed-steps : steps_left (state_of full) ≡ steps_left (state_of less) + 1
     removed-steps =
-        let many : length (cells_of held.rollups) ≡ length settings.rules = length-map held.rollups (λ (u : RollupState). u.grid.cells) ∙ rollups-length settings.rules (map column_of held.columns) held.rollups kept.rollups in
-        let batches = batches_left-loses settings.rules marks.lows (cells_of held.rollups) (cells_of left.rollups) many loses in
+        let batches = batches_left-loses full.rules less.rules first_loses in
         let same = ap (λ (k : StoreData). steps_left (state_of k)) is_removed in
         omega arith
 
-    pub removed-kept : IsSoundStore (data_of_parts settings marks n left (Some run)) left (Some run)
+    pub removed-kept : IsSoundStore settings marks n left (Some run)
     removed-kept =
         let columns : left.columns ≡ held.columns = ap (λ (h : StoreContent). h.columns) is in
         record {
           rollups = subst (λ (h : StoreContent). AreRollups settings.rules (map column_of h.columns) h.rollups) (sym is) (rollups_with settings.rules (map column_of held.columns) (cells_of left.rollups) held.rollups kept.rollups);
+          lows = kept.lows;
           few = (kept.few.0, subst (λ (cs : List ColumnPoints). run.end ≤ length cs) (sym columns) kept.few.1);
-          counts = subst (λ (cs : List ColumnPoints). HoldFew n cs settings.rules (cells_of left.rollups)) (sym columns) (counts-removed n held.columns settings.rules marks.lows (cells_of held.rollups) (cells_of left.rollups) loses kept.counts);
-          live = subst (λ (cs : List ColumnPoints). AreLive cs settings.rules (cells_of left.rollups)) (sym columns) (lives_go held.columns settings.rules (cells_of held.rollups) (cells_of left.rollups) (of-loses marks.lows (cells_of held.rollups) (cells_of left.rollups) loses) kept.live);
-          possible = possible_gone settings.rules (cells_of held.rollups) (cells_of left.rollups) (of-loses marks.lows (cells_of held.rollups) (cells_of left.rollups) loses) kept.possible;
-          sized = subst IsSized is_removed (sized_gone full (cells_of left.rollups) (expired-loses marks.lows (cells_of held.rollups) (cells_of left.rollups) loses) kept.sized);
+          counts = subst (λ (cs : List ColumnPoints). HoldFew n cs less.rules) (sym columns) (counts-removed n held.columns full.rules less.rules first_loses kept.counts);
+          live = subst (λ (cs : List ColumnPoints). AreLive cs less.rules) (sym columns) (lives_go held.columns full.rules less.rules (of-loses full.rules less.rules first_loses) kept.live);
+          possible = possible_gone full.rules less.rules (of-loses full.rules less.rules first_loses) kept.possible;
+          sized = subst IsSized is_removed (sized_gone full less.rules (expired-loses full.rules less.rules first_loses) kept.sized);
         }
 
   -- ---- the run ends
 
-  module _ (held : StoreContent) (run : Run) (none : waiting_in (Some run) held.columns ≡ []) (kept : IsSoundStore (data_of_parts settings marks n held (Some run)) held (Some run)) where
+  module _ (held : StoreContent) (run : Run) (none : waiting_in (Some run) held.columns ≡ []) (kept : IsSoundStore settings marks n held (Some run)) where
     abbrev open_run : StoreData
     open_run = data_of_parts settings marks n held (Some run)
 
     is_ended : run_ended open_run ≡ data_of_parts settings marks n held None
-    is_ended = λ i. record {
-      settings = settings;
-      marks = marks;
-      running = false;
-      waiting = none i;
-      series = held.series;
-      columns = held.columns;
-      accepted = n;
-      cells = cells_of held.rollups;
-    }
+    is_ended = λ i. record open_run { running = false; waiting = none i }
 
     ended-stands : GoesOn open_run (Step true) (data_of_parts settings marks n held None)
     ended-stands = λ opening h st. subst (λ (k : StoreData). StandsFor opening (Step true ∷ h) (state_of k)) is_ended (run_ends opening h open_run st none)
 
-    ended-kept : IsSoundStore (data_of_parts settings marks n held None) held None
+    ended-kept : IsSoundStore settings marks n held None
     ended-kept = record {
       rollups = kept.rollups;
+      lows = kept.lows;
       few = tt;
       counts = kept.counts;
       live = kept.live;
@@ -199,7 +205,7 @@ module _ (settings : Settings) (marks : Marks) (n : ℕ) where
 
   -- ---- a run begins
 
-  module _ (held : StoreContent) (now : ℤ) (end : ℕ) (all : end ≡ length held.columns) (kept : IsSoundStore (data_of_parts settings marks n held None) held None) where
+  module _ (held : StoreContent) (now : ℤ) (end : ℕ) (all : end ≡ length held.columns) (kept : IsSoundStore settings marks n held None) where
     abbrev idle : StoreData
     idle = data_of_parts settings marks n held None
 
@@ -208,41 +214,60 @@ module _ (settings : Settings) (marks : Marks) (n : ℕ) where
 
     pub is_begun : data_of_parts settings risen n held (Some (run_over end)) ≡ run_begun now idle
     is_begun = λ i. record {
-      settings = settings;
-      marks = risen;
+      raw_duration = settings.raw_duration;
+      raw_mark = risen.raw;
+      rules = sym (with_raised now settings.rules marks.lows (cells_of held.rollups)) i;
       running = true;
       waiting = all_wait held.columns end all i;
       series = held.series;
       columns = held.columns;
       accepted = n;
-      cells = cells_of held.rollups;
     }
 
-    pub begun-kept : IsSoundStore (data_of_parts settings risen n held (Some (run_over end))) held (Some (run_over end))
+    -- what holds of the cells of each rule still does
+    raised_keep : (P : Rule → CellMap → Type 0) → AllByRecursion (λ (a : RuleData). P a.rule a.cells) idle.rules → AllByRecursion (λ (a : RuleData). P a.rule a.cells) (data_of_parts settings risen n held None).rules
+    raised_keep P a =
+        subst (AllByRecursion (λ (x : RuleData). P x.rule x.cells)) (with_raised now settings.rules marks.lows (cells_of held.rollups))
+        (all_map (λ (x : RuleData). P x.rule x.cells) (λ (x : RuleData). P x.rule x.cells) (raised_rule now) (λ x b. b) idle.rules a)
+
+    pub begun-kept : IsSoundStore settings risen n held (Some (run_over end))
     begun-kept = record {
       rollups = kept.rollups;
+      lows = length-beside (raised_low now) settings.rules marks.lows ∙ kept.lows;
       few = (omega arith, omega arith);
-      counts = kept.counts;
-      live = kept.live;
-      possible = kept.possible;
+      counts = raised_keep (HoldsFew n held.columns) kept.counts;
+      live = raised_keep (IsLive held.columns) kept.live;
+      possible = raised_keep HasPossibleCells kept.possible;
       sized = subst IsSized (sym is_begun) (sized_begun idle now kept.sized);
     }
 
 -- ---- a step of the run that is open
 
+-- settings and marks stay
+pub moves_same : (old new : StoreData) → MovesFirst old new ⊎ RemovesCells old new → (store_settings new ≡ store_settings old) × (store_marks new ≡ store_marks old)
+moves_same old new m =
+    ⊎_elim {C = (store_settings new ≡ store_settings old) × (store_marks new ≡ store_marks old)}
+    (λ p.
+    let now : StoreData = column_moved p.column p.points p.others old in
+    let each = each_in AnyCells (λ (r : Rule). moved_cells r p.column (points_below old.raw_mark p.points) (facts_of now.columns)) (λ a. tt) old.rules in
+    (ap store_settings p.moved ∙ settings_same AnyCells now old.rules each, ap store_marks p.moved ∙ marks_same AnyCells now old.rules each))
+    (λ p.
+    let each = expired-loses old.rules new.rules p.loses in
+    (ap store_settings p.others ∙ settings_same (λ r. KeepsFrom) (with_rules new.rules old) old.rules each, ap store_marks p.others ∙ marks_same (λ r. KeepsFrom) (with_rules new.rules old) old.rules each)) m
+
 -- the store goes on with one step fewer left, and is kept
-pub record IsStep (before after : StoreData) (held : StoreContent) (run : Option Run) : Type 0 where
-  pub goes : GoesOn before (Step false) after
-  pub fewer : steps_left (state_of before) ≡ steps_left (state_of after) + 1
-  pub moves : MovesFirst before after ⊎ RemovesCells before after
-  pub series : after.series ≡ before.series
-  pub kept : IsSoundStore after held run
+pub record IsStep (settings : Settings) (marks : Marks) (n : ℕ) (before : StoreData) (held : StoreContent) (run : Option Run) : Type 0 where
+  pub goes : GoesOn before (Step false) (data_of_parts settings marks n held run)
+  pub fewer : steps_left (state_of before) ≡ steps_left (state_of (data_of_parts settings marks n held run)) + 1
+  pub moves : MovesFirst before (data_of_parts settings marks n held run) ⊎ RemovesCells before (data_of_parts settings marks n held run)
+  pub series : held.series ≡ before.series
+  pub kept : IsSoundStore settings marks n held run
 
 module _ (settings : Settings) (marks : Marks) (n : ℕ) (held after : StoreContent) (before : StoreData) where
   -- the first waiting column is taken off the run, and moved
-  pub move_steps : (run left : Option Run) (number : ℕ) (rs : List Rule) (mark : ℤ) → data_of_parts settings marks n held run ≡ before → IsSoundStore (data_of_parts settings marks n held run) held run → is_some run ≡ true → TakesFirst run left (Some number)
+  pub move_steps : (run left : Option Run) (number : ℕ) (rs : List Rule) (mark : ℤ) → data_of_parts settings marks n held run ≡ before → IsSoundStore settings marks n held run → is_some run ≡ true → TakesFirst run left (Some number)
       → rs ≡ settings.rules → mark ≡ marks.raw → ((s : ColumnPoints) → IsAt held.columns number s → FreezeFit rs s.column (points_below mark s.points) (cells_of held.rollups) → after ≡ content_moved rs s mark held)
-      → IsStep before (data_of_parts settings marks n after left) after left
+      → IsStep settings marks n before after left
   move_steps None left number rs mark shown kept runs takes same raw moves = absurd (true≢false (sym runs))
   move_steps (Some run) None number rs mark shown kept runs takes same raw moves = absurd (true≢false (sym takes.running))
   move_steps (Some run) (Some left) number rs mark shown kept runs takes same raw moves =
@@ -254,8 +279,8 @@ module _ (settings : Settings) (marks : Marks) (n : ℕ) (held after : StoreCont
       let is : after ≡ content_moved settings.rules s marks.raw held =
       moves s at (subst (λ (us : List Rule). FreezeFit us s.column (points_below mark s.points) (cells_of held.rollups)) (sym same) (subst (λ m. FreezeFit settings.rules s.column (points_below m s.points) (cells_of held.rollups)) (sym raw) fit))
       ∙ ap₂ (λ (us : List Rule) m. content_moved us s m held) same raw in
-      let step : IsStep (data_of_parts settings marks n held (Some run)) (data_of_parts settings marks n after (Some left)) after (Some left) =
-      subst (λ (h : StoreContent). IsStep (data_of_parts settings marks n held (Some run)) (data_of_parts settings marks n h (Some left)) h (Some left)) (sym is)
+      let step : IsStep settings marks n (data_of_parts settings marks n held (Some run)) after (Some left) =
+      subst (λ (h : StoreContent). IsStep settings marks n (data_of_parts settings marks n held (Some run)) h (Some left)) (sym is)
       (record {
         goes = moved-stands settings marks n held run left number s first within.0 at kept;
         fewer = moved-steps settings marks n held run left number s first within.0 at kept;
@@ -263,32 +288,24 @@ module _ (settings : Settings) (marks : Marks) (n : ℕ) (held after : StoreCont
         series = refl;
         kept = moved-kept settings marks n held run left number s first within.0 at kept;
       }) in
-      subst (λ (k : StoreData). IsStep k (data_of_parts settings marks n after (Some left)) after (Some left)) shown step
+      subst (λ (k : StoreData). IsStep settings marks n k after (Some left)) shown step
 
   -- the store with what is left of a run of which no column waits
   pub record IsThrough (left : Option Run) : Type 0 where
     pub shown : data_of_parts settings marks n held left ≡ before
-    pub kept : IsSoundStore (data_of_parts settings marks n held left) held left
+    pub kept : IsSoundStore settings marks n held left
     pub none : waiting_in left held.columns ≡ []
     pub running : is_some left ≡ true
 
-  pub run_through : (run left : Option Run) → data_of_parts settings marks n held run ≡ before → IsSoundStore (data_of_parts settings marks n held run) held run → is_some run ≡ true → TakesFirst run left None → IsThrough left
+  pub run_through : (run left : Option Run) → data_of_parts settings marks n held run ≡ before → IsSoundStore settings marks n held run → is_some run ≡ true → TakesFirst run left None → IsThrough left
   run_through run left shown kept runs takes =
       let none = takes.none held.columns in
-      let same : data_of_parts settings marks n held left ≡ data_of_parts settings marks n held run = λ i. record {
-        settings = settings;
-        marks = marks;
-        running = takes.running i;
-        waiting = (none.1 ∙ sym none.0) i;
-        series = held.series;
-        columns = held.columns;
-        accepted = n;
-        cells = cells_of held.rollups;
-      } in
+      let same : data_of_parts settings marks n held left ≡ data_of_parts settings marks n held run = λ i. record (data_of_parts settings marks n held run) { running = takes.running i; waiting = (none.1 ∙ sym none.0) i } in
       record {
         shown = same ∙ shown;
         kept = record {
           rollups = kept.rollups;
+          lows = kept.lows;
           few = (takes.within held.columns kept.few).0;
           counts = kept.counts;
           live = kept.live;
@@ -300,36 +317,36 @@ module _ (settings : Settings) (marks : Marks) (n : ℕ) (held after : StoreCont
       }
 
   -- then cells are removed
-  pub removal_steps : (run : Option Run) (lows : List ℤ) → IsThrough run → lows ≡ marks.lows → after ≡ content_with_cells (cells_of after.rollups) held → FirstLoses lows (cells_of held.rollups) (cells_of after.rollups)
-      → IsStep before (data_of_parts settings marks n after run) after run
+  pub removal_steps : (run : Option Run) (lows : List ℤ) → IsThrough run → lows ≡ marks.lows → after ≡ content_with_cells (cells_of after.rollups) held → FirstChanges IsAbove LosesCells lows (cells_of held.rollups) (cells_of after.rollups)
+      → IsStep settings marks n before after run
   removal_steps None lows all same is loses = absurd (true≢false (sym all.running))
   removal_steps (Some r) lows all same is loses =
-      let some : FirstLoses marks.lows (cells_of held.rollups) (cells_of after.rollups) = subst (λ (ls : List ℤ). FirstLoses ls (cells_of held.rollups) (cells_of after.rollups)) same loses in
-      let step : IsStep (data_of_parts settings marks n held (Some r)) (data_of_parts settings marks n after (Some r)) after (Some r) = record {
+      let some : FirstChanges IsAbove LosesCells marks.lows (cells_of held.rollups) (cells_of after.rollups) = subst (λ (ls : List ℤ). FirstChanges IsAbove LosesCells ls (cells_of held.rollups) (cells_of after.rollups)) same loses in
+      let step : IsStep settings marks n (data_of_parts settings marks n held (Some r)) after (Some r) = record {
         goes = removed-stands settings marks n held after r is some all.kept;
         fewer = removed-steps settings marks n held after r is some all.kept;
         moves = inr (removes-cells settings marks n held after r is some all.kept all.none);
         series = ap (λ (h : StoreContent). h.series) is;
         kept = removed-kept settings marks n held after r is some all.kept;
       } in
-      subst (λ (k : StoreData). IsStep k (data_of_parts settings marks n after (Some r)) after (Some r)) all.shown step
+      subst (λ (k : StoreData). IsStep settings marks n k after (Some r)) all.shown step
 
   -- or nothing was left, and the run is over
   pub end_steps : (run : Option Run) → IsThrough run → after ≡ held
-      → (data_of_parts settings marks n after None ≡ run_ended before) × GoesOn before (Step true) (data_of_parts settings marks n after None) × IsSoundStore (data_of_parts settings marks n after None) after None
+      → (data_of_parts settings marks n after None ≡ run_ended before) × GoesOn before (Step true) (data_of_parts settings marks n after None) × IsSoundStore settings marks n after None
   end_steps None all is = absurd (true≢false (sym all.running))
   end_steps (Some r) all is =
-      subst (λ (h : StoreContent). (data_of_parts settings marks n h None ≡ run_ended before) × GoesOn before (Step true) (data_of_parts settings marks n h None) × IsSoundStore (data_of_parts settings marks n h None) h None) (sym is) (
+      subst (λ (h : StoreContent). (data_of_parts settings marks n h None ≡ run_ended before) × GoesOn before (Step true) (data_of_parts settings marks n h None) × IsSoundStore settings marks n h None) (sym is) (
         sym (is_ended settings marks n held r all.none all.kept) ∙ ap run_ended all.shown,
         subst (λ (k : StoreData). GoesOn k (Step true) (data_of_parts settings marks n held None)) all.shown (ended-stands settings marks n held r all.none all.kept),
         ended-kept settings marks n held r all.none all.kept,
       )
 
   -- and this was the last step
-  pub end_last : (run : Option Run) → IsThrough run → AreAbove marks.lows (cells_of held.rollups) → steps_left (state_of before) ≡ 1
+  pub end_last : (run : Option Run) → IsThrough run → AreAbove (data_of_parts settings marks n held run).rules → steps_left (state_of before) ≡ 1
   end_last None all above = absurd (true≢false (sym all.running))
   end_last (Some r) all above =
       let waits : length (waiting_in (Some r) held.columns) ≡ 0 = ap (λ (ws : List Column). length ws) all.none in
-      let batches = batches_left-above settings.rules marks.lows (cells_of held.rollups) above in
+      let batches = batches_left-above (data_of_parts settings marks n held (Some r)).rules above in
       let one : steps_left (state_of (data_of_parts settings marks n held (Some r))) ≡ 1 = omega arith in
       subst (λ (k : StoreData). steps_left (state_of k) ≡ 1) all.shown one

@@ -4,7 +4,7 @@ use Rattle.std.specs.FinMap as finmap
 use Rattle.std.specs.List.{zip, AllByRecursion}
 use Rattle.std.proofs.lemmas.Int.{ints}
 use Rattle.std.proofs.lemmas.List.{map-append}
-use Rattle.std.proofs.lemmas.Option.{get_or_from_slice_get, slice_get-get_or, slice_get_within, none-some, same_Some}
+use Rattle.std.proofs.lemmas.Option.{get_or_from_slice_get, none-some, same_Some}
 use Rattle.ts_core.specs.lists.Members.{Among}
 use Rattle.ts_core.specs.lists.Numbered.{IsAt}
 use Rattle.ts_core.specs.facts.Facts.{Column, Fact, same_text}
@@ -14,7 +14,9 @@ use Rattle.ts_core.specs.store.Marks.{index_of}
 use Rattle.ts_core.specs.store.Cells.{Cell, cell_of, same_cell}
 use Rattle.ts_core.specs.lists.Changes.{or_else}
 use Rattle.ts_core.specs.store.StoreStates.{CellParts, fact_at, facts_at}
-use Rattle.ts_core.specs.store.StoreData.{CellMap, no_parts}
+use Rattle.ts_core.specs.store.StoreData.{CellMap, RuleData, OfEachRule, no_parts}
+use Rattle.ts_store.specs.store.RuleLists.{rules_with}
+use Rattle.ts_core.proofs.moves.EachRule.{each_same, each_then}
 use Rattle.ts_core.proofs.lists.MembersLemmas.{Among-append, Among-left, Among-right, Among-map}
 use Rattle.ts_core.proofs.moves.MovesStand.{key_there, key_not}
 use Rattle.ts_core.proofs.plans.PieceCells.{same_cell-eq, same_cell-refl}
@@ -23,10 +25,10 @@ use Rattle.ts_cells.specs.Grids.{no_rollup_series, cell_at}
 use Rattle.ts_cells.proofs.GridMoves.{get-inserted_if_absent}
 use Rattle.ts_store.specs.image.BuildingParts.{MakesCells}
 use Rattle.ts_store.specs.store.PossibleCells.{IsPossibleCell}
-use Rattle.ts_store.specs.write.LinesPut.{OfEachRule, IsOfFacts}
+use Rattle.ts_store.specs.write.LinesPut.{IsOfFacts}
 use Rattle.ts_store.specs.rollup.Rollups.{RollupState, AreRollups, IsRollupSeriesOf, rollup_series_at, rollup_series_under, cells_of, with_grid_cells, cell_created_in}
 use Rattle.ts_store.specs.rollup.ChangedLists.{ChangesBeside}
-use Rattle.ts_store.proofs.write.CellsMade.{each_same, each_more, gains_nothing}
+use Rattle.ts_store.proofs.write.CellsMade.{gains_nothing}
 use Rattle.ts_store.proofs.store.ColumnsLemmas.{in_column}
 use Rattle.ts_store.proofs.store.PossibleCellsKept.{cell_possible}
 use Rattle.ts_store.proofs.write.CellsCreatedLemmas.{rollup_series_known, roomy_there}
@@ -145,17 +147,11 @@ pub parts_made : (c : Column) (r : Rule) (low : ℤ) (all taken left : List (ℤ
 parts_made c r low all taken left m n o e a b =
     subst (λ (fs : List Fact). MakesCells fs r low m o) (sym (ap (facts_at c) e ∙ map-append (fact_at c) taken left)) (makes-then (facts_at c taken) (facts_at c left) r low m n o a b)
 
-pub all-made-none : (rs : List Rule) (lows : List ℤ) (ms : List CellMap) → OfEachRule (MakesCells []) rs lows ms ms
+pub all-made-none : (rs : List RuleData) → OfEachRule (MakesCells []) rs rs
 all-made-none = each_same (MakesCells []) makes-nothing
 
-pub all-made-then : (fs gs : List Fact) (rs : List Rule) (lows : List ℤ) (ms ns os : List CellMap) → OfEachRule (MakesCells fs) rs lows ms ns → OfEachRule (MakesCells gs) rs lows ns os → OfEachRule (MakesCells (fs ++ gs)) rs lows ms os
-all-made-then fs gs rs lows ms ns os a b = (
-  b.0 ∙ a.0,
-  λ i r low m o ar al am ao.
-      let n : CellMap = get_or ns i finmap.empty in
-      let an : IsAt ns i n = slice_get-get_or ns i finmap.empty (subst (λ (z : ℕ). i < z) (sym a.0) (slice_get_within ms i m am)) in
-      makes-then fs gs r low m n o (a.1 i r low m n ar al am an) (b.1 i r low n o ar al an ao),
-)
+pub all-made-then : (fs gs : List Fact) (rs os ss : List RuleData) → OfEachRule (MakesCells fs) rs os → OfEachRule (MakesCells gs) os ss → OfEachRule (MakesCells (fs ++ gs)) rs ss
+all-made-then fs gs = each_then (MakesCells fs) (MakesCells gs) (MakesCells (fs ++ gs)) (λ r low m o n. makes-then fs gs r low m o n)
 
 -- ---- under each rule
 
@@ -165,15 +161,15 @@ pub record MakesUnder (number : ℕ) (ps : List (ℤ × ℤ)) (x : Rule × ℤ) 
   pub cells : (c : Column) → IsRollupSeriesOf x.0 c s.grid.rollup_series (rollup_series_at s number) → MakesCells (facts_at c ps) x.0 x.1 s.grid.cells t.grid.cells
 
 pub all_made_under : (number : ℕ) (ps : List (ℤ × ℤ)) (cs : List Column) (c : Column) (rs : List Rule) (lows : List ℤ) (ss ts : List RollupState) → IsAt cs number c → AreRollups rs cs ss → length lows ≡ length rs
-    → ChangesBeside (MakesUnder number ps) (zip rs lows) ss ts → OfEachRule (MakesCells (facts_at c ps)) rs lows (cells_of ss) (cells_of ts)
-all_made_under number ps cs c [] lows ss ts at over l h =
-    subst (λ (us : List RollupState). OfEachRule (MakesCells (facts_at c ps)) [] lows (cells_of ss) (cells_of us)) (sym h) (refl, λ i r low m n ar al am an. absurd (none-some r ar))
+    → ChangesBeside (MakesUnder number ps) (zip rs lows) ss ts → OfEachRule (MakesCells (facts_at c ps)) (rules_with rs lows (cells_of ss)) (rules_with rs lows (cells_of ts))
+all_made_under number ps cs c [] lows ss ts at over l h = tt
 all_made_under number ps cs c (r ∷ rs) [] ss ts at over l h = absurd (omega (arith, l))
 all_made_under number ps cs c (r ∷ rs) (low ∷ lows) [] ts at over l h = absurd over
 all_made_under number ps cs c (r ∷ rs) (low ∷ lows) (s ∷ ss) [] at over l h = absurd h
-all_made_under number ps cs c (r ∷ rs) (low ∷ lows) (s ∷ ss) (t ∷ ts) at over l h =
-    each_more (MakesCells (facts_at c ps)) r rs low lows s.grid.cells (cells_of ss) t.grid.cells (cells_of ts) (h.0.cells c (rollup_series_known r s.grid.rollup_series cs s.series_of_column number c over.0 at))
-    (all_made_under number ps cs c rs lows ss ts at over.1 (omega (arith, l)) h.1)
+all_made_under number ps cs c (r ∷ rs) (low ∷ lows) (s ∷ ss) (t ∷ ts) at over l h = (
+  (refl, refl, h.0.cells c (rollup_series_known r s.grid.rollup_series cs s.series_of_column number c over.0 at)),
+  all_made_under number ps cs c rs lows ss ts at over.1 (omega (arith, l)) h.1,
+)
 
 -- ---- under the rollup series of a rule, which stay
 

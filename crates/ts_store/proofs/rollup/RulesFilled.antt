@@ -1,9 +1,9 @@
 -- Cells of all rules, filled with raw facts.
-use Rattle.std.proofs.Common.{◌≡◌, ◌≢◌, ◌⊎◌, ◌≤ℤ◌, ◌<◌, ◌≤◌, ◌^◌, ◌&&◌, ℕ, zero, suc, ℤ, true, false, cond, List, [], ◌∷◌, ◌++◌, length, map, filter, get_or, Option, Some, None, option_map, refl, sym, ◌∙◌, ap, subst, inl, inr, ⊎_elim, true≢false, arith}
+use Rattle.std.proofs.Common.{◌≡◌, ◌≢◌, ◌⊎◌, ◌≤ℤ◌, ◌<◌, ◌≤◌, ◌^◌, ◌&&◌, ℕ, ℤ, true, false, cond, List, [], ◌∷◌, ◌++◌, length, map, filter, Option, Some, None, option_map, refl, sym, ◌∙◌, ap, subst, inl, inr, ⊎_elim, true≢false, arith}
 use Rattle.std.specs.FinMap as finmap
 use Rattle.std.specs.List.{AllByRecursion}
 use Rattle.std.proofs.lemmas.List.{length-map}
-use Rattle.std.proofs.lemmas.Option.{slice_get-get_or, slice_get_within, none-some, same_Some}
+use Rattle.std.proofs.lemmas.Option.{none-some, same_Some}
 use Rattle.ts_core.specs.lists.Members.{Among}
 use Rattle.ts_core.specs.lists.Numbered.{IsAt}
 use Rattle.ts_core.specs.facts.Facts.{Column, Fact}
@@ -13,19 +13,21 @@ use Rattle.ts_core.specs.aggregates.MergeLaws.{aggregate_laws}
 use Rattle.ts_core.specs.store.Cells.{Cell, cell_of, is_rolled, is_in_cell, same_cell, total_of}
 use Rattle.ts_core.specs.lists.Changes.{or_else}
 use Rattle.ts_core.specs.store.StoreStates.{ColumnPoints, CellParts, column_of, facts_at, facts_of}
-use Rattle.ts_core.specs.store.StoreData.{CellMap, no_parts, IsLive, AreLive}
+use Rattle.ts_core.specs.store.StoreData.{CellMap, RuleData, OfEachRule, no_parts, IsLive}
 use Rattle.ts_core.proofs.moves.MovesStand.{key_there, key_not}
 use Rattle.ts_core.proofs.plans.PieceCells.{same_cell-eq, same_cell-refl}
-use Rattle.ts_core.proofs.lists.BesideLemmas.{OfEach-at, OfEach-weaker, OfEach-changed, AllZip-same, AllZip-then, AllZip-at}
-use Rattle.ts_store.proofs.write.RuleLists.{others_of, of_rules}
-use Rattle.std.proofs.lemmas.Slice.Zip.{AllZip-long}
-use Rattle.ts_store.specs.image.Building.{HaveCells}
+use Rattle.ts_core.proofs.lists.BesideLemmas.{OfEach-weaker, AllZip-same, AllZip-then}
+use Rattle.ts_core.specs.lists.Beside.{OfEach}
+use Rattle.ts_core.proofs.moves.EachRule.{rules_gain, rules_keep}
+use Rattle.ts_store.specs.store.RuleLists.{rules_with}
+use Rattle.ts_store.proofs.store.RuleListLemmas.{with_each, with_zip}
+use Rattle.ts_store.specs.image.Building.{HasCellsOf, HaveCells}
 use Rattle.ts_store.specs.image.BuildingParts.{IsIdle, AreIdle, MakesCells, FillsCells, KeepsFrozen, KeepFrozen, IsFilledBut, AreFilledBut}
 use Rattle.ts_raw.specs.Columns.{ColumnState}
 use Rattle.ts_raw.specs.Indexed.{Indexed}
 use Rattle.ts_store.specs.store.PossibleCells.{HasPossibleCells, HavePossibleCells}
 use Rattle.ts_store.specs.store.ColumnStates.{IsSoundContent, content_of, columns_in, with_points, point_maps}
-use Rattle.ts_store.specs.write.LinesPut.{OfEachRule, IsOfFacts, PutsCells}
+use Rattle.ts_store.specs.write.LinesPut.{IsOfFacts, PutsCells}
 use Rattle.ts_store.specs.rollup.Rollups.{RollupState, AreRollups, HaveRollupSeries, IsRollupSeriesOf, rollup_series_at, with_grid_cells, cells_of}
 use Rattle.ts_store.specs.rollup.ChangedLists.{ChangesBeside}
 use Rattle.ts_store.specs.retain.RollupSteps.{with_all_grid_cells}
@@ -61,7 +63,7 @@ filled-idle all (r ∷ rs) [] h = tt
 filled-idle all (r ∷ rs) (m ∷ ms) h = (λ k p e. ap (λ a. merged a (total_of r k all)) (h.0 k p e) ∙ aggregate_laws.unit (total_of r k all), filled-idle all rs ms h.1)
 
 -- nothing is left
-pub filled-live : (columns : List ColumnPoints) (rs : List Rule) (ms : List CellMap) → AreFilledBut [] (facts_of columns) rs ms → AreLive columns rs ms
+pub filled-live : (columns : List ColumnPoints) (rs : List Rule) (ms : List CellMap) → AreFilledBut [] (facts_of columns) rs ms → OfEach (IsLive columns) rs ms
 filled-live columns rs ms h =
     OfEach-weaker (IsFilledBut [] (facts_of columns)) (IsLive columns) (λ r m filled k p e. sym (aggregate_laws.comm p.live empty_aggregate ∙ aggregate_laws.unit p.live) ∙ filled k p e) rs ms h
 
@@ -184,37 +186,30 @@ module _ (columns : List ColumnPoints) (r : Rule) (low : ℤ) (m o n : CellMap) 
     others = others-kept;
   }
 
-idle-at : (ms : List CellMap) (i : ℕ) (m : CellMap) → AreIdle ms → IsAt ms i m → IsIdle m
-idle-at [] i m h am = absurd (none-some m am)
-idle-at (x ∷ ms) zero m h am = subst IsIdle (same_Some x m am) h.0
-idle-at (x ∷ ms) (suc i) m h am = idle-at ms i m h.1 am
-
-pub all-filled : (columns : List ColumnPoints) (rs : List Rule) (lows : List ℤ) (ms os ns : List CellMap) → OfEachRule (MakesCells (facts_of columns)) rs lows ms os → KeepFrozen os ns → AreLive columns rs ns → AreIdle ms
-    → OfEachRule (PutsCells (facts_of columns)) rs lows ms ns
-all-filled columns rs lows ms os ns made keeps live idle = (
-  AllZip-long KeepsFrozen os ns keeps ∙ made.0,
-  λ i r low m n ar al am an.
-      let o : CellMap = get_or os i finmap.empty in
-      let ao : IsAt os i o = slice_get-get_or os i finmap.empty (subst (λ (z : ℕ). i < z) (sym made.0) (slice_get_within ms i m am)) in
-      fills columns r low m o n (made.1 i r low m o ar al am ao) (AllZip-at KeepsFrozen os ns i o n keeps ao an) (OfEach-at (IsLive columns) rs ns i r n live ar an) (idle-at ms i m idle am),
-)
+pub all-filled : (columns : List ColumnPoints) (rs : List Rule) (lows : List ℤ) (ms os ns : List CellMap) → OfEachRule (MakesCells (facts_of columns)) (rules_with rs lows ms) (rules_with rs lows os) → KeepFrozen os ns → OfEach (IsLive columns) rs ns → AreIdle ms
+    → OfEachRule (PutsCells (facts_of columns)) (rules_with rs lows ms) (rules_with rs lows ns)
+all-filled columns [] lows ms os ns made keeps live idle = tt
+all-filled columns (r ∷ rs) [] ms os ns made keeps live idle = tt
+all-filled columns (r ∷ rs) (low ∷ lows) [] [] [] made keeps live idle = tt
+all-filled columns (r ∷ rs) (low ∷ lows) (m ∷ ms) (o ∷ os) (n ∷ ns) made keeps live idle = ((refl, refl, fills columns r low m o n made.0.2 keeps.0 live.0 idle.0), all-filled columns rs lows ms os ns made.1 keeps.1 live.1 idle.1)
+all-filled columns (r ∷ rs) (low ∷ lows) [] (o ∷ os) ns made keeps live idle = absurd made
+all-filled columns (r ∷ rs) (low ∷ lows) (m ∷ ms) [] ns made keeps live idle = absurd made
+all-filled columns (r ∷ rs) (low ∷ lows) ms [] (n ∷ ns) made keeps live idle = absurd keeps
+all-filled columns (r ∷ rs) (low ∷ lows) ms (o ∷ os) [] made keeps live idle = absurd keeps
 
 -- ---- what follows
 
-pub has_cells-had : (facts : List Fact) (rs : List Rule) (lows : List ℤ) (ms ns : List CellMap) → OfEachRule (PutsCells facts) rs lows ms ns → HaveCells rs lows facts ns
-has_cells-had facts [] lows ms ns h = tt
-has_cells-had facts (r ∷ rs) [] ms ns h = tt
-has_cells-had facts (r ∷ rs) (low ∷ lows) ms [] h = tt
-has_cells-had facts (r ∷ rs) (low ∷ lows) [] (n ∷ ns) h = absurd (let e = h.0 in omega (arith, e))
-has_cells-had facts (r ∷ rs) (low ∷ lows) (m ∷ ms) (n ∷ ns) h = (
-  λ f a rolled above none.
-      let puts : PutsCells facts r low m n = h.1 0 r low m n refl refl refl refl in
-      (puts.there (cell_of r f)).1 (inr (above, (f, a, ap (λ b. b && same_cell (cell_of r f) (cell_of r f)) rolled ∙ same_cell-refl (cell_of r f)))) none,
-  has_cells-had facts rs lows ms ns (others_of (PutsCells facts) r rs low lows m ms n ns h),
-)
+pub has_cells-had : (facts : List Fact) (rs ss : List RuleData) → OfEachRule (PutsCells facts) rs ss → HaveCells facts ss
+has_cells-had facts =
+    rules_gain (PutsCells facts) (λ (x : RuleData). HasCellsOf facts x.rule x.low x.cells)
+    (λ x n puts f a rolled above none. (puts.there (cell_of x.rule f)).1 (inr (above, (f, a, ap (λ b. b && same_cell (cell_of x.rule f) (cell_of x.rule f)) rolled ∙ same_cell-refl (cell_of x.rule f)))) none)
 
-pub possible-had : (facts : List Fact) (rs : List Rule) (lows : List ℤ) (ms os : List CellMap) → length lows ≡ length rs → OfEachRule (MakesCells facts) rs lows ms os → HavePossibleCells rs ms → HavePossibleCells rs os
-possible-had facts rs lows ms os l h v = of_rules (MakesCells facts) HasPossibleCells HasPossibleCells (λ r low m o made. made.possible) rs lows ms os l h v
+-- the cells of a rule are ones that it can have
+abbrev possible_in : RuleData → Type 0
+possible_in x = HasPossibleCells x.rule x.cells
+
+pub possible-had : (facts : List Fact) (rs ss : List RuleData) → OfEachRule (MakesCells facts) rs ss → HavePossibleCells rs → HavePossibleCells ss
+possible-had facts = rules_keep (MakesCells facts) possible_in possible_in (λ x o made. made.possible)
 
 still-keys : (m n : CellMap) → KeepsFrozen m n → (k : Cell) → Among k (finmap.keys n) → Among k (finmap.keys m)
 still-keys m n keeps k a =
@@ -223,33 +218,33 @@ still-keys m n keeps k a =
       | Some p ↦ λ e. none-some p.frozen (ap (option_map (λ (y : CellParts). y.frozen)) (sym none) ∙ sym (keeps k) ∙ ap (option_map (λ (y : CellParts). y.frozen)) e)
     ] refl)
 
-pub possible-kept : (rs : List Rule) (ms ns : List CellMap) → KeepFrozen ms ns → HavePossibleCells rs ms → HavePossibleCells rs ns
-possible-kept rs ms ns keeps v = OfEach-changed HasPossibleCells KeepsFrozen HasPossibleCells (λ r m n keep all k a. all k (still-keys m n keep k a)) rs ms ns keeps v
+pub possible-kept : (rs ss : List RuleData) → OfEachRule (λ r low. KeepsFrozen) rs ss → HavePossibleCells rs → HavePossibleCells ss
+possible-kept = rules_keep (λ r low. KeepsFrozen) possible_in possible_in (λ x n keep all k a. all k (still-keys x.cells n keep k a))
 
 -- created cells have no live part
-idle-made : (facts : List Fact) (rs : List Rule) (lows : List ℤ) (ms os : List CellMap) → length lows ≡ length rs → length ms ≡ length rs → OfEachRule (MakesCells facts) rs lows ms os → AreIdle ms → AreIdle os
+idle-made : (facts : List Fact) (rs : List Rule) (lows : List ℤ) (ms os : List CellMap) → length lows ≡ length rs → length os ≡ length rs → OfEachRule (MakesCells facts) (rules_with rs lows ms) (rules_with rs lows os) → AreIdle ms → AreIdle os
 idle-made facts rs lows ms [] l n h idle = tt
-idle-made facts rs lows [] (o ∷ os) l n h idle = absurd (let e = h.0 in omega (arith, e))
-idle-made facts [] lows (m ∷ ms) (o ∷ os) l n h idle = absurd (omega (arith, n))
-idle-made facts (r ∷ rs) [] (m ∷ ms) (o ∷ os) l n h idle = absurd (omega (arith, l))
+idle-made facts [] lows ms (o ∷ os) l n h idle = absurd (omega (arith, n))
+idle-made facts (r ∷ rs) [] ms (o ∷ os) l n h idle = absurd (omega (arith, l))
+idle-made facts (r ∷ rs) (low ∷ lows) [] (o ∷ os) l n h idle = absurd h
 idle-made facts (r ∷ rs) (low ∷ lows) (m ∷ ms) (o ∷ os) l n h idle = (
   λ k p e.
-      let made : MakesCells facts r low m o = h.1 0 r low m o refl refl refl refl in
+      let made : MakesCells facts r low m o = h.0.2 in
       elim (finmap.get m k) as (λ x. finmap.get m k ≡ x → p.live ≡ empty_aggregate) [
         | None ↦ λ none. ap (λ (y : CellParts). y.live) (made.gains.created k p none e).0
         | Some q ↦ λ some. ap (λ (y : CellParts). y.live) (same_Some p q (sym e ∙ made.gains.stays k q some)) ∙ idle.0 k q some
       ] refl,
-  idle-made facts rs lows ms os (omega (arith, l)) (omega (arith, n)) (others_of (MakesCells facts) r rs low lows m ms o os h) idle.1,
+  idle-made facts rs lows ms os (omega (arith, l)) (omega (arith, n)) h.1 idle.1,
 )
 
 -- ---- the whole
 
 -- cells are created under these rules, and filled
 abbrev pub Makes : List Rule → List ℤ → List RollupState → List ColumnState → List RollupState → Type 0
-Makes rs lows vs ss us = (cs : List Column) → length ss ≡ length cs → AreRollups rs cs us → OfEachRule (MakesCells (facts_of (with_points cs (point_maps ss)))) rs lows (cells_of us) (cells_of vs)
+Makes rs lows vs ss us = (cs : List Column) → length ss ≡ length cs → AreRollups rs cs us → OfEachRule (MakesCells (facts_of (with_points cs (point_maps ss)))) (rules_with rs lows (cells_of us)) (rules_with rs lows (cells_of vs))
 
 abbrev pub Adds : List Rule → List RollupState → List ColumnState → List RollupState → Type 0
-Adds rs ws ss vs = (cs : List Column) → length ss ≡ length cs → AreRollups rs cs vs → AreIdle (cells_of vs) → AreLive (with_points cs (point_maps ss)) rs (cells_of ws)
+Adds rs ws ss vs = (cs : List Column) → length ss ≡ length cs → AreRollups rs cs vs → AreIdle (cells_of vs) → OfEach (IsLive (with_points cs (point_maps ss))) rs (cells_of ws)
 
 module _ (rs : List Rule) (lows : List ℤ) (index : Indexed) (ss : List ColumnState) (us vs ws : List RollupState) (held : IsSoundContent index ss) (many : length lows ≡ length rs) (rollups : AreRollups rs (map column_of (columns_in index ss)) us) (idle : AreIdle (cells_of us)) where
   names : AreRollups rs index.columns us
@@ -259,17 +254,20 @@ module _ (rs : List Rule) (lows : List ℤ) (index : Indexed) (ss : List ColumnS
       → FillsCells rs lows (content_of index ss us) (content_of index ss ws)
   all_fill one two make frozen add =
       let facts : List Fact = facts_of (columns_in index ss) in
-      let made : OfEachRule (MakesCells facts) rs lows (cells_of us) (cells_of vs) = make index.columns held.each names in
+      let before : List RuleData = rules_with rs lows (cells_of us) in
+      let roomy : List RuleData = rules_with rs lows (cells_of vs) in
+      let after : List RuleData = rules_with rs lows (cells_of ws) in
+      let made : OfEachRule (MakesCells facts) before roomy = make index.columns held.each names in
       let between : AreRollups rs index.columns vs = subst (AreRollups rs index.columns) (sym one) (rollups_with rs index.columns (cells_of vs) us names) in
-      let live : AreLive (columns_in index ss) rs (cells_of ws) =
-      add index.columns held.each between (idle-made facts rs lows (cells_of us) (cells_of vs) many (length-map us (λ (s : RollupState). s.grid.cells) ∙ rollups-length rs index.columns us names) made idle) in
-      let cells : OfEachRule (PutsCells facts) rs lows (cells_of us) (cells_of ws) = all-filled (columns_in index ss) rs lows (cells_of us) (cells_of vs) (cells_of ws) made frozen live idle in
+      let many_cells : length (cells_of vs) ≡ length rs = length-map vs (λ (s : RollupState). s.grid.cells) ∙ rollups-length rs index.columns vs between in
+      let live : OfEach (IsLive (columns_in index ss)) rs (cells_of ws) = add index.columns held.each between (idle-made facts rs lows (cells_of us) (cells_of vs) many many_cells made idle) in
+      let cells : OfEachRule (PutsCells facts) before after = all-filled (columns_in index ss) rs lows (cells_of us) (cells_of vs) (cells_of ws) made frozen live idle in
       record {
         others = ap (content_of index ss) (grids_kept_then us vs ws one two);
         cells = cells;
-        has_cells = has_cells-had facts rs lows (cells_of us) (cells_of ws) cells;
-        live = live;
-        possible = λ v. possible-kept rs (cells_of vs) (cells_of ws) frozen (possible-had facts rs lows (cells_of us) (cells_of vs) many made v);
+        has_cells = has_cells-had facts before after cells;
+        live = with_each (IsLive (columns_in index ss)) rs lows (cells_of ws) live;
+        possible = λ v. possible-kept roomy after (with_zip KeepsFrozen rs lows (cells_of vs) (cells_of ws) frozen) (possible-had facts before roomy made v);
         known = known_of index ss ws held;
         once = facts-distinct index.columns (point_maps ss) held.sound.columns_once;
       }

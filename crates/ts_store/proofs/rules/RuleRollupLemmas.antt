@@ -83,7 +83,7 @@ pub rollup_made : (index : Indexed) (ss : List ColumnState) (us : List RollupSta
     → t ≡ with_grid_cells t.grid.cells s → FillsCells (r ∷ []) (low ∷ []) (content_of index ss (s ∷ [])) (content_of index ss (t ∷ [])) → IsRollupOf (content_of index ss us) r low t
 rollup_made index ss us r low s t held first same fills =
     let facts : List Fact = facts_of (content_of index ss us).columns in
-    let puts : PutsCells facts r low finmap.empty t.grid.cells = subst (λ (m : CellMap). PutsCells facts r low m t.grid.cells) first.cells (fills.cells.1 0 r low s.grid.cells t.grid.cells refl refl refl refl) in
+    let puts : PutsCells facts r low finmap.empty t.grid.cells = subst (λ (m : CellMap). PutsCells facts r low m t.grid.cells) first.cells fills.cells.0.2 in
     let series : HaveRollupSeries r s.grid.rollup_series index.columns s.series_of_column = subst (λ (cs : List Column). HaveRollupSeries r s.grid.rollup_series cs s.series_of_column) (take-length index.columns) first.series in
     record {
       series = subst (λ (x : RollupState). HaveRollupSeries r x.grid.rollup_series (map column_of (content_of index ss us).columns) x.series_of_column) (sym same) (subst (λ (cs : List Column). HaveRollupSeries r s.grid.rollup_series cs s.series_of_column) (sym (names_held index ss held.each)) series);

@@ -11,7 +11,7 @@ use Rattle.ts_core.specs.declared.settings.settings_fault.SettingsError.{Setting
 use Rattle.ts_core.specs.declared.settings.settings_fault.SettingsError.TheVariants as errors
 use Rattle.ts_core.specs.declared.settings.settings_fault.SettingsFault.{SettingsFault}
 use Rattle.ts_core.specs.declared.settings.settings_fault.SettingsFault.TheVariants.{Form}
-use Rattle.ts_core.specs.store.StoreData.{StoreData}
+use Rattle.ts_core.specs.store.StoreData.{StoreData, store_settings}
 use Rattle.ts_store.specs.rules.RulesChanged.{AddsRule}
 use Rattle.ts_store.specs.rules.RuleTexts.{rule_for, rule_of_value, rule_or_fault, unless_added, IsErrorOf, ValueComes, AddsText, AddsValue}
 use Rattle.ts_store.specs.declared.rules.rule_text.AddedRule.{AddedRule}
@@ -36,9 +36,9 @@ read_refused s text (errors.Fault fault) h = ap (λ o. rule_or_fault s (option_a
 -- the rule of a text is that of its value
 pub text_added : (old new : StoreData) (text : Text) (d : Data) (r : Result AddedRule SettingsError) → read text ≡ Some d → AddsValue old new d r → AddsText old new text r
 unfolding rule_for rule_read
-text_added old new text d (Ok added) is a = record { rule = a.rule; read = ap (λ o. rule_or_fault old.settings (option_and_then rule_parsed o)) is ∙ a.read; name = a.name; comes = a.comes }
+text_added old new text d (Ok added) is a = record { rule = a.rule; read = ap (λ o. rule_or_fault (store_settings old) (option_and_then rule_parsed o)) is ∙ a.read; name = a.name; comes = a.comes }
 text_added old new text d (Err errors.OutOfMemory) is a = a
-text_added old new text d (Err (errors.Fault fault)) is a = (ap (λ o. rule_or_fault old.settings (option_and_then rule_parsed o)) is ∙ a.0, a.1)
+text_added old new text d (Err (errors.Fault fault)) is a = (ap (λ o. rule_or_fault (store_settings old) (option_and_then rule_parsed o)) is ∙ a.0, a.1)
 
 abbrev Added : Type 0
 Added = Result ℤ SettingsError
@@ -62,25 +62,25 @@ not_memory : (f : SettingsFault) → errors.Fault f ≡ errors.OutOfMemory → �
 not_memory f h = absurd cc
 
 -- a rule that was added had no fault
-faultless : (v : Option SettingsFault) (old new : StoreData) (r : Rule) (low : ℤ) → added_fault old.settings r ≡ v → AddsRule old new r (Ok low) → added_fault old.settings r ≡ None
+faultless : (v : Option SettingsFault) (old new : StoreData) (r : Rule) (low : ℤ) → added_fault (store_settings old) r ≡ v → AddsRule old new r (Ok low) → added_fault (store_settings old) r ≡ None
 faultless None old new r low is a = is
 faultless (Some fault) old new r low is a = absurd (not_both low (errors.Fault fault) (let P : Option SettingsFault → Type 0 = λ o. IfSome o (λ f. added low ≡ refused_by (errors.Fault f)) in subst P is a.refused))
 
 pub value_came : (old new : StoreData) (d : Data) (r : Rule) (added : AddedRule) → rule_parsed d ≡ Some r → added.name.bytes ≡ r.name → AddsRule old new r (Ok added.low) → ValueComes old new d added
 value_came old new d r added read name a = record {
   rule = r;
-  read = ap (rule_or_fault old.settings) read ∙ ap (unless_added r) (faultless (added_fault old.settings r) old new r added.low refl a);
+  read = ap (rule_or_fault (store_settings old)) read ∙ ap (unless_added r) (faultless (added_fault (store_settings old) r) old new r added.low refl a);
   name = name;
   comes = a.ok;
 }
 
 pub name_fits : (old new : StoreData) (r : Rule) (low : ℤ) → AddsRule old new r (Ok low) → length r.name ≤ 32
-name_fits old new r low a = added_short old.settings r (faultless (added_fault old.settings r) old new r low refl a)
+name_fits old new r low a = added_short (store_settings old) r (faultless (added_fault (store_settings old) r) old new r low refl a)
 
 -- the fault of a rule that was refused
-fault_is : (v : Option SettingsFault) (old new : StoreData) (r : Rule) (fault : SettingsFault) → added_fault old.settings r ≡ v → AddsRule old new r (Err (errors.Fault fault)) → added_fault old.settings r ≡ Some fault
+fault_is : (v : Option SettingsFault) (old new : StoreData) (r : Rule) (fault : SettingsFault) → added_fault (store_settings old) r ≡ v → AddsRule old new r (Err (errors.Fault fault)) → added_fault (store_settings old) r ≡ Some fault
 fault_is None old new r fault is a =
-    ⊎_elim {C = added_fault old.settings r ≡ Some fault}
+    ⊎_elim {C = added_fault (store_settings old) r ≡ Some fault}
     (λ ok. absurd (not_both ok.0 (errors.Fault fault) (sym ok.1)))
     (λ memory. absurd (not_memory fault (same_error (errors.Fault fault) errors.OutOfMemory memory)))
     (a.taken (rw is refl))
@@ -88,6 +88,6 @@ fault_is (Some other) old new r fault is a =
     let told : refused_by (errors.Fault fault) ≡ refused_by (errors.Fault other) = let P : Option SettingsFault → Type 0 = λ o. IfSome o (λ f. refused_by (errors.Fault fault) ≡ refused_by (errors.Fault f)) in subst P is a.refused in
     is ∙ ap Some (sym (same_fault fault other (same_error (errors.Fault fault) (errors.Fault other) told)))
 
-pub rule_refused : (old new : StoreData) (d : Data) (r : Rule) (e : SettingsError) → rule_parsed d ≡ Some r → AddsRule old new r (Err e) → IsErrorOf (rule_of_value old.settings d) e × (new ≡ old)
+pub rule_refused : (old new : StoreData) (d : Data) (r : Rule) (e : SettingsError) → rule_parsed d ≡ Some r → AddsRule old new r (Err e) → IsErrorOf (rule_of_value (store_settings old) d) e × (new ≡ old)
 rule_refused old new d r errors.OutOfMemory read a = (tt, a.err)
-rule_refused old new d r (errors.Fault fault) read a = (ap (rule_or_fault old.settings) read ∙ ap (unless_added r) (fault_is (added_fault old.settings r) old new r fault refl a), a.err)
+rule_refused old new d r (errors.Fault fault) read a = (ap (rule_or_fault (store_settings old)) read ∙ ap (unless_added r) (fault_is (added_fault (store_settings old) r) old new r fault refl a), a.err)

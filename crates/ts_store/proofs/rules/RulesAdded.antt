@@ -1,10 +1,10 @@
 -- A store with one more rule: its invariant, and the history that it represents.
-use Rattle.std.proofs.Common.{◌≡◌, ◌≤ℤ◌, ◌≤◌, ◌^◌, ℕ, ℤ, pos, List, [], ◌∷◌, ◌++◌, length, map, Option, Some, None, Result, Ok, Err, IfSome, is_some, refl, sym, ◌∙◌, ap, subst, inl, inr, unsigned_abs, FitsSigned, true≢false, arith}
+use Rattle.std.proofs.Common.{◌≡◌, ◌≤ℤ◌, ◌≤◌, ◌^◌, ℕ, ℤ, pos, List, [], ◌∷◌, ◌++◌, map, Option, Some, None, Result, Ok, Err, IfSome, is_some, refl, sym, ◌∙◌, ap, subst, inl, inr, unsigned_abs, FitsSigned, true≢false, arith}
 use Rattle.std.specs.Int.{w64}
 use Rattle.std.specs.FinMap as finmap
 use Rattle.std.specs.List.{AllByRecursion}
 use Rattle.std.proofs.lemmas.Int.{ints}
-use Rattle.std.proofs.lemmas.List.{map-append}
+use Rattle.std.proofs.lemmas.List.{map-append, length-append}
 use Rattle.ts_core.specs.declared.settings.settings_fault.SettingsError.{SettingsError}
 use Rattle.ts_core.specs.declared.settings.settings_fault.SettingsError.TheVariants.{Fault, OutOfMemory}
 use Rattle.ts_core.specs.declared.settings.settings_fault.SettingsFault.{SettingsFault}
@@ -17,19 +17,20 @@ use Rattle.ts_core.specs.store.Marks.{Marks, index_of, first_from}
 use Rattle.ts_core.specs.aggregates.Aggregates.{Aggregate}
 use Rattle.ts_core.specs.store.Cells.{cell_of, is_in_cell}
 use Rattle.ts_core.specs.lists.Changes.{or_else}
-use Rattle.ts_core.specs.store.StoreStates.{RuleCells, column_of, facts_of}
-use Rattle.ts_core.specs.store.StoreData.{CellMap, StoreData, no_parts, rule_cells, rules_of, IsLive}
-use Rattle.ts_core.specs.moves.RuleMoves.{IsEven, rule_added}
+use Rattle.ts_core.specs.store.StoreStates.{column_of, facts_of}
+use Rattle.ts_core.specs.store.StoreData.{CellMap, RuleData, StoreData, store_settings, no_parts, IsLive}
+use Rattle.ts_core.specs.moves.RuleMoves.{rule_added}
 use Rattle.ts_core.proofs.aggregates.BucketsOrder.{bucket_le, bucket_of-start}
 use Rattle.ts_core.proofs.aggregates.IndicesFit.{indices_fit}
-use Rattle.ts_core.proofs.lists.ListSteps.{length-filter}
+use Rattle.ts_core.proofs.lists.ListSteps.{length-filter, map-push, all_push}
 use Rattle.ts_core.proofs.store.LowIndices.{first_from-is, first_near}
 use Rattle.ts_core.proofs.store.RulesCome.{all_last}
 use Rattle.ts_core.proofs.settings.RuleLaws.{with_rule-fault}
-use Rattle.ts_core.proofs.moves.RulesMove.{rule_comes, left_added, even_added}
+use Rattle.ts_core.proofs.moves.RulesMove.{rule_comes, left_added}
 use Rattle.ts_core.proofs.settings.SettingsLaws.{settings_are}
 use Rattle.ts_core.proofs.moves.MovesStand.{key_there}
-use Rattle.ts_core.proofs.lists.BesideLemmas.{OfEach-push}
+use Rattle.ts_store.specs.store.RuleLists.{rules_with}
+use Rattle.ts_store.proofs.store.RuleListLemmas.{cells_each, its_settings, its_faultless, with_push}
 use Rattle.std.proofs.lemmas.Slice.Zip.{all_zipped_more}
 use Rattle.ts_store.specs.store.CellCounts.{HoldsFew}
 use Rattle.ts_store.specs.store.PossibleCells.{HasPossibleCells}
@@ -46,15 +47,6 @@ use Rattle.ts_store.proofs.rollup.RollupsGrow.{IsOfRule}
 
 rollups_push : (rs : List Rule) (cs : List Column) (ss : List RollupState) (r : Rule) (s : RollupState) → AreRollups rs cs ss → HaveRollupSeries r s.grid.rollup_series cs s.series_of_column → AreRollups (rs ++ r ∷ []) cs (ss ++ s ∷ [])
 rollups_push rs cs ss r s h one = all_zipped_more (IsOfRule cs) rs ss r s h one
-
-sized_push : (P : RuleCells → Type 0) (rs : List Rule) (lows : List ℤ) (ms : List CellMap) (r : Rule) (low : ℤ) (m : CellMap) → length lows ≡ length rs → length ms ≡ length rs → P (rule_cells r low m) → AllByRecursion P (rules_of rs lows ms)
-    → AllByRecursion P (rules_of (rs ++ r ∷ []) (lows ++ low ∷ []) (ms ++ m ∷ []))
-sized_push P [] [] [] r low m d e one h = (one, tt)
-sized_push P [] [] (x ∷ ms) r low m d e one h = absurd (omega (arith, e))
-sized_push P [] (l ∷ lows) ms r low m d e one h = absurd (omega (arith, d))
-sized_push P (q ∷ rs) [] ms r low m d e one h = absurd (omega (arith, d))
-sized_push P (q ∷ rs) (l ∷ lows) [] r low m d e one h = absurd (omega (arith, e))
-sized_push P (q ∷ rs) (l ∷ lows) (x ∷ ms) r low m d e one h = (h.0, sized_push P rs lows ms r low m (omega (arith, d)) (omega (arith, e)) one h.1)
 
 -- ---- the rule
 
@@ -82,12 +74,15 @@ first_least r mark w time =
 
 -- ---- the store
 
-module _ (settings : Settings) (marks : Marks) (n : ℕ) (held : StoreContent) (run : Option Run) (kept : IsSoundStore (data_of_parts settings marks n held run) held run) where
+module _ (settings : Settings) (marks : Marks) (n : ℕ) (held : StoreContent) (run : Option Run) (kept : IsSoundStore settings marks n held run) where
   abbrev now : StoreData
   now = data_of_parts settings marks n held run
 
-  pub even : IsEven now
-  even = record { lows = kept.sized.lows; cells = kept.sized.cells }
+  its : store_settings now ≡ settings
+  its = its_settings settings marks n held run kept now refl
+
+  faultless : settings_fault settings ≡ None
+  faultless = its_faultless settings marks n held run kept now refl
 
   module _ (r : Rule) (s : RollupState) (well : added_fault settings r ≡ None) (mark : IsTime marks.raw) (rollup : IsRollupOf held r (first_from r marks.raw) s) where
     abbrev low : ℤ
@@ -100,7 +95,7 @@ module _ (settings : Settings) (marks : Marks) (n : ℕ) (held : StoreContent) (
     later = rule_added r low cells now
 
     wide : pos 1 ≤ℤ r.interval
-    wide = added_wide settings r kept.sized.settings well
+    wide = added_wide settings r faultless well
 
     few : HoldsFew n held.columns r cells
     few = λ k.
@@ -112,27 +107,39 @@ module _ (settings : Settings) (marks : Marks) (n : ℕ) (held : StoreContent) (
         let all = kept.sized.facts in
         omega (arith, none, some, all)
 
-    pub is_added : data_of_parts (with_rule r settings) (record { raw = marks.raw; lows = marks.lows ++ low ∷ [] }) n (with_rollup s held) run ≡ later
-    is_added = ap (λ (ms : List CellMap). record {
-      settings = with_rule r settings;
-      marks = record { raw = marks.raw; lows = marks.lows ++ low ∷ [] };
-      running = now.running;
-      waiting = now.waiting;
-      series = held.series;
-      columns = held.columns;
-      accepted = n;
-      cells = ms;
-    }) (map-append (λ (x : RollupState). x.grid.cells) held.rollups (s ∷ []))
+    abbrev marks_later : Marks
+    marks_later = record { raw = marks.raw; lows = marks.lows ++ low ∷ [] }
 
-    pub kept_added : IsSoundStore later (with_rollup s held) run
+    abbrev more : StoreData
+    more = data_of_parts (with_rule r settings) marks_later n (with_rollup s held) run
+
+    its_rules : more.rules ≡ later.rules
+    its_rules =
+        ap (rules_with (settings.rules ++ r ∷ []) marks_later.lows) (map-append (λ (x : RollupState). x.grid.cells) held.rollups (s ∷ []))
+        ∙ with_push settings.rules marks.lows (cells_of held.rollups) r low cells kept.lows (cells_each settings marks held (map column_of held.columns) kept.lows kept.rollups)
+
+    pub is_added : more ≡ later
+    is_added = λ i. record now { rules = its_rules i }
+
+    settings_push : store_settings later ≡ with_rule r settings
+    settings_push =
+        ap (λ rs. record { raw_duration = settings.raw_duration; rules = rs }) (map-push (λ (x : RuleData). x.rule) now.rules (record { rule = r; low = low; cells = cells }))
+        ∙ ap (with_rule r) its
+
+    -- what holds of each rule and of the new one
+    one_more : (P : RuleData → Type 0) → AllByRecursion P now.rules → P (record { rule = r; low = low; cells = cells }) → AllByRecursion P more.rules
+    one_more P all one = subst (AllByRecursion P) (sym its_rules) (all_push P now.rules (record { rule = r; low = low; cells = cells }) all one)
+
+    pub kept_added : IsSoundStore (with_rule r settings) marks_later n (with_rollup s held) run
     kept_added = record {
       rollups = rollups_push settings.rules (map column_of held.columns) held.rollups r s kept.rollups rollup.series;
+      lows = (let d = kept.lows in let a = length-append marks.lows (low ∷ []) in let b = length-append settings.rules (r ∷ []) in omega arith);
       few = kept.few;
-      counts = OfEach-push (HoldsFew n held.columns) settings.rules (cells_of held.rollups) r cells kept.sized.cells few kept.counts;
-      live = OfEach-push (IsLive held.columns) settings.rules (cells_of held.rollups) r cells kept.sized.cells rollup.fresh.live kept.live;
-      possible = OfEach-push HasPossibleCells settings.rules (cells_of held.rollups) r cells kept.sized.cells rollup.possible kept.possible;
+      counts = one_more (λ (x : RuleData). HoldsFew n held.columns x.rule x.cells) kept.counts few;
+      live = one_more (λ (x : RuleData). IsLive held.columns x.rule x.cells) kept.live rollup.fresh.live;
+      possible = one_more (λ (x : RuleData). HasPossibleCells x.rule x.cells) kept.possible rollup.possible;
       sized = record {
-        settings = with_rule-fault settings r kept.sized.settings ∙ well;
+        settings = ap settings_fault (ap store_settings is_added ∙ settings_push) ∙ with_rule-fault settings r faultless ∙ well;
         accepted = kept.sized.accepted;
         facts = kept.sized.facts;
         series = kept.sized.series;
@@ -141,14 +148,11 @@ module _ (settings : Settings) (marks : Marks) (n : ℕ) (held : StoreContent) (
         registered = kept.sized.registered;
         keys = kept.sized.keys;
         once = kept.sized.once;
-        lows = (even_added now r low cells even).lows;
-        cells = (even_added now r low cells even).cells;
-        rules = sized_push (IsSizedRule marks.raw (facts_of held.columns)) settings.rules marks.lows (cells_of held.rollups) r low cells kept.sized.lows kept.sized.cells
-            (record {
-              least = first_least r marks.raw wide mark;
-              most = first_near r marks.raw wide;
-              there = λ f a rolled above. key_there cells (cell_of r f) (λ none. rollup.fresh.there f a rolled above none);
-            }) kept.sized.rules;
+        rules = one_more (IsSizedRule marks.raw (facts_of held.columns)) kept.sized.rules (record {
+          least = first_least r marks.raw wide mark;
+          most = first_near r marks.raw wide;
+          there = λ f a rolled above. key_there cells (cell_of r f) (λ none. rollup.fresh.there f a rolled above none);
+        });
       };
     }
 
@@ -158,34 +162,34 @@ module _ (settings : Settings) (marks : Marks) (n : ℕ) (held : StoreContent) (
       cells = cells;
       fresh = rollup.fresh;
       whole = refl;
-      history = λ opening h st. rule_comes opening h now r cells st even well rollup.fresh;
+      history = λ opening h st. rule_comes opening h now r cells st (ap (λ x. added_fault x r) its ∙ well) rollup.fresh;
       inventory = record {
         columns = refl;
         waiting = refl;
         made = finmap.keys cells;
-        cells = map-append (λ (m : CellMap). finmap.keys m) (cells_of held.rollups) (cells ∷ []);
+        cells = map-append (λ (x : RuleData). finmap.keys x.cells) now.rules (record { rule = r; low = low; cells = cells } ∷ []);
         filled = rollup.filled;
       };
-      left = left_added now r low cells even rollup.fresh;
+      left = left_added now r low cells rollup.fresh;
     }
 
     abbrev HasCome : Settings → Marks → StoreContent → Type 0
-    HasCome x m h = IsSoundStore (data_of_parts x m n h run) h run × RuleComes now (data_of_parts x m n h run) r low
+    HasCome x m h = IsSoundStore x m n h run × RuleComes now (data_of_parts x m n h run) r low
 
-    has_come : HasCome (with_rule r settings) (record { raw = marks.raw; lows = marks.lows ++ low ∷ [] }) (with_rollup s held)
-    has_come = (subst (λ (k : StoreData). IsSoundStore k (with_rollup s held) run) (sym is_added) kept_added, subst (λ (k : StoreData). RuleComes now k r low) (sym is_added) comes)
+    has_come : HasCome (with_rule r settings) marks_later (with_rollup s held)
+    has_come = (kept_added, subst (λ (k : StoreData). RuleComes now k r low) (sym is_added) comes)
 
     pub parts_come : (x : Settings) (m : Marks) (h : StoreContent) → x ≡ with_rule r settings → m ≡ record { raw = marks.raw; lows = marks.lows ++ low ∷ [] } → h ≡ with_rollup s held → HasCome x m h
     parts_come x m h ex em eh =
         subst (λ (y : Settings). HasCome y m h) (sym ex) (subst (λ (y : Marks). HasCome (with_rule r settings) y h) (sym em) (subst (HasCome (with_rule r settings) (record { raw = marks.raw; lows = marks.lows ++ low ∷ [] })) (sym eh) has_come))
 
 -- the same from what the calls ensure
-pub rule_is_added : (settings : Settings) (marks : Marks) (n : ℕ) (held : StoreContent) (run : Option Run) (r : Rule) (low : ℤ) (s : RollupState) (x : Settings) (m : Marks) (h : StoreContent) → IsSoundStore (data_of_parts settings marks n held run) held run → added_fault settings r ≡ None → IsTime marks.raw
+pub rule_is_added : (settings : Settings) (marks : Marks) (n : ℕ) (held : StoreContent) (run : Option Run) (r : Rule) (low : ℤ) (s : RollupState) (x : Settings) (m : Marks) (h : StoreContent) → IsSoundStore settings marks n held run → added_fault settings r ≡ None → IsTime marks.raw
     → low ≡ first_from r marks.raw → IsRollupOf held r low s → x ≡ with_rule r settings → m ≡ record { raw = marks.raw; lows = marks.lows ++ low ∷ [] } → h ≡ with_rollup s held
-    → IsSoundStore (data_of_parts x m n h run) h run × RuleComes (data_of_parts settings marks n held run) (data_of_parts x m n h run) r low
+    → IsSoundStore x m n h run × RuleComes (data_of_parts settings marks n held run) (data_of_parts x m n h run) r low
 rule_is_added settings marks n held run r l s x m h kept well mark is =
     subst (λ (z : ℤ). IsRollupOf held r z s → x ≡ with_rule r settings → m ≡ record { raw = marks.raw; lows = marks.lows ++ z ∷ [] } → h ≡ with_rollup s held
-    → IsSoundStore (data_of_parts x m n h run) h run × RuleComes (data_of_parts settings marks n held run) (data_of_parts x m n h run) r z) (sym is)
+    → IsSoundStore x m n h run × RuleComes (data_of_parts settings marks n held run) (data_of_parts x m n h run) r z) (sym is)
     (λ rollup ex em eh. parts_come settings marks n held run kept r s well mark rollup x m h ex em eh)
 
 -- ---- the call
@@ -196,7 +200,7 @@ failed e = Err e
 abbrev succeeded : ℤ → Result ℤ SettingsError
 succeeded l = Ok l
 
-pub refused_as : (k : StoreData) (r : Rule) (fault : SettingsFault) → added_fault k.settings r ≡ Some fault → AddsRule k k r (Err (Fault fault))
+pub refused_as : (k : StoreData) (r : Rule) (fault : SettingsFault) → added_fault (store_settings k) r ≡ Some fault → AddsRule k k r (Err (Fault fault))
 refused_as k r fault e = record {
   ok = tt;
   err = refl;
@@ -204,8 +208,8 @@ refused_as k r fault e = record {
   taken = λ none. absurd (true≢false (ap is_some (sym e) ∙ none));
 }
 
-pub out_of_memory : (k : StoreData) (r : Rule) → added_fault k.settings r ≡ None → AddsRule k k r (Err OutOfMemory)
+pub out_of_memory : (k : StoreData) (r : Rule) → added_fault (store_settings k) r ≡ None → AddsRule k k r (Err OutOfMemory)
 out_of_memory k r e = record { ok = tt; err = refl; refused = subst (λ o. IfSome o (λ x. failed OutOfMemory ≡ failed (Fault x))) (sym e) tt; taken = λ none. inr refl }
 
-pub rule_came : (old new : StoreData) (r : Rule) (l : ℤ) → added_fault old.settings r ≡ None → RuleComes old new r l → AddsRule old new r (Ok l)
+pub rule_came : (old new : StoreData) (r : Rule) (l : ℤ) → added_fault (store_settings old) r ≡ None → RuleComes old new r l → AddsRule old new r (Ok l)
 rule_came old new r l e came = record { ok = came; err = tt; refused = subst (λ o. IfSome o (λ x. succeeded l ≡ failed (Fault x))) (sym e) tt; taken = λ none. inl (l, refl) }

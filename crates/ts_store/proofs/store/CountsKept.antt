@@ -1,5 +1,5 @@
 -- Counts of cells: at most the number of accepted facts, to which a line adds at most its own facts.
-use Rattle.std.proofs.Common.{◌≡◌, ℕ, ℤ, ◌+◌, ◌≤◌, Bool, true, false, cond, sym, List, [], ◌∷◌, ◌++◌, length, filter, map, refl, ap, subst, inl, inr, ⊎_elim, arith}
+use Rattle.std.proofs.Common.{◌≡◌, ℕ, ◌+◌, ◌≤◌, Bool, true, false, cond, sym, List, [], ◌∷◌, ◌++◌, length, filter, refl, ap, subst, inl, inr, ⊎_elim, arith}
 use Rattle.std.specs.FinMap as finmap
 use Rattle.std.specs.FinMap.{get-empty}
 use Rattle.std.proofs.lemmas.List.{length-append}
@@ -11,11 +11,13 @@ use Rattle.ts_core.specs.store.Cells.{Cell, cell_cmp, cell_of, is_rolled, is_in_
 use Rattle.ts_core.specs.lists.Changes.{or_else}
 use Rattle.ts_core.specs.store.StoreStates.{ColumnPoints, CellParts, facts_of}
 use Rattle.ts_core.specs.store.TwoParts.{with_live}
-use Rattle.ts_core.specs.store.StoreData.{CellMap, no_parts}
-use Rattle.ts_core.specs.moves.StoreMoves.{Puts, refolded, put_cell, put_cells, PutsFacts, GainEmptyCells, GainsEmptyCells}
+use Rattle.ts_core.specs.store.StoreData.{CellMap, RuleData, no_parts, new_data}
+use Rattle.ts_core.specs.moves.StoreMoves.{in_cells, Puts, refolded, put_cell, put_cells, PutsFacts, GainEmptyCells}
 use Rattle.ts_core.proofs.lists.MembersLemmas.{Split, split_at, out_of_middle, Among-filter_was, Among-filter_passes, Among-filter_stays, AllDistinct-filter}
 use Rattle.ts_core.proofs.moves.Freezing.{frozen_in, changed_as}
-use Rattle.ts_core.proofs.lists.BesideLemmas.{OfEach-map, OfEach-beside, OfEach-over}
+use Rattle.ts_core.proofs.store.StateLemmas.{all_map}
+use Rattle.ts_core.proofs.moves.MovesStand.{GainsOf}
+use Rattle.ts_core.proofs.moves.EachRule.{rules_keep}
 use Rattle.ts_store.specs.store.CellCounts.{frozen_count, live_count, HoldFew, HoldsFew}
 
 -- ---- how many more by one more fact
@@ -39,11 +41,11 @@ puts_one p before after f put =
     (λ g a. ⊎_elim {C = Among g (f ∷ filter p before)} (λ e. inl e) (λ k. inr (Among-filter_stays p g before k.0 (Among-filter_passes p g after a))) (put.only g (Among-filter_was p g after a))) in
     omega (arith, l)
 
-puts_all : (p : Fact → Bool) (rs : List Rule) (before : List ColumnPoints) (ms : List CellMap) (after : List ColumnPoints) (ns : List CellMap) (fs : List Fact) → PutsFacts rs before ms after ns fs → length (filter p (facts_of after)) ≤ length (filter p (facts_of before)) + length fs
-puts_all p rs before ms after ns [] put = let e = ap (λ (cs : List ColumnPoints). length (filter p (facts_of cs))) put.0 in omega (arith, e)
-puts_all p rs before ms after ns (f ∷ fs) put =
+puts_all : (p : Fact → Bool) (before after : List ColumnPoints) (rs ss : List RuleData) (fs : List Fact) → PutsFacts before rs after ss fs → length (filter p (facts_of after)) ≤ length (filter p (facts_of before)) + length fs
+puts_all p before after rs ss [] put = let e = ap (λ (cs : List ColumnPoints). length (filter p (facts_of cs))) put.0 in omega (arith, e)
+puts_all p before after rs ss (f ∷ fs) put =
     let one = puts_one p (facts_of before) (facts_of put.0) f put.1.1 in
-    let all = puts_all p rs put.0 (put_cells rs f (facts_of put.0) ms) after ns fs put.2 in
+    let all = puts_all p put.0 after (put_cells f (facts_of put.0) rs) ss fs put.2 in
     omega (arith, one, all)
 
 -- ---- the cells of each rule
@@ -56,32 +58,36 @@ frozen_put r f facts m k =
       | false ↦ refl
     ]
 
-counts-one : (n : ℕ) (before after : List ColumnPoints) (f : Fact) → Puts (facts_of before) (facts_of after) f → (rs : List Rule) (ms : List CellMap) → HoldFew n before rs ms → HoldFew (n + 1) after rs (put_cells rs f (facts_of after) ms)
-counts-one n before after f put rs ms few =
-    OfEach-beside (HoldsFew n before) (HoldsFew (n + 1) after) (λ (r : Rule). put_cell r f (facts_of after))
-    (λ r m all k. let more = puts_one (is_in_cell r k) (facts_of before) (facts_of after) f put in let same = frozen_put r f (facts_of after) m k in let most = all k in omega (arith, more, same, most)) rs ms few
+-- each cell of a rule has at most so many facts
+abbrev few_in : ℕ → List ColumnPoints → RuleData → Type 0
+few_in n columns a = HoldsFew n columns a.rule a.cells
+
+counts-one : (n : ℕ) (before after : List ColumnPoints) (f : Fact) → Puts (facts_of before) (facts_of after) f → (rs : List RuleData) → HoldFew n before rs → HoldFew (n + 1) after (put_cells f (facts_of after) rs)
+counts-one n before after f put =
+    all_map (few_in n before) (few_in (n + 1) after) (in_cells (λ (r : Rule). put_cell r f (facts_of after)))
+    (λ x all k. let more = puts_one (is_in_cell x.rule k) (facts_of before) (facts_of after) f put in let same = frozen_put x.rule f (facts_of after) x.cells k in let most = all k in omega (arith, more, same, most))
 
 -- facts are put in
-pub counts-put : (n : ℕ) (rs : List Rule) (before : List ColumnPoints) (ms : List CellMap) (after : List ColumnPoints) (ns : List CellMap) (fs : List Fact) → PutsFacts rs before ms after ns fs → HoldFew n before rs ms → HoldFew (n + length fs) after rs ns
-counts-put n rs before ms after ns [] put few = subst (λ (k : ℕ). HoldFew k after rs ns) (let e : n ≡ n + 0 = omega arith in e) (subst (λ (cs : List ColumnPoints). HoldFew n cs rs ns) (sym put.0) (subst (HoldFew n before rs) (sym put.1) few))
-counts-put n rs before ms after ns (f ∷ fs) put few =
-    subst (λ (k : ℕ). HoldFew k after rs ns) (let e : n + 1 + length fs ≡ n + length (f ∷ fs) = omega arith in e)
-    (counts-put (n + 1) rs put.0 (put_cells rs f (facts_of put.0) ms) after ns fs put.2 (counts-one n before put.0 f put.1.1 rs ms few))
+pub counts-put : (n : ℕ) (before after : List ColumnPoints) (rs ss : List RuleData) (fs : List Fact) → PutsFacts before rs after ss fs → HoldFew n before rs → HoldFew (n + length fs) after ss
+counts-put n before after rs ss [] put few = subst (λ (k : ℕ). HoldFew k after ss) (let e : n ≡ n + 0 = omega arith in e) (subst (λ (cs : List ColumnPoints). HoldFew n cs ss) (sym put.0) (subst (HoldFew n before) (sym put.1) few))
+counts-put n before after rs ss (f ∷ fs) put few =
+    subst (λ (k : ℕ). HoldFew k after ss) (let e : n + 1 + length fs ≡ n + length (f ∷ fs) = omega arith in e)
+    (counts-put (n + 1) put.0 after (put_cells f (facts_of put.0) rs) ss fs put.2 (counts-one n before put.0 f put.1.1 rs few))
 
 -- columns and cells are created, without facts
-pub counts-grown : (n : ℕ) (before after : List ColumnPoints) → facts_of after ≡ facts_of before → (facts : List Fact) (rs : List Rule) (lows : List ℤ) (ms ns : List CellMap) → length lows ≡ length rs → GainEmptyCells rs lows facts ms ns → HoldFew n before rs ms → HoldFew n after rs ns
-counts-grown n before after same facts rs lows ms ns l capacity few =
-    OfEach-over (HoldsFew n before) (λ (x : Rule × ℤ). GainsEmptyCells x.0 x.1 facts) (HoldsFew n after)
-    (λ r low m x gains all k.
-    let frozen : frozen_count x k ≡ frozen_count m k = ap (λ (a : CellParts). a.frozen.count) (gains.parts k) in
-    let live : live_count r k after ≡ live_count r k before = ap (λ fs. length (filter (is_in_cell r k) fs)) same in
+pub counts-grown : (n : ℕ) (before after : List ColumnPoints) → facts_of after ≡ facts_of before → (facts : List Fact) (rs ss : List RuleData) → GainEmptyCells facts rs ss → HoldFew n before rs → HoldFew n after ss
+counts-grown n before after same facts =
+    rules_keep (GainsOf facts) (few_in n before) (few_in n after)
+    (λ x m gains all k.
+    let frozen : frozen_count m k ≡ frozen_count x.cells k = ap (λ (a : CellParts). a.frozen.count) (gains.parts k) in
+    let live : live_count x.rule k after ≡ live_count x.rule k before = ap (λ fs. length (filter (is_in_cell x.rule k) fs)) same in
     let most = all k in
-    omega (arith, frozen, live, most)) rs lows ms ns l capacity few
+    omega (arith, frozen, live, most))
 
 -- nothing is there yet
-pub counts-new : (rs : List Rule) → HoldFew 0 [] rs (map (λ (r : Rule). finmap.empty) rs)
-counts-new rs =
-    OfEach-map (HoldsFew 0 []) (λ (r : Rule). finmap.empty) (λ r k. let none : frozen_count finmap.empty k ≡ 0 = ap (λ o. (or_else no_parts o).frozen.count) (get-empty cell_cmp k) in omega (arith, none)) rs
+pub counts-new : (rs : List Rule) → HoldFew 0 [] (new_data (record { raw_duration = 0; rules = rs })).rules
+counts-new [] = tt
+counts-new (r ∷ rs) = (λ k. let none : frozen_count finmap.empty k ≡ 0 = ap (λ o. (or_else no_parts o).frozen.count) (get-empty cell_cmp k) in omega (arith, none), counts-new rs)
 
 -- ---- all facts
 
@@ -89,9 +95,9 @@ all_pass : (fs : List Fact) → filter (λ (f : Fact). true) fs ≡ fs
 all_pass [] = refl
 all_pass (f ∷ fs) = ap (λ gs. f ∷ gs) (all_pass fs)
 
-pub facts-put : (rs : List Rule) (before : List ColumnPoints) (ms : List CellMap) (after : List ColumnPoints) (ns : List CellMap) (fs : List Fact) → PutsFacts rs before ms after ns fs → length (facts_of after) ≤ length (facts_of before) + length fs
-facts-put rs before ms after ns fs put =
-    let most = puts_all (λ (f : Fact). true) rs before ms after ns fs put in
+pub facts-put : (before after : List ColumnPoints) (rs ss : List RuleData) (fs : List Fact) → PutsFacts before rs after ss fs → length (facts_of after) ≤ length (facts_of before) + length fs
+facts-put before after rs ss fs put =
+    let most = puts_all (λ (f : Fact). true) before after rs ss fs put in
     let new = ap (λ (gs : List Fact). length gs) (all_pass (facts_of after)) in
     let old = ap (λ (gs : List Fact). length gs) (all_pass (facts_of before)) in
     omega (arith, most, new, old)

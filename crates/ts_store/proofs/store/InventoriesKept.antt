@@ -13,7 +13,7 @@ use Rattle.ts_core.specs.settings.Settings.{Rule, Settings}
 use Rattle.ts_core.specs.store.Cells.{Cell}
 use Rattle.ts_core.specs.moves.Runs.{batches_of, batches_left, steps_left}
 use Rattle.ts_core.specs.store.StoreStates.{facts_of}
-use Rattle.ts_core.specs.store.StoreData.{CellMap, StoreData, state_of, rules_of, new_data}
+use Rattle.ts_core.specs.store.StoreData.{CellMap, RuleData, StoreData, store_marks, rule_cells, state_of, new_data}
 use Rattle.ts_core.specs.moves.StoreMoves.{all_moved, points_below, kept_points, run_ended}
 use Rattle.ts_core.proofs.lists.Comparisons.{lt_not}
 use Rattle.ts_core.proofs.lists.MembersLemmas.{Among-filter_stays}
@@ -27,13 +27,13 @@ use Rattle.ts_store.specs.declared.retain.StepAnswer.TheVariants.{Moved, Done}
 use Rattle.ts_store.proofs.retain.RunsGoOn.{kept-names}
 use Rattle.ts_store.proofs.retain.BatchesLeft.{below_fewer, none_below, removes_above, of-all}
 
--- the keys of each map
-abbrev pub all_keys : List CellMap → List (List Cell)
-all_keys ms = map (λ (m : CellMap). finmap.keys m) ms
+-- the keys of the cells of each rule
+abbrev pub all_keys : List RuleData → List (List Cell)
+all_keys rs = map (λ (a : RuleData). finmap.keys a.cells) rs
 
 -- ---- a new store
 
-none_keys : (rs : List Rule) → all_keys (map (λ (r : Rule). finmap.empty) rs) ≡ map (λ (r : Rule). []) rs
+none_keys : (rs : List Rule) → all_keys (new_data (record { raw_duration = 0; rules = rs })).rules ≡ map (λ (r : Rule). []) rs
 none_keys [] = refl
 none_keys (r ∷ rs) = ap₂ (λ (x : List Cell) xs. x ∷ xs) no_keys (none_keys rs)
 
@@ -42,21 +42,20 @@ inventory_new settings = λ i. record { columns = []; waiting = []; cells = none
 
 -- ---- a column is moved
 
-keys_moved : (rs : List Rule) (c : Column) (ps : List (ℤ × ℤ)) (left : List Fact) (ms : List CellMap) → all_keys (all_moved rs c ps left ms) ≡ all_keys ms
-keys_moved [] c ps left ms = refl
-keys_moved (r ∷ rs) c ps left [] = refl
-keys_moved (r ∷ rs) c ps left (m ∷ ms) = ap₂ (λ (x : List Cell) xs. x ∷ xs) (keys_column r c ps left m) (keys_moved rs c ps left ms)
+keys_moved : (c : Column) (ps : List (ℤ × ℤ)) (left : List Fact) (rs : List RuleData) → all_keys (all_moved c ps left rs) ≡ all_keys rs
+keys_moved c ps left [] = refl
+keys_moved c ps left (x ∷ rs) = ap₂ (λ (a : List Cell) as'. a ∷ as') (keys_column x.rule c ps left x.cells) (keys_moved c ps left rs)
 
-moves_to : (old new : StoreData) → MovesFirst old new → StepsTo old.marks.lows (inventory_of old) Moved (inventory_of new)
+moves_to : (old new : StoreData) → MovesFirst old new → StepsTo (store_marks old).lows (inventory_of old) Moved (inventory_of new)
 moves_to old new m =
     let same : inventory_of new ≡ record (inventory_of old) { waiting = m.others } =
     ap inventory_of m.moved
     ∙ (λ i. record {
-      columns = kept-names m.column old.marks.raw old.columns i;
+      columns = kept-names m.column old.raw_mark old.columns i;
       waiting = m.others;
-      cells = keys_moved old.settings.rules m.column (points_below old.marks.raw m.points) (facts_of (map (kept_points m.column old.marks.raw) old.columns)) old.cells i;
+      cells = keys_moved m.column (points_below old.raw_mark m.points) (facts_of (map (kept_points m.column old.raw_mark) old.columns)) old.rules i;
     }) in
-    subst (StepsTo old.marks.lows (inventory_of old) Moved) (sym same) (StepsTo.moves m.column m.others m.waits)
+    subst (StepsTo (store_marks old).lows (inventory_of old) Moved) (sym same) (StepsTo.moves m.column m.others m.waits)
 
 -- ---- cells are removed
 
@@ -76,21 +75,20 @@ expires low m n l =
       once = keys_once n;
     }
 
-first_expires : (lows : List ℤ) (ms ns : List CellMap) → FirstLoses lows ms ns → FirstExpires lows (all_keys ms) (all_keys ns)
-first_expires [] ms ns l = absurd l
-first_expires (low ∷ lows) [] ns l = absurd l
-first_expires (low ∷ lows) (m ∷ ms) [] l = absurd l
-first_expires (low ∷ lows) (m ∷ ms) (n ∷ ns) l =
-    ⊎_elim {C = FirstExpires (low ∷ lows) (all_keys (m ∷ ms)) (all_keys (n ∷ ns))} (λ p. inl (expires low m n p.0, ap all_keys p.1))
-    (λ p. inr (none_below low m p.0, ap (λ (x : CellMap). finmap.keys x) p.1, first_expires lows ms ns p.2)) l
+first_expires : (rs ss : List RuleData) → FirstLoses rs ss → FirstExpires (map (λ (a : RuleData). a.low) rs) (all_keys rs) (all_keys ss)
+first_expires [] ss l = absurd l
+first_expires (a ∷ rs) [] l = absurd l
+first_expires (a ∷ rs) (b ∷ ss) l =
+    ⊎_elim {C = FirstExpires (map (λ (x : RuleData). x.low) (a ∷ rs)) (all_keys (a ∷ rs)) (all_keys (b ∷ ss))} (λ p. inl (expires a.low a.cells b.cells p.0.0, ap all_keys p.1))
+    (λ p. inr (none_below a.low a.cells p.0, ap (λ (x : RuleData). finmap.keys x.cells) p.1, first_expires rs ss p.2)) l
 
-removes_to : (old new : StoreData) → RemovesCells old new → StepsTo old.marks.lows (inventory_of old) Moved (inventory_of new)
+removes_to : (old new : StoreData) → RemovesCells old new → StepsTo (store_marks old).lows (inventory_of old) Moved (inventory_of new)
 removes_to old new m =
-    let same : inventory_of new ≡ record (inventory_of old) { cells = all_keys new.cells } = ap inventory_of m.others in
-    subst (StepsTo old.marks.lows (inventory_of old) Moved) (sym same) (StepsTo.removes (all_keys new.cells) m.waits (first_expires old.marks.lows old.cells new.cells m.loses))
+    let same : inventory_of new ≡ record (inventory_of old) { cells = all_keys new.rules } = ap inventory_of m.others in
+    subst (StepsTo (store_marks old).lows (inventory_of old) Moved) (sym same) (StepsTo.removes (all_keys new.rules) m.waits (first_expires old.rules new.rules m.loses))
 
-pub steps_to : (old new : StoreData) → MovesFirst old new ⊎ RemovesCells old new → StepsTo old.marks.lows (inventory_of old) Moved (inventory_of new)
-steps_to old new m = ⊎_elim {C = StepsTo old.marks.lows (inventory_of old) Moved (inventory_of new)} (moves_to old new) (removes_to old new) m
+pub steps_to : (old new : StoreData) → MovesFirst old new ⊎ RemovesCells old new → StepsTo (store_marks old).lows (inventory_of old) Moved (inventory_of new)
+steps_to old new m = ⊎_elim {C = StepsTo (store_marks old).lows (inventory_of old) Moved (inventory_of new)} (moves_to old new) (removes_to old new) m
 
 -- ---- the end
 
@@ -98,20 +96,19 @@ steps_to old new m = ⊎_elim {C = StepsTo old.marks.lows (inventory_of old) Mov
 batches_first : (low : ℤ) (lows : List ℤ) (a : List Cell) (cells : List (List Cell)) → batches_in (low ∷ lows) (a ∷ cells) ≡ batches_of (expired_in low a) + batches_in lows cells
 batches_first low lows a cells = sum_by-cons (λ (p : ℤ × List Cell). batches_of (expired_in p.0 p.1)) (low, a) (zip lows cells)
 
-no_turns : (lows : List ℤ) (ms : List CellMap) → AreAbove lows ms → batches_in lows (all_keys ms) ≡ 0
-no_turns [] ms a = refl
-no_turns (low ∷ lows) [] a = refl
-no_turns (low ∷ lows) (m ∷ ms) a = batches_first low lows (finmap.keys m) (all_keys ms) ∙ ap₂ (λ x y. batches_of x + y) (none_below low m a.0) (no_turns lows ms a.1)
+no_turns : (rs : List RuleData) → AreAbove rs → batches_in (map (λ (a : RuleData). a.low) rs) (all_keys rs) ≡ 0
+no_turns [] a = refl
+no_turns (x ∷ rs) a = batches_first x.low (map (λ (y : RuleData). y.low) rs) (finmap.keys x.cells) (all_keys rs) ∙ ap₂ (λ m n. batches_of m + n) (none_below x.low x.cells a.0) (no_turns rs a.1)
 
 none_wait : (k : StoreData) → k.running ≡ true → steps_left (state_of k) ≡ 1 → k.waiting ≡ []
 none_wait k runs last =
-    let left : length k.waiting + batches_left (rules_of k.settings.rules k.marks.lows k.cells) + 1 ≡ 1 = sym (ap (λ b. cond b (length k.waiting + batches_left (rules_of k.settings.rules k.marks.lows k.cells) + 1) 0) runs) ∙ last in
+    let left : length k.waiting + batches_left (map rule_cells k.rules) + 1 ≡ 1 = sym (ap (λ b. cond b (length k.waiting + batches_left (map rule_cells k.rules) + 1) 0) runs) ∙ last in
     nil_from_length k.waiting (omega arith)
 
-pub ends_to : (old new : StoreData) → old.running ≡ true → steps_left (state_of old) ≡ 1 → new ≡ run_ended old → AreAbove new.marks.lows new.cells → StepsTo old.marks.lows (inventory_of old) Done (inventory_of new)
+pub ends_to : (old new : StoreData) → old.running ≡ true → steps_left (state_of old) ≡ 1 → new ≡ run_ended old → AreAbove new.rules → StepsTo (store_marks old).lows (inventory_of old) Done (inventory_of new)
 ends_to old new runs last ended above =
-    let none : AreAbove old.marks.lows old.cells = subst (λ (k : StoreData). AreAbove k.marks.lows k.cells) ended above in
-    subst (StepsTo old.marks.lows (inventory_of old) Done) (sym (ap inventory_of ended)) (StepsTo.ends (none_wait old runs last) (no_turns old.marks.lows old.cells none))
+    let none : AreAbove old.rules = subst (λ (k : StoreData). AreAbove k.rules) ended above in
+    subst (StepsTo (store_marks old).lows (inventory_of old) Done) (sym (ap inventory_of ended)) (StepsTo.ends (none_wait old runs last) (no_turns old.rules none))
 
 -- ---- what steps keep
 
@@ -208,18 +205,18 @@ one_recent low a n keeps none = record {
   once = keys_once n;
 }
 
-recent_at : (lows : List ℤ) (old : List (List Cell)) (ns : List CellMap) → KeepAll lows old (all_keys ns) → batches_in lows (all_keys ns) ≡ 0
+recent_at : (lows : List ℤ) (old : List (List Cell)) (ns : List RuleData) → KeepAll lows old (all_keys ns) → batches_in lows (all_keys ns) ≡ 0
     → (i : ℕ) (low : ℤ) (a b : List Cell) → IsAt lows i low → IsAt old i a → IsAt (all_keys ns) i b → LeavesFrom low a b
 recent_at [] old ns keeps none i low a b at_low at_old at_new = absurd (none-some low at_low)
 recent_at (l ∷ lows) [] ns keeps none i low a b at_low at_old at_new = absurd (none-some a at_old)
 recent_at (l ∷ lows) (x ∷ old) [] keeps none i low a b at_low at_old at_new = absurd (none-some b at_new)
 recent_at (l ∷ lows) (x ∷ old) (n ∷ ns) keeps none zero low a b at_low at_old at_new =
-    let parts = batches_first l lows (finmap.keys n) (all_keys ns) in
+    let parts = batches_first l lows (finmap.keys n.cells) (all_keys ns) in
     subst (λ (q : ℤ). LeavesFrom q a b) (same_Some l low at_low)
     (subst (λ (q : List Cell). LeavesFrom l q b) (same_Some x a at_old)
-    (subst (λ (q : List Cell). LeavesFrom l x q) (same_Some (finmap.keys n) b at_new) (one_recent l x n keeps.0 (omega arith))))
+    (subst (λ (q : List Cell). LeavesFrom l x q) (same_Some (finmap.keys n.cells) b at_new) (one_recent l x n.cells keeps.0 (omega arith))))
 recent_at (l ∷ lows) (x ∷ old) (n ∷ ns) keeps none (suc i) low a b at_low at_old at_new =
-    let parts = batches_first l lows (finmap.keys n) (all_keys ns) in
+    let parts = batches_first l lows (finmap.keys n.cells) (all_keys ns) in
     recent_at lows old ns keeps.1 (omega arith) i low a b at_low at_old at_new
 
 kept_length : (lows : List ℤ) (old new : List (List Cell)) → KeepAll lows old new → length new ≡ length old
@@ -234,7 +231,7 @@ pub record HasEnded (rules : List Rule) (lows : List ℤ) (old new : Inventory) 
   pub recent : LeavesRecent rules lows old new
   pub count : taken + 1 ≡ steps_in lows old
 
-ended_now : (rules : List Rule) (lows : List ℤ) (old s : Inventory) (ns : List CellMap) (taken : ℕ) → s.cells ≡ all_keys ns → s.waiting ≡ [] → batches_in lows s.cells ≡ 0 → KeptSince lows old s taken → HasEnded rules lows old s taken
+ended_now : (rules : List Rule) (lows : List ℤ) (old s : Inventory) (ns : List RuleData) (taken : ℕ) → s.cells ≡ all_keys ns → s.waiting ≡ [] → batches_in lows s.cells ≡ 0 → KeptSince lows old s taken → HasEnded rules lows old s taken
 ended_now rules lows old s ns taken keys waits none since =
     let kept : KeepAll lows old.cells (all_keys ns) = subst (KeepAll lows old.cells) keys since.cells in
     let batches : batches_in lows (all_keys ns) ≡ 0 = sym (ap (batches_in lows) keys) ∙ none in
@@ -249,10 +246,10 @@ ended_now rules lows old s ns taken keys waits none since =
       count = omega (arith, before, none, no_column);
     }
 
-over : (rules : List Rule) (lows : List ℤ) (old s t : Inventory) (ns : List CellMap) (taken : ℕ) (answer : StepAnswer) → t.cells ≡ all_keys ns → KeptSince lows old s taken → answer ≡ Done → StepsTo lows s answer t → HasEnded rules lows old t taken
+over : (rules : List Rule) (lows : List ℤ) (old s t : Inventory) (ns : List RuleData) (taken : ℕ) (answer : StepAnswer) → t.cells ≡ all_keys ns → KeptSince lows old s taken → answer ≡ Done → StepsTo lows s answer t → HasEnded rules lows old t taken
 over rules lows old s t ns taken answer keys since done (StepsTo.moves column others waits) = absurd cc
 over rules lows old s t ns taken answer keys since done (StepsTo.removes cells waits first) = absurd cc
 over rules lows old s t ns taken answer keys since done (StepsTo.ends waits batches) = ended_now rules lows old s ns taken keys waits batches since
 
 pub run_over : (rules : List Rule) (lows : List ℤ) (old s : Inventory) (new : StoreData) (taken : ℕ) (answer : StepAnswer) → KeptSince lows old s taken → answer ≡ Done → StepsTo lows s answer (inventory_of new) → HasEnded rules lows old (inventory_of new) taken
-run_over rules lows old s new taken answer since done step = over rules lows old s (inventory_of new) new.cells taken answer refl since done step
+run_over rules lows old s new taken answer since done step = over rules lows old s (inventory_of new) new.rules taken answer refl since done step

@@ -1,5 +1,5 @@
 -- Cells that their rule can have, after each transition.
-use Rattle.std.proofs.Common.{◌≡◌, ℤ, List, [], ◌∷◌, length, map, refl, sym, ◌∙◌, subst, ⊎_elim, Some, None}
+use Rattle.std.proofs.Common.{◌≡◌, ℤ, List, [], ◌∷◌, refl, sym, ◌∙◌, subst, ⊎_elim, Some, None}
 use Rattle.std.specs.List.{AllByRecursion}
 use Rattle.std.specs.FinMap as finmap
 use Rattle.std.specs.FinMap.{get-empty}
@@ -14,23 +14,27 @@ use Rattle.ts_core.specs.settings.Settings.{Rule}
 use Rattle.ts_core.specs.store.History.{MayBeTaken}
 use Rattle.ts_core.specs.store.Cells.{Cell, cell_cmp, same_cell, cell_of, is_rolled}
 use Rattle.ts_core.specs.store.StoreStates.{CellParts}
-use Rattle.ts_core.specs.store.StoreData.{CellMap}
-use Rattle.ts_core.specs.moves.StoreMoves.{moved_cells, all_moved, IsOf, AreOf}
+use Rattle.ts_core.specs.store.StoreData.{CellMap, RuleData, OfEachRule, new_data}
+use Rattle.ts_core.specs.moves.StoreMoves.{in_cells, moved_cells, all_moved, IsOf, AreOf}
 use Rattle.ts_core.proofs.plans.PieceCells.{same_cell-eq}
 use Rattle.ts_core.proofs.moves.StepStands.{keys_column}
 use Rattle.ts_core.proofs.moves.MovesStand.{key_there, key_not}
-use Rattle.ts_core.proofs.lists.BesideLemmas.{OfEach-map, OfEach-beside, OfEach-changed}
-use Rattle.ts_store.proofs.write.RuleLists.{of_rules}
-use Rattle.ts_store.specs.write.LinesPut.{OfEachRule, IsOfFacts, PutsCells, GainsCells}
+use Rattle.ts_core.proofs.store.StateLemmas.{all_map}
+use Rattle.ts_core.proofs.moves.EachRule.{rules_keep}
+use Rattle.ts_store.specs.write.LinesPut.{IsOfFacts, PutsCells, GainsCells}
 use Rattle.ts_store.specs.store.PossibleCells.{IsPossibleCell, HasPossibleCells, HavePossibleCells}
 
-pub possible_new : (rs : List Rule) → HavePossibleCells rs (map (λ (r : Rule). finmap.empty) rs)
-possible_new rs = OfEach-map HasPossibleCells (λ (r : Rule). finmap.empty) (λ r k a. absurd (key_not finmap.empty k a (get-empty cell_cmp k))) rs
+-- the cells of a rule are ones that it can have
+abbrev possible_in : RuleData → Type 0
+possible_in a = HasPossibleCells a.rule a.cells
+
+pub possible_new : (rs : List Rule) → HavePossibleCells (new_data (record { raw_duration = 0; rules = rs })).rules
+possible_new [] = tt
+possible_new (r ∷ rs) = (λ k a. absurd (key_not finmap.empty k a (get-empty cell_cmp k)), possible_new rs)
 
 -- a column is moved
-pub possible_moved : (c : Column) (ps : List (ℤ × ℤ)) (left : List Fact) (rs : List Rule) (ms : List CellMap) → HavePossibleCells rs ms → HavePossibleCells rs (all_moved rs c ps left ms)
-possible_moved c ps left rs ms h =
-    OfEach-beside HasPossibleCells HasPossibleCells (λ (r : Rule). moved_cells r c ps left) (λ r m all k a. all k (subst (Among k) (keys_column r c ps left m) a)) rs ms h
+pub possible_moved : (c : Column) (ps : List (ℤ × ℤ)) (left : List Fact) (rs : List RuleData) → HavePossibleCells rs → HavePossibleCells (all_moved c ps left rs)
+possible_moved c ps left = all_map possible_in possible_in (in_cells (λ (r : Rule). moved_cells r c ps left)) (λ x all k a. all k (subst (Among k) (keys_column x.rule c ps left x.cells) a))
 
 -- a key has parts
 some_there : (m : CellMap) (k : Cell) → Among k (finmap.keys m) → (p : CellParts) × (finmap.get m k ≡ Some p)
@@ -44,8 +48,8 @@ key_of : (m : CellMap) (k : Cell) (p : CellParts) → finmap.get m k ≡ Some p 
 key_of m k p e = key_there m k (λ z. none-some p (sym z ∙ e))
 
 -- cells are removed
-pub possible_gone : (rs : List Rule) (ms ns : List CellMap) → AreOf ms ns → HavePossibleCells rs ms → HavePossibleCells rs ns
-possible_gone rs ms ns e h = OfEach-changed HasPossibleCells IsOf HasPossibleCells (λ r m n of all k a. let s = some_there n k a in all k (key_of m k s.0 (of k s.0 s.1))) rs ms ns e h
+pub possible_gone : (rs ss : List RuleData) → AreOf rs ss → HavePossibleCells rs → HavePossibleCells ss
+possible_gone = rules_keep (λ r low. IsOf) possible_in possible_in (λ x n of all k a. let s = some_there n k a in all k (key_of x.cells k s.0 (of k s.0 s.1)))
 
 -- ---- cells of facts
 
@@ -61,17 +65,17 @@ of_fact r k facts valid o =
     let t = and_parts (is_rolled r o.0) (same_cell (cell_of r o.0) k) o.2 in
     subst (IsPossibleCell r) (same_cell-eq (cell_of r o.0) k t.1) (cell_possible r o.0 (valid o.0 o.1))
 
-pub possible_gained : (facts : List Fact) → ((f : Fact) → Among f facts → IsTime f.time) → (rs : List Rule) (lows : List ℤ) (ms ns : List CellMap) → length lows ≡ length rs → OfEachRule (GainsCells facts) rs lows ms ns → HavePossibleCells rs ms → HavePossibleCells rs ns
-possible_gained facts valid rs lows ms ns l e h =
-    of_rules (GainsCells facts) HasPossibleCells HasPossibleCells
-    (λ r low m n g all k a.
+pub possible_gained : (facts : List Fact) → ((f : Fact) → Among f facts → IsTime f.time) → (rs ss : List RuleData) → OfEachRule (GainsCells facts) rs ss → HavePossibleCells rs → HavePossibleCells ss
+possible_gained facts valid =
+    rules_keep (GainsCells facts) possible_in possible_in
+    (λ x n g all k a.
     let s = some_there n k a in
-    elim (finmap.get m k) as (λ o. finmap.get m k ≡ o → IsPossibleCell r k) [
-      | None ↦ λ z. of_fact r k facts valid (g.created k s.0 z s.1).2
-      | Some p ↦ λ z. all k (key_of m k p z)
-    ] refl) rs lows ms ns l e h
+    elim (finmap.get x.cells k) as (λ o. finmap.get x.cells k ≡ o → IsPossibleCell x.rule k) [
+      | None ↦ λ z. of_fact x.rule k facts valid (g.created k s.0 z s.1).2
+      | Some p ↦ λ z. all k (key_of x.cells k p z)
+    ] refl)
 
-pub possible_put : (facts : List Fact) → ((f : Fact) → Among f facts → IsTime f.time) → (rs : List Rule) (lows : List ℤ) (ms ns : List CellMap) → length lows ≡ length rs → OfEachRule (PutsCells facts) rs lows ms ns → HavePossibleCells rs ms → HavePossibleCells rs ns
-possible_put facts valid rs lows ms ns l e h =
-    of_rules (PutsCells facts) HasPossibleCells HasPossibleCells
-    (λ r low m n g all k a. ⊎_elim {C = IsPossibleCell r k} (λ b. all k (key_there m k b)) (λ b. of_fact r k facts valid b.1) ((g.there k).0 (key_not n k a))) rs lows ms ns l e h
+pub possible_put : (facts : List Fact) → ((f : Fact) → Among f facts → IsTime f.time) → (rs ss : List RuleData) → OfEachRule (PutsCells facts) rs ss → HavePossibleCells rs → HavePossibleCells ss
+possible_put facts valid =
+    rules_keep (PutsCells facts) possible_in possible_in
+    (λ x n g all k a. ⊎_elim {C = IsPossibleCell x.rule k} (λ b. all k (key_there x.cells k b)) (λ b. of_fact x.rule k facts valid b.1) ((g.there k).0 (key_not n k a)))

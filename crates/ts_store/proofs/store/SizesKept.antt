@@ -1,45 +1,37 @@
 -- The plain facts about a store's data, which hold of a new store and after each transition.
 use Rattle.std.proofs.Common.{◌≡◌, ℕ, ℤ, pos, ◌+ℤ◌, ◌+◌, ◌≤◌, ◌≤ℤ◌, ◌^◌, List, [], ◌∷◌, ◌++◌, length, filter, map, sym, ◌∙◌, ap, subst, inl, inr, ⊎_elim, None, arith}
-use Rattle.std.proofs.lemmas.Slice.Zip.{length-zip}
+use Rattle.std.proofs.lemmas.Simd.{map-map}
 use Rattle.std.specs.Int.{int_max}
 use Rattle.std.specs.Int.Signed.{≤ℤ_refl}
 use Rattle.std.specs.FinMap as finmap
-use Rattle.std.specs.List.{AllByRecursion, zip}
+use Rattle.std.specs.List.{AllByRecursion}
 use Rattle.std.proofs.lemmas.Int.{ints, clamps}
-use Rattle.std.proofs.lemmas.List.{length-map}
+use Rattle.std.proofs.lemmas.List.{map-id}
 use Rattle.ts_core.specs.lists.Members.{Among, AllDistinct}
 use Rattle.ts_core.specs.facts.Facts.{Series, Column, Fact}
 use Rattle.ts_core.specs.settings.Settings.{Rule, Settings, Outlasts}
 use Rattle.ts_core.specs.settings.SettingsFaults.{settings_fault}
 use Rattle.ts_core.specs.facts.Times.{least_time}
 use Rattle.ts_core.specs.store.History.{kept_since}
-use Rattle.ts_core.specs.store.Marks.{index_of, low_of}
+use Rattle.ts_core.specs.store.Marks.{index_of}
 use Rattle.ts_core.specs.store.Cells.{cell_of}
-use Rattle.ts_core.specs.store.StoreStates.{ColumnPoints, RuleCells, column_of, facts_of}
-use Rattle.ts_core.specs.store.StoreData.{CellMap, StoreData, rule_cells, rules_of, new_data}
-use Rattle.ts_core.specs.moves.StoreMoves.{PutsFacts, GainEmptyCells, Expired, put_cells, points_below, kept_points, all_moved, column_moved, raised, run_begun, with_cells, run_ended, grown, put_facts, KeepsFrom, moved_cells, GainsEmptyCells}
+use Rattle.ts_core.specs.store.StoreStates.{ColumnPoints, column_of, facts_of}
+use Rattle.ts_core.specs.store.StoreData.{RuleData, StoreData, store_settings, new_data}
+use Rattle.ts_core.specs.moves.StoreMoves.{in_cells, PutsFacts, GainEmptyCells, Expired, put_cell, put_cells, points_below, kept_points, all_moved, column_moved, raised_rule, run_begun, with_rules, run_ended, grown, put_facts, KeepsFrom, moved_cells}
 use Rattle.ts_core.proofs.settings.SettingsLaws.{settings_wide, settings_are}
 use Rattle.ts_core.proofs.aggregates.BucketsOrder.{bucket_le}
-use Rattle.ts_core.proofs.store.StateLemmas.{le_trans, int_max-left, int_max-right}
+use Rattle.ts_core.proofs.store.StateLemmas.{all_map, le_trans, int_max-left, int_max-right}
 use Rattle.ts_core.proofs.store.LowIndices.{kept_since-le}
 use Rattle.ts_core.proofs.lists.ListSteps.{length-filter}
 use Rattle.ts_core.proofs.lists.MembersLemmas.{Among-left, Among-right, Among-append, Among-filter_was, AllDistinct-filter}
 use Rattle.ts_core.proofs.store.Moves.{is_left}
 use Rattle.ts_core.proofs.store.RunSteps.{facts_of-left, columns_of-left}
 use Rattle.ts_core.proofs.moves.StepStands.{keys_column}
-use Rattle.ts_core.proofs.moves.MovesStand.{key_there, key_not, put_cell-keys, GainsBeside, rules_keep}
-use Rattle.ts_core.proofs.lists.BesideLemmas.{length-beside, AllZipBeside-long}
+use Rattle.ts_core.proofs.moves.MovesStand.{key_there, key_not, put_cell-keys, GainsOf, HaveCellsOf, room_cells}
+use Rattle.ts_core.proofs.moves.EachRule.{AnyCells, rules_keep, settings_same, each_in}
 use Rattle.ts_line.specs.Names.{IsKey, IsStatable}
 use Rattle.ts_store.specs.store.SizedStores.{IsSizedRule, IsSized}
 use Rattle.ts_store.proofs.store.CountsKept.{facts-put}
-use Rattle.ts_store.proofs.write.CellsMade.{line-length}
-
--- ---- lists of the same length
-
-capacity-length : (rs : List Rule) (lows : List ℤ) (facts : List Fact) (ms ns : List CellMap) → length lows ≡ length rs → length ms ≡ length rs → GainEmptyCells rs lows facts ms ns → length ns ≡ length rs
-capacity-length rs lows facts ms ns l e capacity =
-    let long = length-zip rs lows in
-    AllZipBeside-long (λ (x : Rule × ℤ). GainsEmptyCells x.0 x.1 facts) (zip rs lows) ms ns (omega (arith, long, l, e)) capacity ∙ e
 
 -- ---- numbers
 
@@ -58,32 +50,38 @@ also_near x j a = omega (arith, ints)
 
 -- ---- columns and facts after facts are put
 
-pub puts_names : (rs : List Rule) (before : List ColumnPoints) (ms : List CellMap) (after : List ColumnPoints) (ns : List CellMap) (fs : List Fact) → PutsFacts rs before ms after ns fs → map column_of after ≡ map column_of before
-puts_names rs before ms after ns [] p = ap (map column_of) p.0
-puts_names rs before ms after ns (f ∷ fs) p = puts_names rs p.0 (put_cells rs f (facts_of p.0) ms) after ns fs p.2 ∙ p.1.0
+pub puts_names : (before after : List ColumnPoints) (rs ss : List RuleData) (fs : List Fact) → PutsFacts before rs after ss fs → map column_of after ≡ map column_of before
+puts_names before after rs ss [] p = ap (map column_of) p.0
+puts_names before after rs ss (f ∷ fs) p = puts_names p.0 after (put_cells f (facts_of p.0) rs) ss fs p.2 ∙ p.1.0
 
-puts-once : (rs : List Rule) (before : List ColumnPoints) (ms : List CellMap) (after : List ColumnPoints) (ns : List CellMap) (fs : List Fact) → AllDistinct (facts_of before) → PutsFacts rs before ms after ns fs → AllDistinct (facts_of after)
-puts-once rs before ms after ns [] once p = subst (λ (cs : List ColumnPoints). AllDistinct (facts_of cs)) (sym p.0) once
-puts-once rs before ms after ns (f ∷ fs) once p = puts-once rs p.0 (put_cells rs f (facts_of p.0) ms) after ns fs p.1.1.once p.2
+puts-once : (before after : List ColumnPoints) (rs ss : List RuleData) (fs : List Fact) → AllDistinct (facts_of before) → PutsFacts before rs after ss fs → AllDistinct (facts_of after)
+puts-once before after rs ss [] once p = subst (λ (cs : List ColumnPoints). AllDistinct (facts_of cs)) (sym p.0) once
+puts-once before after rs ss (f ∷ fs) once p = puts-once p.0 after (put_cells f (facts_of p.0) rs) ss fs p.1.1.once p.2
 
 -- each fact was put, or was there
-puts-only : (rs : List Rule) (before : List ColumnPoints) (ms : List CellMap) (after : List ColumnPoints) (ns : List CellMap) (fs : List Fact) → PutsFacts rs before ms after ns fs → (g : Fact) → Among g (facts_of after) → Among g (fs ++ facts_of before)
-puts-only rs before ms after ns [] p g a = subst (λ (cs : List ColumnPoints). Among g (facts_of cs)) p.0 a
-puts-only rs before ms after ns (f ∷ fs) p g a =
+puts-only : (before after : List ColumnPoints) (rs ss : List RuleData) (fs : List Fact) → PutsFacts before rs after ss fs → (g : Fact) → Among g (facts_of after) → Among g (fs ++ facts_of before)
+puts-only before after rs ss [] p g a = subst (λ (cs : List ColumnPoints). Among g (facts_of cs)) p.0 a
+puts-only before after rs ss (f ∷ fs) p g a =
     ⊎_elim {C = Among g (f ∷ (fs ++ facts_of before))} (λ b. inr (Among-left g fs (facts_of before) b))
     (λ b. ⊎_elim {C = Among g (f ∷ (fs ++ facts_of before))} (λ e. inl e) (λ q. inr (Among-right g fs (facts_of before) q.0)) (p.1.1.only g b))
-    (Among-append g fs (facts_of p.0) (puts-only rs p.0 (put_cells rs f (facts_of p.0) ms) after ns fs p.2 g a))
+    (Among-append g fs (facts_of p.0) (puts-only p.0 after (put_cells f (facts_of p.0) rs) ss fs p.2 g a))
+
+-- the rules stay
+puts_rules : (before after : List ColumnPoints) (rs ss : List RuleData) (fs : List Fact) → PutsFacts before rs after ss fs → map (λ (a : RuleData). a.rule) ss ≡ map (λ (a : RuleData). a.rule) rs
+puts_rules before after rs ss [] p = ap (map (λ (a : RuleData). a.rule)) p.1
+puts_rules before after rs ss (f ∷ fs) p = puts_rules p.0 after (put_cells f (facts_of p.0) rs) ss fs p.2 ∙ map-map (λ (a : RuleData). a.rule) (in_cells (λ (r : Rule). put_cell r f (facts_of p.0))) rs
 
 -- ---- a rule, under each move
 
+abbrev AreSizedRules : ℤ → List Fact → List RuleData → Type 0
+AreSizedRules mark facts = AllByRecursion (IsSizedRule mark facts)
+
 -- its raw facts are among others
-rule_fewer : (mark : ℤ) (fs gs : List Fact) (r : RuleCells) → ((f : Fact) → Among f gs → Among f fs) → IsSizedRule mark fs r → IsSizedRule mark gs r
-rule_fewer mark fs gs r into s = record { least = s.least; most = s.most; there = λ f a t l. s.there f (into f a) t l }
+rules_fewer : (mark : ℤ) (fs gs : List Fact) → ((f : Fact) → Among f gs → Among f fs) → (rs : List RuleData) → AreSizedRules mark fs rs → AreSizedRules mark gs rs
+rules_fewer mark fs gs into [] s = tt
+rules_fewer mark fs gs into (x ∷ rs) s = (record { least = s.0.least; most = s.0.most; there = λ f a t l. s.0.there f (into f a) t l }, rules_fewer mark fs gs into rs s.1)
 
-abbrev AreSizedRules : ℤ → List Fact → List Rule → List ℤ → List CellMap → Type 0
-AreSizedRules mark facts rs lows ms = AllByRecursion (IsSizedRule mark facts) (rules_of rs lows ms)
-
-rules_new : (rs : List Rule) → AreSizedRules least_time [] rs (map (λ (r : Rule). index_of r least_time) rs) (map (λ (r : Rule). finmap.empty) rs)
+rules_new : (rs : List Rule) → AreSizedRules least_time [] (new_data (record { raw_duration = 0; rules = rs })).rules
 rules_new [] = tt
 rules_new (r ∷ rs) = (record { least = ≤ℤ_refl (index_of r least_time); most = next (index_of r least_time); there = λ f a t l. absurd a }, rules_new rs)
 
@@ -104,93 +102,70 @@ module _ (now : ℤ) (short : ℕ) (mark : ℤ) where
       (bucket_le kept risen r.interval r.offset w (le_trans kept (kept_since short now) risen (kept_since-le r.duration short now p.0 p.1) (int_max-right mark (kept_since short now)))))
       lasts)
 
-  rule_raised : (facts : List Fact) (r : Rule) (low : ℤ) (m : CellMap) → pos 1 ≤ℤ r.interval → Outlasts r.duration short → IsSizedRule mark facts (rule_cells r low m)
-      → IsSizedRule risen facts (rule_cells r (int_max low (index_of r (kept_since r.duration now))) m)
-  rule_raised facts r low m w o s =
-      let kept : ℤ = index_of r (kept_since r.duration now) in
-      let rises : low ≤ℤ int_max low kept = int_max-left low kept in
+  rule_raised : (facts : List Fact) (x : RuleData) → pos 1 ≤ℤ x.rule.interval → Outlasts x.rule.duration short → IsSizedRule mark facts x → IsSizedRule risen facts (raised_rule now x)
+  rule_raised facts x w o s =
+      let kept : ℤ = index_of x.rule (kept_since x.rule.duration now) in
+      let rises : x.low ≤ℤ int_max x.low kept = int_max-left x.low kept in
       record {
-        least = le_trans (index_of r least_time) low (int_max low kept) s.least rises;
-        most = kept_low r low w o s.least s.most;
-        there = λ f a t l. s.there f a t (le_trans low (int_max low kept) (cell_of r f).index rises l);
+        least = le_trans (index_of x.rule least_time) x.low (int_max x.low kept) s.least rises;
+        most = kept_low x.rule x.low w o s.least s.most;
+        there = λ f a t l. s.there f a t (le_trans x.low (int_max x.low kept) (cell_of x.rule f).index rises l);
       }
 
-  rules_raised : (facts : List Fact) (rs : List Rule) (lows : List ℤ) (ms : List CellMap) → AllByRecursion (λ (r : Rule). pos 1 ≤ℤ r.interval) rs → AllByRecursion (λ (r : Rule). Outlasts r.duration short) rs
-      → AreSizedRules mark facts rs lows ms → AreSizedRules risen facts rs (raised now rs lows) ms
-  rules_raised facts [] lows ms w o s = tt
-  rules_raised facts (r ∷ rs) [] ms w o s = tt
-  rules_raised facts (r ∷ rs) (low ∷ lows) [] w o s = tt
-  rules_raised facts (r ∷ rs) (low ∷ lows) (m ∷ ms) w o s = (rule_raised facts r low m w.0 o.0 s.0, rules_raised facts rs lows ms w.1 o.1 s.1)
+  rules_raised : (facts : List Fact) (rs : List RuleData) → AllByRecursion (λ (r : Rule). pos 1 ≤ℤ r.interval) (map (λ (a : RuleData). a.rule) rs) → AllByRecursion (λ (r : Rule). Outlasts r.duration short) (map (λ (a : RuleData). a.rule) rs)
+      → AreSizedRules mark facts rs → AreSizedRules risen facts (map (raised_rule now) rs)
+  rules_raised facts [] w o s = tt
+  rules_raised facts (x ∷ rs) w o s = (rule_raised facts x w.0 o.0 s.0, rules_raised facts rs w.1 o.1 s.1)
 
 -- a column is moved, and these facts are left
-rules_moved : (mark : ℤ) (c : Column) (ps : List (ℤ × ℤ)) (facts left : List Fact) → ((f : Fact) → Among f left → Among f facts) → (rs : List Rule) (lows : List ℤ) (ms : List CellMap) → AreSizedRules mark facts rs lows ms → AreSizedRules mark left rs lows (all_moved rs c ps left ms)
-rules_moved mark c ps facts left into [] lows ms s = tt
-rules_moved mark c ps facts left into (r ∷ rs) [] ms s = tt
-rules_moved mark c ps facts left into (r ∷ rs) (low ∷ lows) [] s = tt
-rules_moved mark c ps facts left into (r ∷ rs) (low ∷ lows) (m ∷ ms) s = (
-  record { least = s.0.least; most = s.0.most; there = λ f a t l. subst (Among (cell_of r f)) (sym (keys_column r c ps left m)) (s.0.there f (into f a) t l) },
-  rules_moved mark c ps facts left into rs lows ms s.1,
-)
+rules_moved : (mark : ℤ) (c : Column) (ps : List (ℤ × ℤ)) (facts left : List Fact) → ((f : Fact) → Among f left → Among f facts) → (rs : List RuleData) → AreSizedRules mark facts rs → AreSizedRules mark left (all_moved c ps left rs)
+rules_moved mark c ps facts left into =
+    all_map (IsSizedRule mark facts) (IsSizedRule mark left) (in_cells (λ (r : Rule). moved_cells r c ps left))
+    (λ x s. record { least = s.least; most = s.most; there = λ f a t l. subst (Among (cell_of x.rule f)) (sym (keys_column x.rule c ps left x.cells)) (s.there f (into f a) t l) })
 
 -- cells below low indices are removed
-rules_gone : (mark : ℤ) (facts : List Fact) (rs : List Rule) (lows : List ℤ) (ms ns : List CellMap) → Expired lows ms ns → AreSizedRules mark facts rs lows ms → AreSizedRules mark facts rs lows ns
-rules_gone mark facts [] lows ms ns e s = tt
-rules_gone mark facts (r ∷ rs) [] ms ns e s = tt
-rules_gone mark facts (r ∷ rs) (low ∷ lows) ms [] e s = tt
-rules_gone mark facts (r ∷ rs) (low ∷ lows) [] (n ∷ ns) e s = absurd e
-rules_gone mark facts (r ∷ rs) (low ∷ lows) (m ∷ ms) (n ∷ ns) e s = (
-  record { least = s.0.least; most = s.0.most; there = λ f a t l. key_there n (cell_of r f) (λ z. key_not m (cell_of r f) (s.0.there f a t l) (sym (e.0 (cell_of r f) l) ∙ z)) },
-  rules_gone mark facts rs lows ms ns e.1 s.1,
-)
+rules_gone : (mark : ℤ) (facts : List Fact) (rs ss : List RuleData) → Expired rs ss → AreSizedRules mark facts rs → AreSizedRules mark facts ss
+rules_gone mark facts =
+    rules_keep (λ r. KeepsFrom) (IsSizedRule mark facts) (IsSizedRule mark facts)
+    (λ x n e s. record { least = s.least; most = s.most; there = λ f a t l. key_there n (cell_of x.rule f) (λ z. key_not x.cells (cell_of x.rule f) (s.there f a t l) (sym (e (cell_of x.rule f) l) ∙ z)) })
 
 -- capacity is reserved
-rules_grown : (mark : ℤ) (made facts : List Fact) (rs : List Rule) (lows : List ℤ) (ms ns : List CellMap) → GainEmptyCells rs lows made ms ns → AreSizedRules mark facts rs lows ms → AreSizedRules mark facts rs lows ns
-rules_grown mark made facts rs lows ms ns capacity s =
-    rules_keep (GainsBeside made) (IsSizedRule mark facts) (IsSizedRule mark facts)
-    (λ r low m n gains had. record { least = had.least; most = had.most; there = λ f a t l. key_there n (cell_of r f) (λ z. key_not m (cell_of r f) (had.there f a t l) (gains.stays (cell_of r f) z)) }) rs lows ms ns capacity s
+rules_grown : (mark : ℤ) (made facts : List Fact) (rs ss : List RuleData) → GainEmptyCells made rs ss → AreSizedRules mark facts rs → AreSizedRules mark facts ss
+rules_grown mark made facts =
+    rules_keep (GainsOf made) (IsSizedRule mark facts) (IsSizedRule mark facts)
+    (λ x n gains s. record { least = s.least; most = s.most; there = λ f a t l. key_there n (cell_of x.rule f) (λ z. key_not x.cells (cell_of x.rule f) (s.there f a t l) (gains.stays (cell_of x.rule f) z)) })
 
 -- for these facts too
-rules_roomy : (mark : ℤ) (made facts : List Fact) (rs : List Rule) (lows : List ℤ) (ms ns : List CellMap) → GainEmptyCells rs lows made ms ns → AreSizedRules mark facts rs lows ns → AreSizedRules mark (made ++ facts) rs lows ns
-rules_roomy mark made facts [] lows ms ns capacity s = tt
-rules_roomy mark made facts (r ∷ rs) [] ms ns capacity s = tt
-rules_roomy mark made facts (r ∷ rs) (low ∷ lows) ms [] capacity s = tt
-rules_roomy mark made facts (r ∷ rs) (low ∷ lows) [] (n ∷ ns) capacity s = absurd capacity
-rules_roomy mark made facts (r ∷ rs) (low ∷ lows) (m ∷ ms) (n ∷ ns) capacity s = (
+rules_roomy : (mark : ℤ) (made facts : List Fact) (rs : List RuleData) → HaveCellsOf made rs → AreSizedRules mark facts rs → AreSizedRules mark (made ++ facts) rs
+rules_roomy mark made facts [] capacity s = tt
+rules_roomy mark made facts (x ∷ rs) capacity s = (
   record {
     least = s.0.least;
     most = s.0.most;
     there = λ f a t l.
-        ⊎_elim {C = Among (cell_of r f) (finmap.keys n)} (λ b. key_there n (cell_of r f) (capacity.0.there f b t l)) (λ b. s.0.there f b t l) (Among-append f made facts a);
+        ⊎_elim {C = Among (cell_of x.rule f) (finmap.keys x.cells)} (λ b. key_there x.cells (cell_of x.rule f) (capacity.0.there f b t l)) (λ b. s.0.there f b t l) (Among-append f made facts a);
   },
-  rules_roomy mark made facts rs lows ms ns capacity.1 s.1,
+  rules_roomy mark made facts rs capacity.1 s.1,
 )
 
--- a fact is put
-rules_put : (mark : ℤ) (f : Fact) (after facts : List Fact) (rs : List Rule) (lows : List ℤ) (ms : List CellMap) → AreSizedRules mark facts rs lows ms → AreSizedRules mark facts rs lows (put_cells rs f after ms)
-rules_put mark f after facts [] lows ms s = tt
-rules_put mark f after facts (r ∷ rs) [] ms s = tt
-rules_put mark f after facts (r ∷ rs) (low ∷ lows) [] s = tt
-rules_put mark f after facts (r ∷ rs) (low ∷ lows) (m ∷ ms) s = (
-  record { least = s.0.least; most = s.0.most; there = λ g a t l. subst (Among (cell_of r g)) (sym (put_cell-keys r f after m)) (s.0.there g a t l) },
-  rules_put mark f after facts rs lows ms s.1,
-)
-
-rules_puts : (mark : ℤ) (facts : List Fact) (rs : List Rule) (lows : List ℤ) (before : List ColumnPoints) (ms : List CellMap) (after : List ColumnPoints) (ns : List CellMap) (fs : List Fact) → PutsFacts rs before ms after ns fs → AreSizedRules mark facts rs lows ms → AreSizedRules mark facts rs lows ns
-rules_puts mark facts rs lows before ms after ns [] p s = subst (AreSizedRules mark facts rs lows) (sym p.1) s
-rules_puts mark facts rs lows before ms after ns (f ∷ fs) p s = rules_puts mark facts rs lows p.0 (put_cells rs f (facts_of p.0) ms) after ns fs p.2 (rules_put mark f (facts_of p.0) facts rs lows ms s)
-
--- fewer raw facts
-rules_fewer : (mark : ℤ) (fs gs : List Fact) → ((f : Fact) → Among f gs → Among f fs) → (rs : List Rule) (lows : List ℤ) (ms : List CellMap) → AreSizedRules mark fs rs lows ms → AreSizedRules mark gs rs lows ms
-rules_fewer mark fs gs into [] lows ms s = tt
-rules_fewer mark fs gs into (r ∷ rs) [] ms s = tt
-rules_fewer mark fs gs into (r ∷ rs) (low ∷ lows) [] s = tt
-rules_fewer mark fs gs into (r ∷ rs) (low ∷ lows) (m ∷ ms) s = (rule_fewer mark fs gs (rule_cells r low m) into s.0, rules_fewer mark fs gs into rs lows ms s.1)
+-- facts are put
+rules_puts : (mark : ℤ) (facts : List Fact) (before after : List ColumnPoints) (rs ss : List RuleData) (fs : List Fact) → PutsFacts before rs after ss fs → AreSizedRules mark facts rs → AreSizedRules mark facts ss
+rules_puts mark facts before after rs ss [] p s = subst (AreSizedRules mark facts) (sym p.1) s
+rules_puts mark facts before after rs ss (f ∷ fs) p s =
+    rules_puts mark facts p.0 after (put_cells f (facts_of p.0) rs) ss fs p.2
+    (all_map (IsSizedRule mark facts) (IsSizedRule mark facts) (in_cells (λ (r : Rule). put_cell r f (facts_of p.0)))
+    (λ x had. record { least = had.least; most = had.most; there = λ g a t l. subst (Among (cell_of x.rule g)) (sym (put_cell-keys x.rule f (facts_of p.0) x.cells)) (had.there g a t l) }) rs s)
 
 -- ---- a store
 
+new_settings : (opening : Settings) → store_settings (new_data opening) ≡ opening
+new_settings opening =
+    ap (λ rs. record { raw_duration = opening.raw_duration; rules = rs })
+    (map-map (λ (a : RuleData). a.rule) (λ (r : Rule). record { rule = r; low = index_of r least_time; cells = finmap.empty }) opening.rules ∙ map-id opening.rules)
+
 pub sized_new : (opening : Settings) → settings_fault opening ≡ None → IsSized (new_data opening)
 sized_new opening well = record {
-  settings = well;
+  settings = subst (λ (x : Settings). settings_fault x ≡ None) (sym (new_settings opening)) well;
   accepted = omega arith;
   facts = omega arith;
   series = omega arith;
@@ -199,14 +174,15 @@ sized_new opening well = record {
   registered = λ c a. absurd a;
   keys = λ c a. absurd a;
   once = tt;
-  lows = length-map opening.rules (low_of opening []);
-  cells = length-map opening.rules (λ (r : Rule). let none : CellMap = finmap.empty in none);
   rules = rules_new opening.rules;
 }
 
+pub begun_settings : (k : StoreData) (now : ℤ) → store_settings (run_begun now k) ≡ store_settings k
+begun_settings k now = ap (λ rs. record { raw_duration = k.raw_duration; rules = rs }) (map-map (λ (a : RuleData). a.rule) (raised_rule now) k.rules)
+
 pub sized_begun : (k : StoreData) (now : ℤ) → IsSized k → IsSized (run_begun now k)
 sized_begun k now s = record {
-  settings = s.settings;
+  settings = subst (λ (x : Settings). settings_fault x ≡ None) (sym (begun_settings k now)) s.settings;
   accepted = s.accepted;
   facts = s.facts;
   series = s.series;
@@ -215,20 +191,18 @@ sized_begun k now s = record {
   registered = s.registered;
   keys = s.keys;
   once = s.once;
-  lows = length-beside (λ (r : Rule) (low : ℤ). int_max low (index_of r (kept_since r.duration now))) k.settings.rules k.marks.lows ∙ s.lows;
-  cells = s.cells;
-  rules = rules_raised now k.settings.raw_duration k.marks.raw (facts_of k.columns) k.settings.rules k.marks.lows k.cells (settings_wide k.settings s.settings) (settings_are k.settings s.settings).lasting s.rules;
+  rules = rules_raised now k.raw_duration k.raw_mark (facts_of k.columns) k.rules (settings_wide (store_settings k) s.settings) (settings_are (store_settings k) s.settings).lasting s.rules;
 }
 
 pub sized_moved : (k : StoreData) (c : Column) (ps : List (ℤ × ℤ)) (rest : List Column) → IsSized k → IsSized (column_moved c ps rest k)
 sized_moved k c ps rest s =
-    let mark : ℤ = k.marks.raw in
+    let mark : ℤ = k.raw_mark in
     let columns : List ColumnPoints = map (kept_points c mark) k.columns in
     let left : facts_of columns ≡ filter (is_left c mark) (facts_of k.columns) = facts_of-left c mark k.columns in
     let names : map column_of columns ≡ map column_of k.columns = columns_of-left c mark k.columns in
     let fewer : length (facts_of columns) ≡ length (filter (is_left c mark) (facts_of k.columns)) = ap (λ (fs : List Fact). length fs) left in
     record {
-      settings = s.settings;
+      settings = subst (λ (x : Settings). settings_fault x ≡ None) (sym (settings_same AnyCells (column_moved c ps rest k) k.rules (each_in AnyCells (λ (r : Rule). moved_cells r c (points_below mark ps) (facts_of columns)) (λ a. tt) k.rules))) s.settings;
       accepted = s.accepted;
       facts = let most = length-filter (is_left c mark) (facts_of k.columns) in let all = s.facts in omega (arith, fewer, most, all);
       series = s.series;
@@ -237,14 +211,12 @@ sized_moved k c ps rest s =
       registered = λ d a. s.registered d (subst (Among d) names a);
       keys = λ d a. s.keys d (subst (Among d) names a);
       once = subst AllDistinct (sym left) (AllDistinct-filter (is_left c mark) (facts_of k.columns) s.once);
-      lows = s.lows;
-      cells = length-beside (λ (r : Rule). moved_cells r c (points_below mark ps) (facts_of columns)) k.settings.rules k.cells ∙ s.cells;
-      rules = rules_moved mark c (points_below mark ps) (facts_of k.columns) (facts_of columns) (λ f a. Among-filter_was (is_left c mark) f (facts_of k.columns) (subst (Among f) left a)) k.settings.rules k.marks.lows k.cells s.rules;
+      rules = rules_moved mark c (points_below mark ps) (facts_of k.columns) (facts_of columns) (λ f a. Among-filter_was (is_left c mark) f (facts_of k.columns) (subst (Among f) left a)) k.rules s.rules;
     }
 
-pub sized_gone : (k : StoreData) (ms : List CellMap) → Expired k.marks.lows k.cells ms → IsSized k → IsSized (with_cells ms k)
-sized_gone k ms e s = record {
-  settings = s.settings;
+pub sized_gone : (k : StoreData) (rs : List RuleData) → Expired k.rules rs → IsSized k → IsSized (with_rules rs k)
+sized_gone k rs e s = record {
+  settings = subst (λ (x : Settings). settings_fault x ≡ None) (sym (settings_same (λ r. KeepsFrom) (with_rules rs k) k.rules e)) s.settings;
   accepted = s.accepted;
   facts = s.facts;
   series = s.series;
@@ -253,9 +225,7 @@ sized_gone k ms e s = record {
   registered = s.registered;
   keys = s.keys;
   once = s.once;
-  lows = s.lows;
-  cells = AllZipBeside-long KeepsFrom k.marks.lows k.cells ms (s.lows ∙ sym s.cells) e ∙ s.cells;
-  rules = rules_gone k.marks.raw (facts_of k.columns) k.settings.rules k.marks.lows k.cells ms e s.rules;
+  rules = rules_gone k.raw_mark (facts_of k.columns) k.rules rs e s.rules;
 }
 
 pub sized_ended : (k : StoreData) → IsSized k → IsSized (run_ended k)
@@ -269,15 +239,13 @@ sized_ended k s = record {
   registered = s.registered;
   keys = s.keys;
   once = s.once;
-  lows = s.lows;
-  cells = s.cells;
   rules = s.rules;
 }
 
-pub sized_grown : (k : StoreData) (series : List Series) (columns : List ColumnPoints) (ms : List CellMap) (facts : List Fact) → length series ≤ 1000000 → AllDistinct (map column_of columns) → ((c : Column) → Among c (map column_of columns) → Among c.series series)
-    → ((x : Series) → Among x series → IsStatable x) → ((c : Column) → Among c (map column_of columns) → IsKey c.field) → facts_of columns ≡ facts_of k.columns → GainEmptyCells k.settings.rules k.marks.lows facts k.cells ms → IsSized k → IsSized (grown series columns ms k)
-sized_grown k series columns ms facts few distinct registered named keys same capacity s = record {
-  settings = s.settings;
+pub sized_grown : (k : StoreData) (series : List Series) (columns : List ColumnPoints) (rs : List RuleData) (facts : List Fact) → length series ≤ 1000000 → AllDistinct (map column_of columns) → ((c : Column) → Among c (map column_of columns) → Among c.series series)
+    → ((x : Series) → Among x series → IsStatable x) → ((c : Column) → Among c (map column_of columns) → IsKey c.field) → facts_of columns ≡ facts_of k.columns → GainEmptyCells facts k.rules rs → IsSized k → IsSized (grown series columns rs k)
+sized_grown k series columns rs facts few distinct registered named keys same capacity s = record {
+  settings = subst (λ (x : Settings). settings_fault x ≡ None) (sym (settings_same (GainsOf facts) (grown series columns rs k) k.rules capacity)) s.settings;
   accepted = s.accepted;
   facts = subst (λ (fs : List Fact). length fs ≤ k.accepted) (sym same) s.facts;
   series = few;
@@ -286,30 +254,25 @@ sized_grown k series columns ms facts few distinct registered named keys same ca
   registered = registered;
   keys = keys;
   once = subst AllDistinct (sym same) s.once;
-  lows = s.lows;
-  cells = capacity-length k.settings.rules k.marks.lows facts k.cells ms s.lows s.cells capacity;
-  rules = subst (λ (fs : List Fact). AreSizedRules k.marks.raw fs k.settings.rules k.marks.lows ms) (sym same) (rules_grown k.marks.raw facts (facts_of k.columns) k.settings.rules k.marks.lows k.cells ms capacity s.rules);
+  rules = subst (λ (fs : List Fact). AreSizedRules k.raw_mark fs rs) (sym same) (rules_grown k.raw_mark facts (facts_of k.columns) k.rules rs capacity s.rules);
 }
 
 -- facts are inserted where there is capacity for them: it was reserved in other cells
-pub sized_put : (k : StoreData) (columns : List ColumnPoints) (facts : List Fact) (ms ns : List CellMap) → GainEmptyCells k.settings.rules k.marks.lows facts ms k.cells → PutsFacts k.settings.rules k.columns k.cells columns ns facts
-    → k.accepted + length facts ≤ 2 ^ 62 → IsSized k → IsSized (put_facts columns ns (length facts) k)
-sized_put k columns facts ms ns capacity put few s =
-    let rs : List Rule = k.settings.rules in
-    let lows : List ℤ = k.marks.lows in
-    let names : map column_of columns ≡ map column_of k.columns = puts_names rs k.columns k.cells columns ns facts put in
+pub sized_put : (k : StoreData) (columns : List ColumnPoints) (facts : List Fact) (rs ss : List RuleData) → GainEmptyCells facts rs k.rules → PutsFacts k.columns k.rules columns ss facts
+    → k.accepted + length facts ≤ 2 ^ 62 → IsSized k → IsSized (put_facts columns ss (length facts) k)
+sized_put k columns facts rs ss capacity put few s =
+    let names : map column_of columns ≡ map column_of k.columns = puts_names k.columns columns k.rules ss facts put in
+    let rules : store_settings (put_facts columns ss (length facts) k) ≡ store_settings k = ap (λ xs. record { raw_duration = k.raw_duration; rules = xs }) (puts_rules k.columns columns k.rules ss facts put) in
     record {
-      settings = s.settings;
+      settings = subst (λ (x : Settings). settings_fault x ≡ None) (sym rules) s.settings;
       accepted = few;
-      facts = let most = facts-put rs k.columns k.cells columns ns facts put in let all = s.facts in omega (arith, most, all);
+      facts = let most = facts-put k.columns columns k.rules ss facts put in let all = s.facts in omega (arith, most, all);
       series = s.series;
       columns = subst AllDistinct (sym names) s.columns;
       named = s.named;
       registered = λ c a. s.registered c (subst (Among c) names a);
       keys = λ c a. s.keys c (subst (Among c) names a);
-      once = puts-once rs k.columns k.cells columns ns facts s.once put;
-      lows = s.lows;
-      cells = line-length rs facts k.columns columns k.cells ns put ∙ s.cells;
-      rules = rules_fewer k.marks.raw (facts ++ facts_of k.columns) (facts_of columns) (puts-only rs k.columns k.cells columns ns facts put) rs lows ns
-          (rules_puts k.marks.raw (facts ++ facts_of k.columns) rs lows k.columns k.cells columns ns facts put (rules_roomy k.marks.raw facts (facts_of k.columns) rs lows ms k.cells capacity s.rules));
+      once = puts-once k.columns columns k.rules ss facts s.once put;
+      rules = rules_fewer k.raw_mark (facts ++ facts_of k.columns) (facts_of columns) (puts-only k.columns columns k.rules ss facts put) ss
+          (rules_puts k.raw_mark (facts ++ facts_of k.columns) k.columns columns k.rules ss facts put (rules_roomy k.raw_mark facts (facts_of k.columns) k.rules (room_cells facts rs k.rules capacity) s.rules));
     }

@@ -5,19 +5,19 @@ use Rattle.std.specs.FinMap as finmap
 use Rattle.std.specs.List.{slice_get, AllByRecursion}
 use Rattle.std.specs.Ordering.{int_cmp, is_lt}
 use Rattle.std.proofs.lemmas.Int.{ints}
-use Rattle.std.proofs.lemmas.Option.{none-some}
-use Rattle.std.proofs.lemmas.List.{append-nil}
+use Rattle.std.proofs.lemmas.List.{append-nil, length-map}
 use Rattle.ts_core.specs.lists.Members.{Among, AllDistinct}
 use Rattle.ts_core.specs.facts.Facts.{Text, Series, Column, Fact, is_within}
 use Rattle.ts_core.specs.settings.Settings.{Rule, Settings}
 use Rattle.ts_core.specs.facts.Times.{least_time}
 use Rattle.ts_core.specs.store.History.{History, Line, MayBeTaken, accepted, raw_mark}
 use Rattle.ts_core.specs.facts.Latest.{latest_of}
-use Rattle.ts_core.specs.store.Marks.{Marks, marks_of}
+use Rattle.ts_core.specs.store.Marks.{Marks, index_of, low_of, marks_of}
 use Rattle.ts_core.specs.store.RawFacts.{same_column, raw_facts, is_waiting, kept_from}
 use Rattle.ts_core.specs.store.StoreStates.{ColumnPoints, StandsFor, column_of, fact_at, facts_at, facts_of}
-use Rattle.ts_core.specs.store.StoreData.{CellMap, StoreData, state_of, new_data, AreLive}
+use Rattle.ts_core.specs.store.StoreData.{CellMap, RuleData, StoreData, state_of, new_data, AreLive}
 use Rattle.ts_core.specs.moves.StoreMoves.{PutsFacts, GainEmptyCells, grown, put_facts}
+use Rattle.ts_core.proofs.settings.SettingsLaws.{well}
 use Rattle.ts_core.proofs.moves.LivesKept.{no_live, lives_line}
 use Rattle.ts_core.proofs.lists.MembersLemmas.{Among-left, Among-right, Among-map, Among-filter_passes, Among-filter_was, Among-filter_stays, AllDistinct-filter}
 use Rattle.ts_core.proofs.aggregates.Folds.{length-same}
@@ -45,6 +45,7 @@ use Rattle.ts_store.specs.write.Refusals.{is_registered, is_too_many, write_faul
 use Rattle.ts_store.specs.retain.OpenRuns.{Run, waiting_in, IsWithin, data_of_parts}
 use Rattle.ts_store.specs.store.SoundStores.{IsSoundStore}
 use Rattle.ts_store.specs.store.CellCounts.{HoldFew}
+use Rattle.ts_store.specs.store.RuleLists.{rules_with}
 use Rattle.ts_store.specs.store.SizedStores.{IsSized}
 use Rattle.ts_store.specs.store.PossibleCells.{HavePossibleCells}
 use Rattle.ts_store.specs.rollup.Rollups.{new_rollup, AreRollups, cells_of}
@@ -75,6 +76,11 @@ pub new_cells : (rs : List Rule) → cells_of (replicate (length rs) new_rollup)
 new_cells [] = refl
 new_cells (r ∷ rs) = ap (λ (ms : List CellMap). finmap.empty ∷ ms) (new_cells rs)
 
+-- each with its low index
+pub new_data_rules : (rs : List Rule) → rules_with rs (map (λ (r : Rule). index_of r least_time) rs) (cells_of (replicate (length rs) new_rollup)) ≡ (new_data (record { raw_duration = 0; rules = rs })).rules
+new_data_rules [] = refl
+new_data_rules (r ∷ rs) = ap (λ (xs : List RuleData). record { rule = r; low = index_of r least_time; cells = finmap.empty } ∷ xs) (new_data_rules rs)
+
 -- no columns, under these rules
 abbrev pub held_new : Settings → StoreContent
 held_new settings = record { series = []; columns = []; rollups = replicate (length settings.rules) new_rollup }
@@ -82,45 +88,38 @@ held_new settings = record { series = []; columns = []; rollups = replicate (len
 pub data_new : (settings : Settings) (marks : Marks) (held : StoreContent) → marks ≡ marks_of settings [] → held ≡ held_new settings → data_of_parts settings marks 0 held None ≡ new_data settings
 data_new settings marks held m h =
     (λ i. data_of_parts settings (m i) 0 (h i) None)
-    ∙ (λ i. record { settings = settings; marks = marks_of settings []; running = false; waiting = []; series = []; columns = []; accepted = 0; cells = new_cells settings.rules i })
+    ∙ (λ i. record (new_data settings) { rules = new_data_rules settings.rules i })
 
-pub kept_new : (settings : Settings) (marks : Marks) (held : StoreContent) → settings_fault settings ≡ None → marks ≡ marks_of settings [] → held ≡ held_new settings → IsSoundStore (data_of_parts settings marks 0 held None) held None
+pub kept_new : (settings : Settings) (marks : Marks) (held : StoreContent) → settings_fault settings ≡ None → marks ≡ marks_of settings [] → held ≡ held_new settings → IsSoundStore settings marks 0 held None
 kept_new settings marks held well m h =
     let rs : List Rule = settings.rules in
+    let is : data_of_parts settings marks 0 held None ≡ new_data settings = data_new settings marks held m h in
     record {
       rollups = subst (λ (x : StoreContent). AreRollups rs (map column_of x.columns) x.rollups) (sym h) (new_rollups rs);
+      lows = ap (λ (x : Marks). length x.lows) m ∙ length-map rs (low_of settings []);
       few = tt;
-      counts = subst (λ (x : StoreContent). HoldFew 0 x.columns rs (cells_of x.rollups)) (sym h) (subst (λ ms. HoldFew 0 [] rs ms) (sym (new_cells rs)) (counts-new rs));
-      live = subst (λ (x : StoreContent). AreLive x.columns rs (cells_of x.rollups)) (sym h) (subst (λ ms. AreLive [] rs ms) (sym (new_cells rs)) (no_live [] rs));
-      possible = subst (λ (x : StoreContent). HavePossibleCells rs (cells_of x.rollups)) (sym h) (subst (HavePossibleCells rs) (sym (new_cells rs)) (possible_new rs));
-      sized = subst IsSized (sym (data_new settings marks held m h)) (sized_new settings well);
+      counts = subst (λ (k : StoreData). HoldFew 0 k.columns k.rules) (sym is) (counts-new rs);
+      live = subst (λ (k : StoreData). AreLive k.columns k.rules) (sym is) (no_live [] rs);
+      possible = subst (λ (k : StoreData). HavePossibleCells k.rules) (sym is) (possible_new rs);
+      sized = subst IsSized (sym is) (sized_new settings well);
     }
 
--- a store of these parts
-abbrev data_of : Settings → Marks → ℕ → Option Run → List Series → List ColumnPoints → List CellMap → StoreData
-data_of settings marks n run series columns ms = record {
-  settings = settings;
-  marks = marks;
-  running = is_some run;
-  waiting = waiting_in run columns;
-  series = series;
-  columns = columns;
-  accepted = n;
-  cells = ms;
-}
-
--- in which these columns wait
+-- a store of these parts, in which these columns wait
 abbrev waits : Settings → Marks → ℕ → Option Run → List Column → List Series → List ColumnPoints → List CellMap → StoreData
 waits settings marks n run waiting series columns ms = record {
-  settings = settings;
-  marks = marks;
+  raw_duration = settings.raw_duration;
+  raw_mark = marks.raw;
+  rules = rules_with settings.rules marks.lows ms;
   running = is_some run;
   waiting = waiting;
   series = series;
   columns = columns;
   accepted = n;
-  cells = ms;
 }
+
+-- in which those of the run wait
+abbrev data_of : Settings → Marks → ℕ → Option Run → List Series → List ColumnPoints → List CellMap → StoreData
+data_of settings marks n run series columns ms = waits settings marks n run (waiting_in run columns) series columns ms
 
 -- the plain facts don't depend on which columns wait
 sized_waits : (settings : Settings) (marks : Marks) (n : ℕ) (run : Option Run) (before after : List Column) (series : List Series) (columns : List ColumnPoints) (ms : List CellMap) → IsSized (waits settings marks n run before series columns ms) → IsSized (waits settings marks n run after series columns ms)
@@ -134,28 +133,27 @@ sized_waits settings marks n run before after series columns ms s = record {
   registered = s.registered;
   keys = s.keys;
   once = s.once;
-  lows = s.lows;
-  cells = s.cells;
   rules = s.rules;
 }
 
 -- a store that has only grown
 grown_stands : (opening : Settings) (h : History) (settings : Settings) (marks : Marks) (n : ℕ) (before : StoreContent) (run : Option Run) (made : List Column) (facts : List Fact) (series : List Series) (columns : List ColumnPoints) (ms : List CellMap)
-    → columns ≡ with_columns before.columns made → AllDistinct (map column_of columns) → ((c : Column) → Among c (map column_of columns) → Among c.series series) → GainEmptyCells settings.rules marks.lows facts (cells_of before.rollups) ms → IsWithin run before.columns
+    → columns ≡ with_columns before.columns made → AllDistinct (map column_of columns) → ((c : Column) → Among c (map column_of columns) → Among c.series series) → GainEmptyCells facts (rules_with settings.rules marks.lows (cells_of before.rollups)) (rules_with settings.rules marks.lows ms) → IsWithin run before.columns
     → StandsFor opening h (state_of (data_of_parts settings marks n before run)) → StandsFor opening h (state_of (data_of settings marks n run series columns ms))
 grown_stands opening h settings marks n before run made facts series columns ms e once registered capacity within st =
     let more : NamesMore before.columns columns made = ap (map column_of) e ∙ names_with before.columns made in
     subst (λ ws. StandsFor opening h (state_of (waits settings marks n run ws series columns ms))) (sym (waiting_more run before.columns columns made more within))
-    (grows opening h (data_of_parts settings marks n before run) series columns ms facts st once
+    (grows opening h (data_of_parts settings marks n before run) series columns (rules_with settings.rules marks.lows ms) facts st once
     (λ c a. subst (λ (cs : List ColumnPoints). Among c (map column_of cs)) (sym e) (names_stay before.columns made c a)) registered (ap facts_of e ∙ same_facts before.columns made) capacity)
 
 -- after out of memory
-pub left_by : (settings : Settings) (marks : Marks) (n : ℕ) (before after : StoreContent) (run : Option Run) (p : Parts) → IsSoundStore (data_of_parts settings marks n before run) before run → GrowsForLine settings.rules marks.lows before after p
+pub left_by : (settings : Settings) (marks : Marks) (n : ℕ) (before after : StoreContent) (run : Option Run) (p : Parts) → IsSoundStore settings marks n before run → GrowsForLine settings.rules marks.lows before after p
     → Leaves (data_of_parts settings marks n before run) (data_of_parts settings marks n after run) p
 left_by settings marks n before after run p kept g =
     let old : StoreData = data_of_parts settings marks n before run in
     let more : NamesMore before.columns after.columns g.columns.made = ap (map column_of) g.columns.columns ∙ names_with before.columns g.columns.made in
-    let others : data_of_parts settings marks n after run ≡ grown after.series after.columns (cells_of after.rollups) old =
+    let rules : List RuleData = rules_with settings.rules marks.lows (cells_of after.rollups) in
+    let others : data_of_parts settings marks n after run ≡ grown after.series after.columns rules old =
     ap (λ ws. waits settings marks n run ws after.series after.columns (cells_of after.rollups)) (waiting_more run before.columns after.columns g.columns.made more kept.few) in
     record {
       history = λ opening h st. grown_stands opening h settings marks n before run g.columns.made [] after.series after.columns (cells_of after.rollups) g.columns.columns g.known.once g.known.registered g.has_cells kept.few st;
@@ -163,25 +161,27 @@ left_by settings marks n before after run p kept g =
       columns = g.columns;
       cells = g.cells;
       others = others;
-      left = ap (λ (k : StoreData). steps_left (state_of k)) others ∙ left-grows old after.series after.columns (cells_of after.rollups) [] g.has_cells;
+      left = ap (λ (k : StoreData). steps_left (state_of k)) others ∙ left-grows old after.series after.columns rules [] g.has_cells;
     }
 
 -- the store is as it was between two calls
-pub kept_left : (settings : Settings) (marks : Marks) (n : ℕ) (before after : StoreContent) (run : Option Run) (p : Parts) → IsSoundStore (data_of_parts settings marks n before run) before run → is_too_many before.series (series_of p) ≡ false → IsStatable (series_of p) → AreKeys (map field_text p.fields) → GrowsForLine settings.rules marks.lows before after p
-    → IsSoundStore (data_of_parts settings marks n after run) after run
+pub kept_left : (settings : Settings) (marks : Marks) (n : ℕ) (before after : StoreContent) (run : Option Run) (p : Parts) → IsSoundStore settings marks n before run → is_too_many before.series (series_of p) ≡ false → IsStatable (series_of p) → AreKeys (map field_text p.fields) → GrowsForLine settings.rules marks.lows before after p
+    → IsSoundStore settings marks n after run
 kept_left settings marks n before after run p kept registers named keys g =
     let made : List Column = g.columns.made in
     let k : StoreData = data_of_parts settings marks n before run in
+    let rules : List RuleData = rules_with settings.rules marks.lows (cells_of after.rollups) in
     let same : facts_of after.columns ≡ facts_of before.columns = ap facts_of g.columns.columns ∙ same_facts before.columns made in
     record {
       rollups = g.rollups;
+      lows = kept.lows;
       few = within_more run before.columns after.columns made (ap (map column_of) g.columns.columns ∙ names_with before.columns made) kept.few;
-      counts = counts-grown n before.columns after.columns same [] settings.rules marks.lows (cells_of before.rollups) (cells_of after.rollups) kept.sized.lows g.has_cells kept.counts;
-      live = lives_grown marks.raw before.columns after.columns same settings.rules marks.lows [] (cells_of before.rollups) (cells_of after.rollups) kept.sized.lows g.has_cells kept.sized.rules kept.live;
-      possible = ⊎_elim {C = HavePossibleCells settings.rules (cells_of after.rollups)} (λ e. subst (HavePossibleCells settings.rules) (sym e) kept.possible)
-          (λ taken. possible_gained (line_facts p) (taken_valid least_time (line_facts p) taken) settings.rules marks.lows (cells_of before.rollups) (cells_of after.rollups) kept.sized.lows g.cells kept.possible) g.taken;
+      counts = counts-grown n before.columns after.columns same [] k.rules rules g.has_cells kept.counts;
+      live = lives_grown marks.raw before.columns after.columns same [] k.rules rules g.has_cells kept.sized.rules kept.live;
+      possible = ⊎_elim {C = HavePossibleCells rules} (λ e. subst (λ ms. HavePossibleCells (rules_with settings.rules marks.lows ms)) (sym e) kept.possible)
+          (λ taken. possible_gained (line_facts p) (taken_valid least_time (line_facts p) taken) k.rules rules g.cells kept.possible) g.taken;
       sized = sized_waits settings marks n run (waiting_in run before.columns) (waiting_in run after.columns) after.series after.columns (cells_of after.rollups)
-          (sized_grown k after.series after.columns (cells_of after.rollups) [] (may_gain_few before.series after.series (series_of p) kept.sized.series registers g.series) g.known.once g.known.registered
+          (sized_grown k after.series after.columns rules [] (may_gain_few before.series after.series (series_of p) kept.sized.series registers g.series) g.known.once g.known.registered
           (may_gain_named before.series after.series (series_of p) named g.series kept.sized.named) (first_keys p before.columns after.columns keys g.columns kept.sized.keys) same g.has_cells kept.sized);
     }
 
@@ -208,10 +208,10 @@ column_new before facts f a =
     ] refl)
 
 -- the columns of a line are created, and its facts inserted
-line_names : (rs : List Rule) (before : List ColumnPoints) (ms : List CellMap) (after : List ColumnPoints) (ns : List CellMap) (fs : List Fact) → PutsFacts rs (with_columns before (new_columns (map column_of before) fs)) ms after ns fs → NamesMore before after (new_columns (map column_of before) fs)
-line_names rs before ms after ns fs puts =
+line_names : (before after : List ColumnPoints) (rs ss : List RuleData) (fs : List Fact) → PutsFacts (with_columns before (new_columns (map column_of before) fs)) rs after ss fs → NamesMore before after (new_columns (map column_of before) fs)
+line_names before after rs ss fs puts =
     let made : List Column = new_columns (map column_of before) fs in
-    puts_names rs (with_columns before made) ms after ns fs puts ∙ names_with before made
+    puts_names (with_columns before made) after rs ss fs puts ∙ names_with before made
 
 write_stands : (opening : Settings) (h : History) (settings : Settings) (marks : Marks) (n : ℕ) (before after : StoreContent) (run : Option Run) (p : Parts) → PutsLine settings.rules marks.lows before after p → AllByRecursion (MayBeTaken marks.raw) (line_facts p)
     → n + length (line_facts p) ≤ 2 ^ 62 → IsWithin run before.columns → StandsFor opening h (state_of (data_of_parts settings marks n before run))
@@ -220,7 +220,9 @@ write_stands opening h settings marks n before after run p put taken few within 
     let fs : List Fact = line_facts p in
     let made : List Column = new_columns (map column_of before.columns) fs in
     let columns : List ColumnPoints = with_columns before.columns made in
-    let names : map column_of after.columns ≡ map column_of columns = puts_names settings.rules columns put.cells_between after.columns (cells_of after.rollups) fs put.facts in
+    let between : List RuleData = rules_with settings.rules marks.lows put.cells_between in
+    let rules : List RuleData = rules_with settings.rules marks.lows (cells_of after.rollups) in
+    let names : map column_of after.columns ≡ map column_of columns = puts_names columns after.columns between rules fs put.facts in
     let capacity : StandsFor opening h (state_of (data_of settings marks n run after.series columns put.cells_between)) =
     grown_stands opening h settings marks n before run made fs after.series columns put.cells_between refl (subst AllDistinct names put.known.once) (λ c a. put.known.registered c (subst (Among c) (sym names) a)) put.has_cells within st in
     let mark : marks.raw ≡ raw_mark opening h = ap (λ (m : Marks). m.raw) st.marks in
@@ -228,56 +230,60 @@ write_stands opening h settings marks n before after run p put taken few within 
     let none : NamesMore columns after.columns [] = names ∙ sym (append-nil (map column_of columns)) in
     subst (λ ws. StandsFor opening (Line fs ∷ h) (state_of (waits settings marks (n + length fs) run ws after.series after.columns (cells_of after.rollups))))
     (sym (waiting_more run columns after.columns [] none (within_more run before.columns columns made (names_with before.columns made) within)))
-    (line_put opening h (data_of settings marks n run after.series columns put.cells_between) after.columns fs (cells_of before.rollups) (cells_of after.rollups) capacity put.has_cells
+    (line_put opening h (data_of settings marks n run after.series columns put.cells_between) after.columns fs (rules_with settings.rules marks.lows (cells_of before.rollups)) rules capacity put.has_cells
     (λ f a. column_new before.columns fs f a) put.facts (st.lawful, subst (λ (m : ℤ). AllByRecursion (MayBeTaken m) fs) mark taken, omega (arith, st.accepted, more, few)))
 
-pub accepted_by : (settings : Settings) (marks : Marks) (n : ℕ) (before after : StoreContent) (run : Option Run) (p : Parts) → IsSoundStore (data_of_parts settings marks n before run) before run → PutsLine settings.rules marks.lows before after p
+pub accepted_by : (settings : Settings) (marks : Marks) (n : ℕ) (before after : StoreContent) (run : Option Run) (p : Parts) → IsSoundStore settings marks n before run → PutsLine settings.rules marks.lows before after p
     → AllByRecursion (MayBeTaken marks.raw) (line_facts p) → n + length (line_facts p) ≤ 2 ^ 62 → Accepts (data_of_parts settings marks n before run) (data_of_parts settings marks (n + length (line_facts p)) after run) p
 accepted_by settings marks n before after run p kept put taken few =
     let fs : List Fact = line_facts p in
     let made : List Column = new_columns (map column_of before.columns) fs in
     let old : StoreData = data_of_parts settings marks n before run in
-    let others : data_of_parts settings marks (n + length fs) after run ≡ put_facts after.columns (cells_of after.rollups) (length fs) (grown after.series after.columns (cells_of after.rollups) old) =
+    let between : List RuleData = rules_with settings.rules marks.lows put.cells_between in
+    let rules : List RuleData = rules_with settings.rules marks.lows (cells_of after.rollups) in
+    let others : data_of_parts settings marks (n + length fs) after run ≡ put_facts after.columns rules (length fs) (grown after.series after.columns rules old) =
     ap (λ ws. waits settings marks (n + length fs) run ws after.series after.columns (cells_of after.rollups))
-    (waiting_more run before.columns after.columns made (line_names settings.rules before.columns put.cells_between after.columns (cells_of after.rollups) fs put.facts) kept.few) in
-    let cells_between : StoreData = grown after.series (with_columns before.columns made) put.cells_between old in
+    (waiting_more run before.columns after.columns made (line_names before.columns after.columns between rules fs put.facts) kept.few) in
+    let cells_between : StoreData = grown after.series (with_columns before.columns made) between old in
     record {
       history = λ opening h st. write_stands opening h settings marks n before after run p put taken few kept.few st;
       series = put.series;
-      columns = puts_names settings.rules (with_columns before.columns made) put.cells_between after.columns (cells_of after.rollups) fs put.facts;
+      columns = puts_names (with_columns before.columns made) after.columns between rules fs put.facts;
       cells = put.cells;
       others = others;
-      left = ap (λ (k : StoreData). steps_left (state_of k)) others ∙ left-puts cells_between after.columns fs (cells_of after.rollups) (length fs) put.facts ∙ left-grows old after.series (with_columns before.columns made) put.cells_between fs put.has_cells;
+      left = ap (λ (k : StoreData). steps_left (state_of k)) others ∙ left-puts cells_between after.columns fs rules (length fs) put.facts ∙ left-grows old after.series (with_columns before.columns made) between fs put.has_cells;
     }
 
 -- live parts stay those of the raw facts when capacity is reserved
-pub stay_live : (settings : Settings) (marks : Marks) (n : ℕ) (before : StoreContent) (run : Option Run) → IsSoundStore (data_of_parts settings marks n before run) before run → StayLive settings.rules marks.lows before.columns (cells_of before.rollups)
-stay_live settings marks n before run kept = λ facts ms capacity. lives_grown marks.raw before.columns before.columns refl settings.rules marks.lows facts (cells_of before.rollups) ms kept.sized.lows capacity kept.sized.rules kept.live
+pub stay_live : (settings : Settings) (marks : Marks) (n : ℕ) (before : StoreContent) (run : Option Run) → IsSoundStore settings marks n before run → StayLive settings.rules marks.lows before.columns (cells_of before.rollups)
+stay_live settings marks n before run kept = λ facts ms capacity.
+    lives_grown marks.raw before.columns before.columns refl facts (data_of_parts settings marks n before run).rules (rules_with settings.rules marks.lows ms) capacity kept.sized.rules kept.live
 
 -- the store is again what it is between two calls
-pub kept_accepted : (settings : Settings) (marks : Marks) (n : ℕ) (before after : StoreContent) (run : Option Run) (p : Parts) → IsSoundStore (data_of_parts settings marks n before run) before run → is_too_many before.series (series_of p) ≡ false → IsStatable (series_of p) → AreKeys (map field_text p.fields) → PutsLine settings.rules marks.lows before after p
-    → n + length (line_facts p) ≤ 2 ^ 62 → IsSoundStore (data_of_parts settings marks (n + length (line_facts p)) after run) after run
+pub kept_accepted : (settings : Settings) (marks : Marks) (n : ℕ) (before after : StoreContent) (run : Option Run) (p : Parts) → IsSoundStore settings marks n before run → is_too_many before.series (series_of p) ≡ false → IsStatable (series_of p) → AreKeys (map field_text p.fields) → PutsLine settings.rules marks.lows before after p
+    → n + length (line_facts p) ≤ 2 ^ 62 → IsSoundStore settings marks (n + length (line_facts p)) after run
 kept_accepted settings marks n before after run p kept registers named keys put few =
     let fs : List Fact = line_facts p in
     let made : List Column = new_columns (map column_of before.columns) fs in
     let columns : List ColumnPoints = with_columns before.columns made in
-    let ms : List CellMap = cells_of before.rollups in
-    let ns : List CellMap = cells_of after.rollups in
+    let between : List RuleData = rules_with settings.rules marks.lows put.cells_between in
+    let rules : List RuleData = rules_with settings.rules marks.lows (cells_of after.rollups) in
     let k : StoreData = data_of_parts settings marks n before run in
     let same : facts_of columns ≡ facts_of before.columns = same_facts before.columns made in
-    let names : map column_of after.columns ≡ map column_of columns = puts_names settings.rules columns put.cells_between after.columns ns fs put.facts in
-    let cells_between : AreLive columns settings.rules put.cells_between = lives_grown marks.raw before.columns columns same settings.rules marks.lows fs ms put.cells_between kept.sized.lows put.has_cells kept.sized.rules kept.live in
-    let sized : IsSized (grown after.series columns put.cells_between k) =
-    sized_grown k after.series columns put.cells_between fs (gains_few before.series after.series (series_of p) kept.sized.series registers put.series) (subst AllDistinct names put.known.once) (λ c a. put.known.registered c (subst (Among c) (sym names) a))
+    let names : map column_of after.columns ≡ map column_of columns = puts_names columns after.columns between rules fs put.facts in
+    let live : AreLive columns between = lives_grown marks.raw before.columns columns same fs k.rules between put.has_cells kept.sized.rules kept.live in
+    let sized : IsSized (grown after.series columns between k) =
+    sized_grown k after.series columns between fs (gains_few before.series after.series (series_of p) kept.sized.series registers put.series) (subst AllDistinct names put.known.once) (λ c a. put.known.registered c (subst (Among c) (sym names) a))
     (gains_named before.series after.series (series_of p) named put.series kept.sized.named) (all_keys p before.columns keys kept.sized.keys) same put.has_cells kept.sized in
     record {
       rollups = put.rollups;
-      few = within_more run before.columns after.columns made (line_names settings.rules before.columns put.cells_between after.columns ns fs put.facts) kept.few;
-      counts = counts-put n settings.rules columns put.cells_between after.columns ns fs put.facts (counts-grown n before.columns columns same fs settings.rules marks.lows ms put.cells_between kept.sized.lows put.has_cells kept.counts);
-      live = lives_line settings.rules fs columns after.columns put.cells_between ns sized.once put.facts cells_between;
-      possible = possible_put fs (taken_valid least_time fs put.taken) settings.rules marks.lows ms ns kept.sized.lows put.cells kept.possible;
-      sized = sized_waits settings marks (n + length fs) run (waiting_in run before.columns) (waiting_in run after.columns) after.series after.columns ns
-          (sized_put (grown after.series columns put.cells_between k) after.columns fs ms ns put.has_cells put.facts few sized);
+      lows = kept.lows;
+      few = within_more run before.columns after.columns made (line_names before.columns after.columns between rules fs put.facts) kept.few;
+      counts = counts-put n columns after.columns between rules fs put.facts (counts-grown n before.columns columns same fs k.rules between put.has_cells kept.counts);
+      live = lives_line fs columns after.columns between rules sized.once put.facts live;
+      possible = possible_put fs (taken_valid least_time fs put.taken) k.rules rules put.cells kept.possible;
+      sized = sized_waits settings marks (n + length fs) run (waiting_in run before.columns) (waiting_in run after.columns) after.series after.columns (cells_of after.rollups)
+          (sized_put (grown after.series columns between k) after.columns fs k.rules rules put.has_cells put.facts few sized);
     }
 
 -- ---- the results
@@ -303,7 +309,7 @@ pub range_stands : (opening : Settings) (h : History) (k : StoreData) (n : ℕ) 
 range_stands opening h k n s a b at st = λ p above.
     let shown = stands_shows opening h (state_of k) st in
     let here : Among s k.columns = at_among k.columns n s at in
-    let late : k.marks.raw ≤ℤ p.0 = subst (λ (m : Marks). m.raw ≤ℤ p.0) (sym st.marks) above in
+    let late : k.raw_mark ≤ℤ p.0 = subst (λ (m : Marks). m.raw ≤ℤ p.0) (sym st.marks) above in
     let within : ℤ × ℤ → Bool = λ q. is_within a b q.0 in (
       λ m. let was = Among-filter_was within p s.points m in
           ((shown.raw (fact_at s.column p) late).0 (facts_of-there k.columns s (fact_at s.column p) here (at_fact s.column s.points p was)), Among-filter_passes within p s.points m),
@@ -353,15 +359,11 @@ pub record IsWelcome (mark : ℤ) (series : List Series) (n : ℕ) (p : Parts) :
   pub registers : is_too_many series (series_of p) ≡ false
   pub few : n + length (line_facts p) ≤ 2 ^ 62
 
-nothing_said : {F : Type 0} (well : Bool) (fault : F) (next : Option F) → unless well fault next ≡ None → (well ≡ true) × (next ≡ None)
-nothing_said true fault next e = (refl, e)
-nothing_said false fault next e = absurd (none-some fault (sym e))
-
 pub not_refused : (mark : ℤ) (series : List Series) (n : ℕ) (p : Parts) → write_fault mark series n p ≡ None → IsWelcome mark series n p
 not_refused mark series n p e =
-    let below = nothing_said (int_le mark p.time) (BelowRawMark mark) _ e in
-    let series_said = nothing_said (not (is_too_many series (series_of p))) TooManySeries _ below.1 in
-    let facts_said = nothing_said (nat_le (n + length (line_facts p)) (2 ^ 62)) TooManyFacts None series_said.1 in
+    let below = well (int_le mark p.time) (BelowRawMark mark) _ e in
+    let series_said = well (not (is_too_many series (series_of p))) TooManySeries _ below.1 in
+    let facts_said = well (nat_le (n + length (line_facts p)) (2 ^ 62)) TooManyFacts None series_said.1 in
     record {
       late = le_from mark p.time below.0;
       registers = sym (not_not (is_too_many series (series_of p))) ∙ ap not series_said.0;

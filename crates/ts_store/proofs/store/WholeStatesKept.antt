@@ -4,7 +4,7 @@ use Rattle.ts_core.specs.facts.Facts.{Text, Fact}
 use Rattle.ts_core.specs.settings.Settings.{Rule, Settings, is_unnamed}
 use Rattle.ts_core.specs.store.History.{Step}
 use Rattle.ts_core.specs.store.Marks.{Marks}
-use Rattle.ts_core.specs.store.StoreData.{StoreData, GoesOn}
+use Rattle.ts_core.specs.store.StoreData.{StoreData, store_settings, store_marks, GoesOn}
 use Rattle.ts_core.specs.lists.Beside.{kept_beside}
 use Rattle.ts_core.specs.declared.facts.time_unit.TimeUnit.{TimeUnit}
 use Rattle.ts_store.specs.store.Inventories.{Inventory, inventory_of, facts_of_text, GrowsAfter, steps_in, StepsTo}
@@ -23,14 +23,14 @@ use Rattle.ts_store.proofs.store.InventoriesKept.{none_taken, one_taken}
 -- ---- the text of a line
 
 grown : {E : Type 0} (facts : List Fact) (r : Result LineOutcome E) (s : WholeState) (k : StoreData) (new : Inventory) → IsWholeStateOf s k
-    → GrowsAfter k.settings.rules k.marks.lows facts r (inventory_of k) new → GrowsAfter (rules_in s) (lows_in s) facts r s.inventory new
+    → GrowsAfter (store_settings k).rules (store_marks k).lows facts r (inventory_of k) new → GrowsAfter (rules_in s) (lows_in s) facts r s.inventory new
 grown {E} facts r s k new i g =
     subst (λ (z : Inventory). GrowsAfter (rules_in s) (lows_in s) facts r z new) i.inventory
     (subst (λ (z : Marks). GrowsAfter (rules_in s) z.lows facts r (inventory_of k) new) i.store.stands.marks
-    (subst (λ (z : Settings). GrowsAfter z.rules k.marks.lows facts r (inventory_of k) new) i.store.stands.settings g))
+    (subst (λ (z : Settings). GrowsAfter z.rules (store_marks k).lows facts r (inventory_of k) new) i.store.stands.settings g))
 
 pub line_written : {E : Type 0} (precision : TimeUnit) (now : ℤ) (text : Text) (r : Result LineOutcome E) (k k' : StoreData) → ((t : LineState) → IsStateOf t k → WritesFrom precision now t text r k')
-    → GrowsAfter k.settings.rules k.marks.lows (facts_of_text (parts_in precision now text)) r (inventory_of k) (inventory_of k') → (s : WholeState) → IsWholeStateOf s k → LineWrites precision now s text r k'
+    → GrowsAfter (store_settings k).rules (store_marks k).lows (facts_of_text (parts_in precision now text)) r (inventory_of k) (inventory_of k') → (s : WholeState) → IsWholeStateOf s k → LineWrites precision now s text r k'
 line_written {E} precision now text (Ok outcome) k k' each grows s i =
     let w = each s.store i.store in
     (record { store = w.0; inventory = inventory_of k' }, record { written = w.1; grows = grown {E = E} (facts_of_text (parts_in precision now text)) (Ok outcome) s k (inventory_of k') i grows }, record { store = w.2; inventory = refl })
@@ -100,7 +100,7 @@ rule_added s old new r low i c =
 
 pub rule_dropped : (s : WholeState) (old new : StoreData) (name : Text) → IsWholeStateOf s old → RuleGoes old new name → IsWholeStateOf (state_without_rule name s) new
 rule_dropped s old new name i c =
-    let left : inventory_of new ≡ record { columns = (inventory_of old).columns; waiting = (inventory_of old).waiting; cells = kept_beside (is_unnamed name) old.settings.rules (inventory_of old).cells } =
+    let left : inventory_of new ≡ record { columns = (inventory_of old).columns; waiting = (inventory_of old).waiting; cells = kept_beside (is_unnamed name) (store_settings old).rules (inventory_of old).cells } =
     λ j. record { columns = c.columns j; waiting = c.waiting j; cells = c.cells j } in
     record {
       store = rule_went s.store old new name i.store c;

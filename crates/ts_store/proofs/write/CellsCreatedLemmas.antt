@@ -10,12 +10,14 @@ use Rattle.ts_core.specs.settings.Settings.{Rule}
 use Rattle.ts_core.specs.store.Marks.{index_of}
 use Rattle.ts_core.specs.store.Cells.{Cell, cell_of, is_rolled, same_cell}
 use Rattle.ts_core.specs.lists.Changes.{or_else}
-use Rattle.ts_core.specs.store.StoreData.{CellMap, no_parts}
+use Rattle.ts_core.specs.store.StoreData.{CellMap, RuleData, no_parts}
 use Rattle.ts_core.specs.moves.StoreMoves.{GainsEmptyCells, GainEmptyCells}
 use Rattle.std.proofs.lemmas.Int.{ints}
 use Rattle.ts_core.proofs.lists.Comparisons.{lt_from, lt_not}
 use Rattle.ts_core.proofs.plans.PieceCells.{same_cell-eq, same_cell-refl}
 use Rattle.ts_core.proofs.lists.BesideLemmas.{AllZip-then}
+use Rattle.ts_core.proofs.moves.EachRule.{each_same}
+use Rattle.ts_store.specs.store.RuleLists.{rules_with}
 use Rattle.ts_cells.specs.CellChanges.{inserted_if_absent}
 use Rattle.ts_cells.specs.Grids.{RollupSeries, no_rollup_series, cell_at, cell_in}
 use Rattle.ts_cells.proofs.GridMoves.{get-inserted_if_absent}
@@ -140,19 +142,15 @@ from_roomed r low cs time ns fs s h a =
 
 -- ---- under each rule
 
-pub rooms_same : (rs : List Rule) (lows : List ℤ) (ms : List CellMap) → GainEmptyCells rs lows [] ms ms
-rooms_same rs lows [] = tt
-rooms_same [] lows (m ∷ ms) = tt
-rooms_same (r ∷ rs) [] (m ∷ ms) = tt
-rooms_same (r ∷ rs) (low ∷ lows) (m ∷ ms) = (room_same r low m, rooms_same rs lows ms)
+pub rooms_same : (rs : List RuleData) → GainEmptyCells [] rs rs
+rooms_same = each_same (λ r low. GainsEmptyCells r low []) room_same
 
 pub rooms_made : (rs : List Rule) (lows : List ℤ) (cs : List Column) (time : ℤ) (ns : List ℕ) (fs : List Fact) (ss : List RollupState) → AreRollups rs cs ss → AreAt cs time ns fs
-    → GainEmptyCells rs lows fs (cells_of ss) (cells_of (cells_created_under (bucket_indices rs time) lows ns ss))
-rooms_made [] lows cs time ns fs [] h a = tt
-rooms_made [] lows cs time ns fs (s ∷ ss) h a = absurd h
+    → GainEmptyCells fs (rules_with rs lows (cells_of ss)) (rules_with rs lows (cells_of (cells_created_under (bucket_indices rs time) lows ns ss)))
+rooms_made [] lows cs time ns fs ss h a = tt
 rooms_made (r ∷ rs) lows cs time ns fs [] h a = absurd h
 rooms_made (r ∷ rs) [] cs time ns fs (s ∷ ss) h a = tt
-rooms_made (r ∷ rs) (low ∷ lows) cs time ns fs (s ∷ ss) h a = (from_roomed r low cs time ns fs s h.0 a, rooms_made rs lows cs time ns fs ss h.1 a)
+rooms_made (r ∷ rs) (low ∷ lows) cs time ns fs (s ∷ ss) h a = ((refl, refl, from_roomed r low cs time ns fs s h.0 a), rooms_made rs lows cs time ns fs ss h.1 a)
 
 pub rollups_stay : (rs : List Rule) (cs : List Column) (ss ts : List RollupState) → AreRollups rs cs ss → KeepRollupSeries ss ts → AreRollups rs cs ts
 rollups_stay rs cs ss ts h k =
@@ -208,12 +206,12 @@ kept_from r low index ns s =
       | false ↦ λ e. kept_rooms r low index ns s (lt_not index low e)
     ] refl
 
-pub part_rooms : (rs : List Rule) (lows : List ℤ) (time : ℤ) (ns : List ℕ) (ss ts : List RollupState) → AreCreatedInPart (bucket_indices rs time) lows ns ss ts → GainEmptyCells rs lows [] (cells_of ss) (cells_of ts)
-part_rooms [] lows time ns ss ts a = subst (λ (us : List RollupState). GainEmptyCells [] lows [] (cells_of ss) (cells_of us)) (sym a) (rooms_same [] lows (cells_of ss))
-part_rooms (r ∷ rs) [] time ns ss ts a = subst (λ (us : List RollupState). GainEmptyCells (r ∷ rs) [] [] (cells_of ss) (cells_of us)) (sym a) (rooms_same (r ∷ rs) [] (cells_of ss))
-part_rooms (r ∷ rs) (low ∷ lows) time ns [] ts a = subst (λ (us : List RollupState). GainEmptyCells (r ∷ rs) (low ∷ lows) [] [] (cells_of us)) (sym a) tt
+pub part_rooms : (rs : List Rule) (lows : List ℤ) (time : ℤ) (ns : List ℕ) (ss ts : List RollupState) → AreCreatedInPart (bucket_indices rs time) lows ns ss ts → GainEmptyCells [] (rules_with rs lows (cells_of ss)) (rules_with rs lows (cells_of ts))
+part_rooms [] lows time ns ss ts a = tt
+part_rooms (r ∷ rs) [] time ns ss ts a = tt
+part_rooms (r ∷ rs) (low ∷ lows) time ns [] ts a = subst (λ (us : List RollupState). GainEmptyCells [] [] (rules_with (r ∷ rs) (low ∷ lows) (cells_of us))) (sym a) tt
 part_rooms (r ∷ rs) (low ∷ lows) time ns (s ∷ ss) [] a = absurd a
 part_rooms (r ∷ rs) (low ∷ lows) time ns (s ∷ ss) (t ∷ ts) a = (
-  subst (λ (u : RollupState). GainsEmptyCells r low [] s.grid.cells u.grid.cells) (sym a.0.1) (kept_from r low (index_of r time) (take a.0.0 ns) s),
+  (refl, refl, subst (λ (u : RollupState). GainsEmptyCells r low [] s.grid.cells u.grid.cells) (sym a.0.1) (kept_from r low (index_of r time) (take a.0.0 ns) s)),
   part_rooms rs lows time ns ss ts a.1,
 )

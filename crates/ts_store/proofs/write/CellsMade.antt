@@ -1,44 +1,28 @@
 -- The created cells of a line: exactly the missing ones of its facts, at or above low indices.
-use Rattle.std.proofs.Common.{◌≡◌, ◌≢◌, ◌⊎◌, ◌≤ℤ◌, ◌<◌, ℕ, zero, suc, ℤ, int_lt, true, false, cond, ◌&&◌, List, [], ◌∷◌, length, take, get_or, Option, Some, None, refl, sym, ◌∙◌, ap, ap₂, subst, inl, inr, ⊎_elim, true≢false}
+use Rattle.std.proofs.Common.{◌≡◌, ◌≢◌, ◌⊎◌, ◌≤ℤ◌, ℕ, zero, suc, ℤ, int_lt, true, false, cond, ◌&&◌, List, [], ◌∷◌, map, take, Option, Some, None, refl, sym, ◌∙◌, ap, subst, inl, inr, ⊎_elim, true≢false}
 use Rattle.std.specs.FinMap as finmap
-use Rattle.std.specs.List.{slice_get}
-use Rattle.std.proofs.lemmas.Option.{get_or_from_slice_get, slice_get-get_or, slice_get_within, none-some, same_Some}
+use Rattle.std.proofs.lemmas.Option.{get_or_from_slice_get, none-some, same_Some}
 use Rattle.ts_core.specs.lists.Members.{Among}
-use Rattle.ts_core.specs.lists.Numbered.{IsAt}
 use Rattle.ts_core.specs.facts.Facts.{Column, Fact}
 use Rattle.ts_core.specs.settings.Settings.{Rule}
 use Rattle.ts_core.specs.store.Marks.{index_of}
 use Rattle.ts_core.specs.store.Cells.{Cell, cell_of, is_rolled, is_in_cell, same_cell}
 use Rattle.ts_core.specs.lists.Changes.{or_else}
 use Rattle.ts_core.specs.store.StoreStates.{ColumnPoints, CellParts, facts_of}
-use Rattle.ts_core.specs.store.StoreData.{CellMap, no_parts}
-use Rattle.ts_core.specs.moves.StoreMoves.{GainsEmptyCells, GainEmptyCells, put_cell, put_cells, PutsFacts}
+use Rattle.ts_core.specs.store.StoreData.{CellMap, RuleData, OfEachRule, no_parts}
+use Rattle.ts_core.specs.moves.StoreMoves.{in_cells, GainsEmptyCells, GainEmptyCells, put_cell, PutsFacts}
 use Rattle.ts_core.proofs.lists.Comparisons.{lt_not}
 use Rattle.ts_core.proofs.moves.Freezing.{frozen_in}
 use Rattle.ts_core.proofs.moves.MovesStand.{key_there, key_not, put_cell-keys, put_frozen, put_else}
 use Rattle.ts_core.proofs.plans.PieceCells.{same_cell-eq, same_cell-refl}
-use Rattle.ts_core.proofs.lists.BesideLemmas.{length-beside}
+use Rattle.ts_core.proofs.moves.EachRule.{each_in, each_same, each_then, each_both}
+use Rattle.ts_store.specs.store.RuleLists.{rules_with}
 use Rattle.ts_cells.specs.Grids.{no_rollup_series, cell_at, cell_in}
 use Rattle.ts_cells.proofs.GridMoves.{get-inserted_if_absent}
-use Rattle.ts_store.specs.write.LinesPut.{OfEachRule, IsOfFacts, PutsCells, GainsCells}
+use Rattle.ts_store.specs.write.LinesPut.{IsOfFacts, PutsCells, GainsCells}
 use Rattle.ts_store.specs.rollup.Rollups.{RollupState, cells_of, rollup_series_under, IsRollupSeriesOf, HaveRollupSeries, AreRollups, with_grid_cells, cell_created_in, rollup_series_at}
 use Rattle.ts_store.specs.write.CellsCreated.{bucket_indices, cells_created_for, cells_created_from, AreCreatedInPart}
 use Rattle.ts_store.proofs.write.CellsCreatedLemmas.{AreAt, rollup_series_known}
-
--- ---- of each rule
-
-module _ (P : Rule → ℤ → CellMap → CellMap → Type 0) where
-  pub each_same : ((r : Rule) (low : ℤ) (m : CellMap) → P r low m m) → (rs : List Rule) (lows : List ℤ) (ms : List CellMap) → OfEachRule P rs lows ms ms
-  each_same same rs lows ms = (refl, λ i r low m n ar al am an. subst (P r low m) (same_Some m n (sym am ∙ an)) (same r low m))
-
-  each_at : (r : Rule) (rs : List Rule) (low : ℤ) (lows : List ℤ) (m : CellMap) (ms : List CellMap) (n : CellMap) (ns : List CellMap) → P r low m n → OfEachRule P rs lows ms ns
-      → (i : ℕ) (r' : Rule) (low' : ℤ) (m' n' : CellMap) → IsAt (r ∷ rs) i r' → IsAt (low ∷ lows) i low' → IsAt (m ∷ ms) i m' → IsAt (n ∷ ns) i n' → P r' low' m' n'
-  each_at r rs low lows m ms n ns one all zero r' low' m' n' ar al am an =
-      subst (P r' low' m') (same_Some n n' an) (subst (λ (x : CellMap). P r' low' x n) (same_Some m m' am) (subst (λ (x : ℤ). P r' x m n) (same_Some low low' al) (subst (λ (x : Rule). P x low m n) (same_Some r r' ar) one)))
-  each_at r rs low lows m ms n ns one all (suc i) r' low' m' n' ar al am an = all.1 i r' low' m' n' ar al am an
-
-  pub each_more : (r : Rule) (rs : List Rule) (low : ℤ) (lows : List ℤ) (m : CellMap) (ms : List CellMap) (n : CellMap) (ns : List CellMap) → P r low m n → OfEachRule P rs lows ms ns → OfEachRule P (r ∷ rs) (low ∷ lows) (m ∷ ms) (n ∷ ns)
-  each_more r rs low lows m ms n ns one all = (ap suc all.0, each_at r rs low lows m ms n ns one all)
 
 -- ---- room in one map
 
@@ -126,18 +110,18 @@ part_gains r low cs time ns fs s i h a =
 
 -- room for some of a line's cells creates no others
 pub parts_gain : (rs : List Rule) (lows : List ℤ) (cs : List Column) (time : ℤ) (ns : List ℕ) (fs : List Fact) (ss ts : List RollupState) → AreRollups rs cs ss → AreAt cs time ns fs → AreCreatedInPart (bucket_indices rs time) lows ns ss ts
-    → OfEachRule (GainsCells fs) rs lows (cells_of ss) (cells_of ts)
-parts_gain [] lows cs time ns fs ss ts h a part = subst (λ (us : List RollupState). OfEachRule (GainsCells fs) [] lows (cells_of ss) (cells_of us)) (sym part) (each_same (GainsCells fs) (gains_nothing fs) [] lows (cells_of ss))
-parts_gain (r ∷ rs) [] cs time ns fs ss ts h a part = subst (λ (us : List RollupState). OfEachRule (GainsCells fs) (r ∷ rs) [] (cells_of ss) (cells_of us)) (sym part) (each_same (GainsCells fs) (gains_nothing fs) (r ∷ rs) [] (cells_of ss))
+    → OfEachRule (GainsCells fs) (rules_with rs lows (cells_of ss)) (rules_with rs lows (cells_of ts))
+parts_gain [] lows cs time ns fs ss ts h a part = tt
+parts_gain (r ∷ rs) [] cs time ns fs ss ts h a part = tt
 parts_gain (r ∷ rs) (low ∷ lows) cs time ns fs [] ts h a part = absurd h
 parts_gain (r ∷ rs) (low ∷ lows) cs time ns fs (s ∷ ss) [] h a part = absurd part
-parts_gain (r ∷ rs) (low ∷ lows) cs time ns fs (s ∷ ss) (t ∷ ts) h a part =
-    each_more (GainsCells fs) r rs low lows s.grid.cells (cells_of ss) t.grid.cells (cells_of ts)
-    (subst (λ (u : RollupState). GainsCells fs r low s.grid.cells u.grid.cells) (sym part.0.1) (part_gains r low cs time ns fs s part.0.0 h.0 a))
-    (parts_gain rs lows cs time ns fs ss ts h.1 a part.1)
+parts_gain (r ∷ rs) (low ∷ lows) cs time ns fs (s ∷ ss) (t ∷ ts) h a part = (
+  (refl, refl, subst (λ (u : RollupState). GainsCells fs r low s.grid.cells u.grid.cells) (sym part.0.1) (part_gains r low cs time ns fs s part.0.0 h.0 a)),
+  parts_gain rs lows cs time ns fs ss ts h.1 a part.1,
+)
 
 -- nothing is created
-pub gain_nothing : (fs : List Fact) (rs : List Rule) (lows : List ℤ) (ms : List CellMap) → OfEachRule (GainsCells fs) rs lows ms ms
+pub gain_nothing : (fs : List Fact) (rs : List RuleData) → OfEachRule (GainsCells fs) rs rs
 gain_nothing fs = each_same (GainsCells fs) (gains_nothing fs)
 
 -- ---- facts are put
@@ -162,32 +146,12 @@ keeps_then f fs r m o n a b = record {
   others = λ k apart. b.others k (λ q. apart (q.0, inr q.1, q.2)) ∙ a.others k (λ q. apart (q.0, ⊎_elim {C = Among q.0 (f ∷ fs)} (λ e. inl e) (λ x. absurd x) q.1, q.2));
 }
 
-put_at : (rs : List Rule) (f : Fact) (facts : List Fact) (ms : List CellMap) (i : ℕ) (r : Rule) (m : CellMap) → IsAt rs i r → IsAt ms i m → IsAt (put_cells rs f facts ms) i (put_cell r f facts m)
-put_at [] f facts ms i r m ar am = absurd (none-some r ar)
-put_at (q ∷ rs) f facts [] i r m ar am = absurd (none-some m am)
-put_at (q ∷ rs) f facts (x ∷ ms) zero r m ar am = ap₂ (λ (a : Rule) (b : CellMap). Some (put_cell a f facts b)) (same_Some q r ar) (same_Some x m am)
-put_at (q ∷ rs) f facts (x ∷ ms) (suc i) r m ar am = put_at rs f facts ms i r m ar am
-
-pub line-length : (rs : List Rule) (fs : List Fact) (before after : List ColumnPoints) (ms ns : List CellMap) → PutsFacts rs before ms after ns fs → length ns ≡ length ms
-line-length rs [] before after ms ns p = ap (λ (xs : List CellMap). length xs) p.1
-line-length rs (f ∷ fs) before after ms ns p = line-length rs fs p.0 after (put_cells rs f (facts_of p.0) ms) ns p.2 ∙ length-beside (λ (r : Rule). put_cell r f (facts_of p.0)) rs ms
-
-line_keeps : (rs : List Rule) (fs : List Fact) (before after : List ColumnPoints) (ms ns : List CellMap) → PutsFacts rs before ms after ns fs → (i : ℕ) (r : Rule) (m n : CellMap) → IsAt rs i r → IsAt ms i m → IsAt ns i n → KeepsKeys fs r m n
-line_keeps rs [] before after ms ns p i r m n ar am an =
-    let same : m ≡ n = same_Some m n (sym am ∙ ap (λ (xs : List CellMap). slice_get xs i) (sym p.1) ∙ an) in
-    subst (KeepsKeys [] r m) same (record { keys = refl; frozen = λ k. refl; others = λ k apart. refl })
-line_keeps rs (f ∷ fs) before after ms ns p i r m n ar am an =
-    keeps_then f fs r m (put_cell r f (facts_of p.0) m) n (put_keeps f (facts_of p.0) r m)
-    (line_keeps rs fs p.0 after (put_cells rs f (facts_of p.0) ms) ns p.2 i r (put_cell r f (facts_of p.0) m) n ar (put_at rs f (facts_of p.0) ms i r m ar am) an)
-
-room_at : (rs : List Rule) (lows : List ℤ) (fs : List Fact) (ms ns : List CellMap) → GainEmptyCells rs lows fs ms ns → (i : ℕ) (r : Rule) (low : ℤ) (m n : CellMap) → IsAt rs i r → IsAt lows i low → IsAt ms i m → IsAt ns i n → GainsEmptyCells r low fs m n
-room_at rs lows fs [] ns capacity i r low m n ar al am an = absurd (none-some m am)
-room_at rs lows fs (x ∷ ms) [] capacity i r low m n ar al am an = absurd (none-some n an)
-room_at [] lows fs (x ∷ ms) (y ∷ ns) capacity i r low m n ar al am an = absurd (none-some r ar)
-room_at (q ∷ rs) [] fs (x ∷ ms) (y ∷ ns) capacity i r low m n ar al am an = absurd (none-some low al)
-room_at (q ∷ rs) (l ∷ lows) fs (x ∷ ms) (y ∷ ns) capacity zero r low m n ar al am an =
-    subst (GainsEmptyCells r low fs m) (same_Some y n an) (subst (λ (z : CellMap). GainsEmptyCells r low fs z y) (same_Some x m am) (subst (λ (z : ℤ). GainsEmptyCells r z fs x y) (same_Some l low al) (subst (λ (z : Rule). GainsEmptyCells z l fs x y) (same_Some q r ar) capacity.0)))
-room_at (q ∷ rs) (l ∷ lows) fs (x ∷ ms) (y ∷ ns) capacity (suc i) r low m n ar al am an = room_at rs lows fs ms ns capacity.1 i r low m n ar al am an
+line_keeps : (fs : List Fact) (before after : List ColumnPoints) (rs ss : List RuleData) → PutsFacts before rs after ss fs → OfEachRule (λ r low. KeepsKeys fs r) rs ss
+line_keeps [] before after rs ss p = subst (OfEachRule (λ r low. KeepsKeys [] r) rs) (sym p.1) (each_same (λ r low. KeepsKeys [] r) (λ r low m. record { keys = refl; frozen = λ k. refl; others = λ k apart. refl }) rs)
+line_keeps (f ∷ fs) before after rs ss p =
+    let puts : Rule → CellMap → CellMap = λ r. put_cell r f (facts_of p.0) in
+    each_then (λ r low. KeepsKeys (f ∷ []) r) (λ r low. KeepsKeys fs r) (λ r low. KeepsKeys (f ∷ fs) r) (λ r low. keeps_then f fs r) rs (map (in_cells puts) rs) ss
+    (each_in (λ r low. KeepsKeys (f ∷ []) r) puts (λ a. put_keeps f (facts_of p.0) a.rule a.cells) rs) (line_keeps fs p.0 after (map (in_cells puts) rs) ss p.2)
 
 module _ (fs : List Fact) (r : Rule) (low : ℤ) (m o n : CellMap) (gains : GainsCells fs r low m o) (capacity : GainsEmptyCells r low fs m o) (keeps : KeepsKeys fs r o n) where
   was_there : (k : Cell) → finmap.get n k ≢ None → finmap.get o k ≢ None
@@ -238,13 +202,11 @@ module _ (fs : List Fact) (r : Rule) (low : ℤ) (m o n : CellMap) (gains : Gain
     others = λ k apart. keeps.others k apart ∙ none_else k apart;
   }
 
+abbrev GainsBoth : List Fact → Rule → ℤ → CellMap → CellMap → Type 0
+GainsBoth fs r low m o = GainsCells fs r low m o × GainsEmptyCells r low fs m o
+
 -- a line creates the missing cells of its facts, and puts the facts into cells
-pub line_cells : (rs : List Rule) (lows : List ℤ) (fs : List Fact) (before after : List ColumnPoints) (ms os ns : List CellMap) → OfEachRule (GainsCells fs) rs lows ms os → GainEmptyCells rs lows fs ms os → PutsFacts rs before os after ns fs
-    → OfEachRule (PutsCells fs) rs lows ms ns
-line_cells rs lows fs before after ms os ns gains capacity puts = (
-  line-length rs fs before after os ns puts ∙ gains.0,
-  λ i r low m n ar al am an.
-      let o : CellMap = get_or os i finmap.empty in
-      let ao : IsAt os i o = slice_get-get_or os i finmap.empty (subst (λ (z : ℕ). i < z) (sym gains.0) (slice_get_within ms i m am)) in
-      puts_cells fs r low m o n (gains.1 i r low m o ar al am ao) (room_at rs lows fs ms os capacity i r low m o ar al am ao) (line_keeps rs fs before after os ns puts i r o n ar ao an),
-)
+pub line_cells : (fs : List Fact) (before after : List ColumnPoints) (rs os ss : List RuleData) → OfEachRule (GainsCells fs) rs os → GainEmptyCells fs rs os → PutsFacts before os after ss fs → OfEachRule (PutsCells fs) rs ss
+line_cells fs before after rs os ss gains capacity puts =
+    each_then (GainsBoth fs) (λ r low. KeepsKeys fs r) (PutsCells fs) (λ r low m o n both. puts_cells fs r low m o n both.0 both.1) rs os ss
+    (each_both (GainsCells fs) (λ r low. GainsEmptyCells r low fs) (GainsBoth fs) (λ r low m n a b. (a, b)) rs os gains capacity) (line_keeps fs before after os ss puts)

@@ -12,10 +12,14 @@ use Rattle.ts_core.specs.lists.Members.{Among, AllDistinct}
 use Rattle.ts_core.specs.facts.Facts.{Column, Fact, Id, id_of, same_id}
 use Rattle.ts_core.specs.settings.Settings.{Rule}
 use Rattle.ts_core.specs.store.StoreStates.{ColumnPoints, facts_of}
-use Rattle.ts_core.specs.store.StoreData.{CellMap, AreLive}
-use Rattle.ts_core.specs.moves.StoreMoves.{PutsFact, refolded, put_cells, PutsFacts}
+use Rattle.ts_core.specs.store.StoreData.{CellMap, RuleData, IsLive}
+use Rattle.ts_core.specs.moves.StoreMoves.{PutsFact, refolded, put_cell, put_cells, PutsFacts}
 use Rattle.ts_core.proofs.facts.Ids.{same_id-eq}
-use Rattle.ts_core.proofs.moves.LivesKept.{lives_line}
+use Rattle.ts_core.proofs.moves.LivesKept.{live_put}
+use Rattle.ts_core.specs.lists.Beside.{OfEach}
+use Rattle.ts_core.proofs.lists.BesideLemmas.{OfEach-beside}
+use Rattle.ts_store.specs.store.RuleLists.{rules_with}
+use Rattle.ts_store.proofs.store.RuleListLemmas.{with_changed}
 use Rattle.ts_core.proofs.lists.MembersLemmas.{Among-append, Among-left, Among-right}
 use Rattle.ts_core.proofs.lists.NumberedLemmas.{at_among}
 use Rattle.ts_core.proofs.lists.Sorted.{found_among, among_found}
@@ -25,7 +29,7 @@ use Rattle.ts_raw.specs.Columns.{PointMap, ColumnState}
 use Rattle.ts_store.specs.store.ColumnStates.{facts_in, facts_of_columns, with_points, point_maps, no_column, with_staged, committed, all_committed, AreReady, IsFactStaged, AreStaged}
 use Rattle.ts_store.specs.write.CellsCreated.{KeepsRollupSeries}
 use Rattle.ts_store.specs.write.LivePuts.{WasThere, IsLivePut, AreOfFields}
-use Rattle.ts_store.specs.write.PointPuts.{AreLiveOver, PutsPoint, ArePointsStaged}
+use Rattle.ts_store.specs.write.PointPuts.{AreLiveOver, cells_put, PutsPoint, ArePointsStaged}
 use Rattle.ts_store.specs.read.PointsRead.{number_of_points}
 use Rattle.ts_store.specs.rollup.ChangedLists.{ChangesBeside}
 use Rattle.ts_store.specs.rollup.Rollups.{RollupState, IsRollupSeriesOf, AreRollups, rollup_series_at, with_grid_cells, cells_of}
@@ -151,7 +155,7 @@ without_rollup_series (Some l) e = absurd (true≢false e)
 
 -- where no rule rolls the column up
 pub unrolled_put : (rs : List Rule) (cs : List Column) (ss : List RollupState) (n : ℕ) (f : Fact) (facts : List Fact) → AreRollups rs cs ss → slice_get cs n ≡ Some f.column → AllByRecursion (λ (s : RollupState). rollup_series_at s n ≡ None) ss
-    → cells_of ss ≡ put_cells rs f facts (cells_of ss)
+    → cells_of ss ≡ cells_put rs f facts (cells_of ss)
 unrolled_put [] cs ss n f facts a at none = refl
 unrolled_put (r ∷ rs) cs [] n f facts a at none = refl
 unrolled_put (r ∷ rs) cs (s ∷ ss) n f facts a at none =
@@ -203,17 +207,21 @@ pub record IsPointStaged (cs : List Column) (states : List ColumnState) (column 
 abbrev pub CommitsPoint : List Rule → ℕ → ℤ → ℤ → List ColumnState → List RollupState → List ColumnState → List RollupState → Type 0
 CommitsPoint rules column time value states us states' us' =
     (cs : List Column) (f : Fact) → AreLiveOver rules cs states (with_points cs (point_maps states)) us → IsPointStaged cs states column time value f
-    → cells_of us' ≡ put_cells rules f (facts_of (with_points cs (point_maps states'))) (cells_of us)
+    → cells_of us' ≡ cells_put rules f (facts_of (with_points cs (point_maps states'))) (cells_of us)
 
-pub puts_more : (rs : List Rule) (cs : List Column) (ss ss' : List ColumnState) (n : ℕ) (f : Fact) (fs : List Fact) (after : List ColumnPoints) (ms ms' ns : List CellMap) → AllDistinct cs → length ss ≡ length cs → IsFactStaged cs ss n f
-    → ss' ≡ set ss n (committed (get_or ss n no_column)) → ms' ≡ put_cells rs f (facts_of (with_points cs (point_maps ss'))) ms → AreLive (with_points cs (point_maps ss)) rs ms
-    → (AreLive (with_points cs (point_maps ss')) rs ms' → PutsFacts rs (with_points cs (point_maps ss')) ms' after ns fs)
-    → PutsFacts rs (with_points cs (point_maps ss)) ms after ns (f ∷ fs)
-puts_more rs cs ss ss' n f fs after ms ms' ns once each staged is made live rest =
-    let put : PutsFact (with_points cs (point_maps ss)) (with_points cs (point_maps ss')) f = subst (λ (xs : List ColumnState). PutsFact (with_points cs (point_maps ss)) (with_points cs (point_maps xs)) f) (sym is) (puts_one cs ss n f once each staged) in
-    let lives : AreLive (with_points cs (point_maps ss')) rs ms' =
-    lives_line rs (f ∷ []) (with_points cs (point_maps ss)) (with_points cs (point_maps ss')) ms ms' (facts-distinct cs (point_maps ss) once) (with_points cs (point_maps ss'), put, (refl, made)) live in
-    (with_points cs (point_maps ss'), put, subst (λ (xs : List CellMap). PutsFacts rs (with_points cs (point_maps ss')) xs after ns fs) made (rest lives))
+pub puts_more : (rs : List Rule) (lows : List ℤ) (cs : List Column) (ss ss' : List ColumnState) (n : ℕ) (f : Fact) (fs : List Fact) (after : List ColumnPoints) (ms ms' : List CellMap) (ends : List RuleData) → AllDistinct cs → length ss ≡ length cs → IsFactStaged cs ss n f
+    → ss' ≡ set ss n (committed (get_or ss n no_column)) → ms' ≡ cells_put rs f (facts_of (with_points cs (point_maps ss'))) ms → OfEach (IsLive (with_points cs (point_maps ss))) rs ms
+    → (OfEach (IsLive (with_points cs (point_maps ss'))) rs ms' → PutsFacts (with_points cs (point_maps ss')) (rules_with rs lows ms') after ends fs)
+    → PutsFacts (with_points cs (point_maps ss)) (rules_with rs lows ms) after ends (f ∷ fs)
+puts_more rs lows cs ss ss' n f fs after ms ms' ends once each staged is made live rest =
+    let before : List ColumnPoints = with_points cs (point_maps ss) in
+    let between : List ColumnPoints = with_points cs (point_maps ss') in
+    let put : PutsFact before between f = subst (λ (xs : List ColumnState). PutsFact before (with_points cs (point_maps xs)) f) (sym is) (puts_one cs ss n f once each staged) in
+    let puts : Rule → CellMap → CellMap = λ r. put_cell r f (facts_of between) in
+    let lives : OfEach (IsLive between) rs ms' =
+    subst (OfEach (IsLive between) rs) (sym made) (OfEach-beside (IsLive before) (IsLive between) puts (live_put before between f (facts-distinct cs (point_maps ss) once) put) rs ms live) in
+    let cells : rules_with rs lows ms' ≡ put_cells f (facts_of between) (rules_with rs lows ms) = ap (rules_with rs lows) made ∙ sym (with_changed puts rs lows ms) in
+    (between, put, subst (λ (xs : List RuleData). PutsFacts between xs after ends fs) cells (rest lives))
 
 -- no rule rolls the column up
 pub commits_alone : (rs : List Rule) (n : ℕ) (time value : ℤ) (ss ss' : List ColumnState) (us : List RollupState) → AllByRecursion (λ (s : RollupState). rollup_series_at s n ≡ None) us → CommitsPoint rs n time value ss us ss' us
@@ -245,28 +253,29 @@ next_ready ss ss' n ns ns' e is ready few =
     )
 
 -- the facts of columns and fields, which are staged, bring columns and cells to an end
-abbrev pub PutsRest : List Rule → List ℕ → ℤ → List (LinePart × ℤ) → List Column → List ColumnState → List RollupState → List ColumnPoints → List CellMap → Type 0
-PutsRest rs ns time xs cs ss us after ends = (gs : List Fact) → AreLiveOver rs cs ss (with_points cs (point_maps ss)) us → ArePointsStaged cs ss ns time xs gs → PutsFacts rs (with_points cs (point_maps ss)) (cells_of us) after ends gs
+abbrev pub PutsRest : List Rule → List ℤ → List ℕ → ℤ → List (LinePart × ℤ) → List Column → List ColumnState → List RollupState → List ColumnPoints → List RuleData → Type 0
+PutsRest rs lows ns time xs cs ss us after ends =
+    (gs : List Fact) → AreLiveOver rs cs ss (with_points cs (point_maps ss)) us → ArePointsStaged cs ss ns time xs gs → PutsFacts (with_points cs (point_maps ss)) (rules_with rs lows (cells_of us)) after ends gs
 
-line_puts : (rs : List Rule) (cs : List Column) (ss ss' : List ColumnState) (n : ℕ) (ns ns' : List ℕ) (x : LinePart × ℤ) (xs xs' : List (LinePart × ℤ)) (time : ℤ) (after : List ColumnPoints) (us us' : List RollupState) (ends : List CellMap) (fs : List Fact)
+line_puts : (rs : List Rule) (lows : List ℤ) (cs : List Column) (ss ss' : List ColumnState) (n : ℕ) (ns ns' : List ℕ) (x : LinePart × ℤ) (xs xs' : List (LinePart × ℤ)) (time : ℤ) (after : List ColumnPoints) (us us' : List RollupState) (ends : List RuleData) (fs : List Fact)
     → ns' ≡ n ∷ ns → xs' ≡ x ∷ xs → ss' ≡ set ss n (committed (get_or ss n no_column)) → us' ≡ with_all_grid_cells (cells_of us') us → (Among n ns → ⊥)
-    → CommitsPoint rs n time x.1 ss us ss' us' → PutsRest rs ns time xs cs ss' us' after ends → AreLiveOver rs cs ss (with_points cs (point_maps ss)) us → ArePointsStaged cs ss ns' time xs' fs
-    → PutsFacts rs (with_points cs (point_maps ss)) (cells_of us) after ends fs
-line_puts rs cs ss ss' n ns ns' x xs xs' time after us us' ends [] e d is kept away one others over put = absurd (subst (λ (ys : List (LinePart × ℤ)). AreOfFields time ys []) d put.values)
-line_puts rs cs ss ss' n ns ns' x xs xs' time after us us' ends (f ∷ fs) e d is kept away one others over put =
+    → CommitsPoint rs n time x.1 ss us ss' us' → PutsRest rs lows ns time xs cs ss' us' after ends → AreLiveOver rs cs ss (with_points cs (point_maps ss)) us → ArePointsStaged cs ss ns' time xs' fs
+    → PutsFacts (with_points cs (point_maps ss)) (rules_with rs lows (cells_of us)) after ends fs
+line_puts rs lows cs ss ss' n ns ns' x xs xs' time after us us' ends [] e d is kept away one others over put = absurd (subst (λ (ys : List (LinePart × ℤ)). AreOfFields time ys []) d put.values)
+line_puts rs lows cs ss ss' n ns ns' x xs xs' time after us us' ends (f ∷ fs) e d is kept away one others over put =
     let s : ColumnState = committed (get_or ss n no_column) in
     let of : AreOfFields time (x ∷ xs) (f ∷ fs) = subst (λ (ys : List (LinePart × ℤ)). AreOfFields time ys (f ∷ fs)) d put.values in
     let all : AreStaged cs ss (n ∷ ns) (f ∷ fs) = subst (λ (ms : List ℕ). AreStaged cs ss ms (f ∷ fs)) e put.staged in
-    puts_more rs cs ss ss' n f fs after (cells_of us) (cells_of us') ends over.once over.each all.0 is (one cs f over (record { same_time = of.0.0; same_value = of.0.1; staged = all.0 })) over.live
+    puts_more rs lows cs ss ss' n f fs after (cells_of us) (cells_of us') ends over.once over.each all.0 is (one cs f over (record { same_time = of.0.0; same_value = of.0.1; staged = all.0 })) over.live
     (λ lives. others fs
     (record { each = ap length is ∙ length-set ss n s ∙ over.each; once = over.once; rollups = subst (AreRollups rs cs) (sym kept) (rollups_with rs cs (cells_of us') us over.rollups); live = lives })
     (record { values = of.1; staged = subst (λ (ys : List ColumnState). AreStaged cs ys ns fs) (sym is) (staged_others cs ss ns fs n s away all.1) }))
 
 -- nothing is staged
-none_puts : (rs : List Rule) (cs : List Column) (ss : List ColumnState) (ns : List ℕ) (columns : List ColumnPoints) (ms : List CellMap) (fs : List Fact) → length ns ≡ 0 → AreStaged cs ss ns fs → PutsFacts rs columns ms columns ms fs
-none_puts rs cs ss [] columns ms [] e a = (refl, refl)
-none_puts rs cs ss [] columns ms (f ∷ fs) e a = absurd a
-none_puts rs cs ss (n ∷ ns) columns ms fs e a = absurd (let z : ⊥ = omega arith in z)
+none_puts : (cs : List Column) (ss : List ColumnState) (ns : List ℕ) (columns : List ColumnPoints) (rs : List RuleData) (fs : List Fact) → length ns ≡ 0 → AreStaged cs ss ns fs → PutsFacts columns rs columns rs fs
+none_puts cs ss [] columns rs [] e a = (refl, refl)
+none_puts cs ss [] columns rs (f ∷ fs) e a = absurd a
+none_puts cs ss (n ∷ ns) columns rs fs e a = absurd (let z : ⊥ = omega arith in z)
 
 -- ---- the loop over the columns of a line
 
@@ -279,7 +288,7 @@ module _ (rs : List Rule) (time : ℤ) (all : List ℕ) (fields : List (LinePart
     pub long : length ss ≡ length first
     pub columns : all_committed ss ns ≡ all_committed first all
     pub kept : us ≡ with_all_grid_cells (cells_of us) firsts
-    pub cells : (cs : List Column) (after : List ColumnPoints) (ends : List CellMap) → PutsRest rs ns time xs cs ss us after ends → PutsRest rs all time fields cs first firsts after ends
+    pub cells : (cs : List Column) (lows : List ℤ) (after : List ColumnPoints) (ends : List RuleData) → PutsRest rs lows ns time xs cs ss us after ends → PutsRest rs lows all time fields cs first firsts after ends
 
   module _ (n : ℕ) (ns ns' : List ℕ) (xs' : List (LinePart × ℤ)) (ss : List ColumnState) (us : List RollupState) (ids : ns' ≡ n ∷ ns) (left : AreLeft ns' xs' ss us) where
     pub next_is_ready : AreReady ss (n ∷ [])
@@ -300,7 +309,7 @@ module _ (rs : List Rule) (time : ℤ) (all : List ℕ) (fields : List (LinePart
           long = next.1 ∙ left.long;
           columns = ap (λ (zs : List ColumnState). all_committed zs ns) is ∙ sym (ap (all_committed ss) ids) ∙ left.columns;
           kept = grids_kept_then firsts us us' left.kept kept;
-          cells = λ cs after ends others. left.cells cs after ends (λ gs over put. line_puts rs cs ss ss' n ns ns' x xs xs' time after us us' ends gs ids values is kept next.3 one others over put);
+          cells = λ cs lows after ends others. left.cells cs lows after ends (λ gs over put. line_puts rs lows cs ss ss' n ns ns' x xs xs' time after us us' ends gs ids values is kept next.3 one others over put);
         }
 
   pub wide_left : (ns : List ℕ) (xs : List (LinePart × ℤ)) (ss : List ColumnState) (us : List RollupState) → AreLeft ns xs ss us → AllByRecursion (λ (s : RollupState). length s.series_of_column ≡ length first) firsts
@@ -312,8 +321,8 @@ pub none_left : {X Y : Type 0} (xs : List X) (ys : List Y) → length ys ≡ len
 none_left xs ys same (inl e) = ap length e
 none_left xs ys same (inr e) = sym same ∙ ap length e
 
-pub rest_done : (rs : List Rule) (time : ℤ) (ns : List ℕ) (xs : List (LinePart × ℤ)) (cs : List Column) (ss : List ColumnState) (us : List RollupState) → length ns ≡ 0 → PutsRest rs ns time xs cs ss us (with_points cs (point_maps ss)) (cells_of us)
-rest_done rs time ns xs cs ss us e = λ gs over put. none_puts rs cs ss ns (with_points cs (point_maps ss)) (cells_of us) gs e put.staged
+pub rest_done : (rs : List Rule) (lows : List ℤ) (time : ℤ) (ns : List ℕ) (xs : List (LinePart × ℤ)) (cs : List Column) (ss : List ColumnState) (us : List RollupState) → length ns ≡ 0 → PutsRest rs lows ns time xs cs ss us (with_points cs (point_maps ss)) (rules_with rs lows (cells_of us))
+rest_done rs lows time ns xs cs ss us e = λ gs over put. none_puts cs ss ns (with_points cs (point_maps ss)) (rules_with rs lows (cells_of us)) gs e put.staged
 
 pub none_committed : (ss : List ColumnState) (ns : List ℕ) → length ns ≡ 0 → ss ≡ all_committed ss ns
 none_committed ss [] e = refl
@@ -331,7 +340,7 @@ wide_of [] cs n (s ∷ ss) a e = absurd a
 wide_of (r ∷ rs) cs n [] a e = absurd a
 wide_of (r ∷ rs) cs n (s ∷ ss) a e = (rollup_series-length r s.grid.rollup_series cs s.series_of_column a.0 ∙ sym e, wide_of rs cs n ss a.1 e)
 
-pub live_same : (before after : List ColumnPoints) → facts_of before ≡ facts_of after → (rs : List Rule) (ms : List CellMap) → AreLive before rs ms → AreLive after rs ms
+pub live_same : (before after : List ColumnPoints) → facts_of before ≡ facts_of after → (rs : List Rule) (ms : List CellMap) → OfEach (IsLive before) rs ms → OfEach (IsLive after) rs ms
 live_same before after e [] ms a = tt
 live_same before after e (r ∷ rs) [] a = tt
 live_same before after e (r ∷ rs) (m ∷ ms) a = (λ k p g. a.0 k p g ∙ ap (total_of r k) e, live_same before after e rs ms a.1)

@@ -6,7 +6,7 @@ use Rattle.ts_core.specs.lists.Members.{Among}
 use Rattle.ts_core.specs.facts.Facts.{Column, Fact}
 use Rattle.ts_core.specs.settings.Settings.{Rule}
 use Rattle.ts_core.specs.store.StoreStates.{column_of}
-use Rattle.ts_core.specs.store.StoreData.{CellMap}
+use Rattle.ts_core.specs.store.StoreData.{CellMap, OfEachRule}
 use Rattle.ts_core.specs.moves.StoreMoves.{GainEmptyCells}
 use Rattle.ts_line.specs.Parts.{LinePart, Parts, fact_of, line_facts}
 use Rattle.ts_raw.specs.Columns.{ColumnState}
@@ -14,7 +14,8 @@ use Rattle.ts_raw.specs.Indexed.{Indexed}
 use Rattle.ts_store.specs.store.ColumnStates.{columns_in, AreStaged}
 use Rattle.ts_store.specs.rollup.Rollups.{RollupState, AreRollups, cells_of}
 use Rattle.ts_store.specs.write.CellsCreated.{bucket_indices, cells_created_under, AreCreatedInPart}
-use Rattle.ts_store.specs.write.LinesPut.{OfEachRule, GainsCells}
+use Rattle.ts_store.specs.write.LinesPut.{GainsCells}
+use Rattle.ts_store.specs.store.RuleLists.{rules_with}
 use Rattle.ts_store.proofs.store.ColumnsLemmas.{names_held}
 use Rattle.ts_store.proofs.write.CellsCreatedLemmas.{AreAt, rooms_made, all_now}
 use Rattle.ts_store.proofs.write.CellsMade.{parts_gain}
@@ -43,19 +44,19 @@ staged_at cs ss time (n ∷ ns) (f ∷ fs) same a = (a.0.0, same f (inl refl), s
 
 -- capacity is reserved for those that are staged
 pub line_rooms : (rs : List Rule) (lows : List ℤ) (cs : List Column) (ss : List ColumnState) (p : Parts) (time : ℤ) (ns : List ℕ) (old : List CellMap) (us ts : List RollupState) → AreRollups rs cs us → AreStaged cs ss ns (line_facts p) → time ≡ p.time
-    → cells_of us ≡ old → ts ≡ cells_created_under (bucket_indices rs time) lows ns us → GainEmptyCells rs lows (line_facts p) old (cells_of ts)
+    → cells_of us ≡ old → ts ≡ cells_created_under (bucket_indices rs time) lows ns us → GainEmptyCells (line_facts p) (rules_with rs lows old) (rules_with rs lows (cells_of ts))
 line_rooms rs lows cs ss p time ns old us ts h a at same made =
     let fs : List Fact = line_facts p in
-    let has_cells : GainEmptyCells rs lows fs (cells_of us) (cells_of (cells_created_under (bucket_indices rs p.time) lows ns us)) = rooms_made rs lows cs p.time ns fs us h (staged_at cs ss p.time ns fs (line_time p p.fields) a) in
-    subst (λ (ms : List CellMap). GainEmptyCells rs lows fs ms (cells_of ts)) same
-    (subst (λ (xs : List RollupState). GainEmptyCells rs lows fs (cells_of us) (cells_of xs)) (sym (made ∙ ap (λ (t : ℤ). cells_created_under (bucket_indices rs t) lows ns us) at)) has_cells)
+    let has_cells : GainEmptyCells fs (rules_with rs lows (cells_of us)) (rules_with rs lows (cells_of (cells_created_under (bucket_indices rs p.time) lows ns us))) = rooms_made rs lows cs p.time ns fs us h (staged_at cs ss p.time ns fs (line_time p p.fields) a) in
+    subst (λ (ms : List CellMap). GainEmptyCells fs (rules_with rs lows ms) (rules_with rs lows (cells_of ts))) same
+    (subst (λ (xs : List RollupState). GainEmptyCells fs (rules_with rs lows (cells_of us)) (rules_with rs lows (cells_of xs))) (sym (made ∙ ap (λ (t : ℤ). cells_created_under (bucket_indices rs t) lows ns us) at)) has_cells)
 
 -- and no other cell is created, even if capacity is reserved for some of them only
 pub line_gains : (rs : List Rule) (lows : List ℤ) (cs : List Column) (ss : List ColumnState) (p : Parts) (time : ℤ) (ns : List ℕ) (old : List CellMap) (us ts : List RollupState) → AreRollups rs cs us → AreStaged cs ss ns (line_facts p) → time ≡ p.time
-    → cells_of us ≡ old → AreCreatedInPart (bucket_indices rs time) lows ns us ts → OfEachRule (GainsCells (line_facts p)) rs lows old (cells_of ts)
+    → cells_of us ≡ old → AreCreatedInPart (bucket_indices rs time) lows ns us ts → OfEachRule (GainsCells (line_facts p)) (rules_with rs lows old) (rules_with rs lows (cells_of ts))
 line_gains rs lows cs ss p time ns old us ts h a at same part =
     let fs : List Fact = line_facts p in
-    subst (λ (ms : List CellMap). OfEachRule (GainsCells fs) rs lows ms (cells_of ts)) same
+    subst (λ (ms : List CellMap). OfEachRule (GainsCells fs) (rules_with rs lows ms) (rules_with rs lows (cells_of ts))) same
     (parts_gain rs lows cs p.time ns fs us ts h (staged_at cs ss p.time ns fs (line_time p p.fields) a) (subst (λ (t : ℤ). AreCreatedInPart (bucket_indices rs t) lows ns us ts) at part))
 
 -- for all of them

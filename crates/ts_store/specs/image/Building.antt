@@ -3,9 +3,8 @@
 use Rattle.std.specs.Prelude.{◌≡◌, ℕ, ℤ, pos, ◌+ℤ◌, ◌≤◌, ◌≤ℤ◌, ◌^◌, Bool, true, false, List, [], ◌∷◌, ◌++◌, length, map, filter, set, get_or, None, refl}
 use Rattle.std.specs.FinMap as finmap
 use Rattle.std.specs.List.{AllByRecursion, AllZip, zip}
-use Rattle.std.specs.Coded.{Coded, code_by, coded×, coded_list, coded_bool}
+use Rattle.std.specs.Coded.{Coded, code_by, coded×, coded_ℕ, coded_ℤ, coded_list, coded_bool}
 use Rattle.ts_core.specs.lists.Members.{Among}
-use Rattle.ts_core.specs.lists.Beside.{OfEach}
 use Rattle.ts_core.specs.facts.Facts.{Series, Column, Fact}
 use Rattle.ts_core.specs.settings.Settings.{Rule, Settings}
 use Rattle.ts_core.specs.facts.Times.{least_time}
@@ -13,11 +12,12 @@ use Rattle.ts_core.specs.store.Marks.{Marks, index_of}
 use Rattle.ts_core.specs.aggregates.Aggregates.{Aggregate, empty_aggregate}
 use Rattle.ts_core.specs.store.Cells.{Cell, cell_of, is_rolled}
 use Rattle.ts_core.specs.store.StoreStates.{ColumnPoints, facts_of}
-use Rattle.ts_core.specs.store.StoreCodes.{coded_store_data}
-use Rattle.ts_core.specs.store.StoreData.{CellMap, StoreData, AreLive}
+use Rattle.ts_core.specs.store.StoreCodes.{coded_rule, coded_series, coded_column_points, coded_cell_map}
+use Rattle.ts_core.specs.store.StoreData.{CellMap, RuleData, StoreData, OfEachRule, store_settings, store_marks, AreLive}
 use Rattle.ts_store.specs.store.CellCounts.{HoldFew}
 use Rattle.ts_store.specs.store.PossibleCells.{HavePossibleCells}
-use Rattle.ts_store.specs.write.LinesPut.{OfEachRule, PutsCells}
+use Rattle.ts_store.specs.write.LinesPut.{PutsCells}
+use Rattle.ts_store.specs.store.RuleLists.{rules_with}
 
 -- a store under construction
 pub record Built : Type 0 where
@@ -81,14 +81,18 @@ pub record IsLowIndex (mark : ℤ) (r : Rule) (low : ℤ) : Type 0 where
 abbrev pub AreLowIndices : ℤ → List Rule → List ℤ → Type 0
 AreLowIndices mark = AllZip (IsLowIndex mark)
 
+-- each rule with its low index and the cells that were added
+abbrev pub built_rules : Built → List RuleData
+built_rules b = rules_with b.settings.rules b.marks.lows b.cells
+
 -- No count overflows, each rule has a low index, and each cell is one that its rule can have. No column waits unless a
 -- run is in progress.
 pub record IsBuildable (b : Built) : Type 0 where
   pub accepted : b.accepted ≤ 2 ^ 62
   pub facts : length (facts_of b.columns) ≤ b.accepted
   pub lows : AreLowIndices b.marks.raw b.settings.rules b.marks.lows
-  pub counts : HoldFew b.accepted b.columns b.settings.rules b.cells
-  pub possible : HavePossibleCells b.settings.rules b.cells
+  pub counts : HoldFew b.accepted b.columns (built_rules b)
+  pub possible : HavePossibleCells (built_rules b)
   pub idle : b.running ≡ false → AllByRecursion (λ (w : Bool). w ≡ false) b.waits
 
 -- ---- the store of the parts
@@ -102,28 +106,38 @@ abbrev pub HasCellsOf : List Fact → Rule → ℤ → CellMap → Type 0
 HasCellsOf facts r low m = (f : Fact) → Among f facts → is_rolled r f ≡ true → low ≤ℤ (cell_of r f).index → finmap.get m (cell_of r f) ≡ None → ⊥
 
 -- the same for each rule
-abbrev pub HaveCells : List Rule → List ℤ → List Fact → List CellMap → Type 0
-HaveCells rs lows facts = OfEach (λ (x : Rule × ℤ). HasCellsOf facts x.0 x.1) (zip rs lows)
+abbrev pub HaveCells : List Fact → List RuleData → Type 0
+HaveCells facts = AllByRecursion (λ (r : RuleData). HasCellsOf facts r.rule r.low r.cells)
 
 -- The store has these parts. Besides the cells of the parts it has those of raw facts from the low index on, and no
 -- others. Frozen parts are those of the parts, and live parts those of the raw facts.
 pub record IsBuiltFrom (b : Built) (k : StoreData) : Type 0 where
-  pub settings : k.settings ≡ b.settings
-  pub marks : k.marks ≡ b.marks
+  pub settings : store_settings k ≡ b.settings
+  pub marks : store_marks k ≡ b.marks
   pub running : k.running ≡ b.running
   pub accepted : k.accepted ≡ b.accepted
   pub series : k.series ≡ b.series
   pub columns : k.columns ≡ b.columns
   pub waiting : k.waiting ≡ waiting_of b.columns b.waits
-  pub cells : OfEachRule (PutsCells (facts_of b.columns)) b.settings.rules b.marks.lows b.cells k.cells
-  pub has_cells : HaveCells b.settings.rules b.marks.lows (facts_of b.columns) k.cells
-  pub live : AreLive b.columns b.settings.rules k.cells
+  pub cells : OfEachRule (PutsCells (facts_of b.columns)) (built_rules b) k.rules
+  pub has_cells : HaveCells (facts_of b.columns) k.rules
+  pub live : AreLive b.columns k.rules
 
 -- ---- codes
 
--- as the data of a store, and the columns that wait
 abbrev pub coded_built : Coded Built
 coded_built =
-    code_by (StoreData × List Bool) (coded× coded_store_data (coded_list coded_bool))
-    (λ b. (record { settings = b.settings; marks = b.marks; running = b.running; waiting = []; series = b.series; columns = b.columns; accepted = b.accepted; cells = b.cells }, b.waits))
-    (λ p. record { settings = p.0.settings; marks = p.0.marks; running = p.0.running; accepted = p.0.accepted; series = p.0.series; columns = p.0.columns; waits = p.1; cells = p.0.cells }) (λ _. refl)
+    code_by ((ℕ × List Rule) × ((ℤ × List ℤ) × (Bool × (ℕ × (List Series × (List ColumnPoints × (List Bool × List CellMap)))))))
+    (coded× (coded× coded_ℕ (coded_list coded_rule)) (coded× (coded× coded_ℤ (coded_list coded_ℤ)) (coded× coded_bool (coded× coded_ℕ (coded× (coded_list coded_series) (coded× (coded_list coded_column_points) (coded× (coded_list coded_bool) (coded_list coded_cell_map))))))))
+    (λ b. ((b.settings.raw_duration, b.settings.rules), ((b.marks.raw, b.marks.lows), (b.running, (b.accepted, (b.series, (b.columns, (b.waits, b.cells))))))))
+    (λ p. record {
+      settings = record { raw_duration = p.0.0; rules = p.0.1 };
+      marks = record { raw = p.1.0.0; lows = p.1.0.1 };
+      running = p.1.1.0;
+      accepted = p.1.1.1.0;
+      series = p.1.1.1.1.0;
+      columns = p.1.1.1.1.1.0;
+      waits = p.1.1.1.1.1.1.0;
+      cells = p.1.1.1.1.1.1.1;
+    })
+    (λ _. refl)

@@ -10,12 +10,13 @@ use Rattle.ts_core.specs.store.Marks.{Marks}
 use Rattle.ts_core.specs.aggregates.Aggregates.{empty_aggregate, merged}
 use Rattle.ts_core.specs.store.Cells.{Cell, total_of}
 use Rattle.ts_core.specs.store.StoreStates.{CellParts, column_of, facts_of}
-use Rattle.ts_core.specs.store.StoreData.{CellMap, AreLive}
+use Rattle.ts_core.specs.store.StoreData.{CellMap, OfEachRule, AreLive}
 use Rattle.ts_line.specs.Names.{IsKey, IsStatable}
 use Rattle.ts_store.specs.image.Building.{Built, HasCellsOf, HaveCells}
 use Rattle.ts_store.specs.store.PossibleCells.{HasPossibleCells, HavePossibleCells}
 use Rattle.ts_store.specs.store.ColumnStates.{StoreContent, AreKnown}
-use Rattle.ts_store.specs.write.LinesPut.{OfEachRule, PutsCells, GainsCells}
+use Rattle.ts_store.specs.write.LinesPut.{PutsCells, GainsCells}
+use Rattle.ts_store.specs.store.RuleLists.{rules_with}
 use Rattle.ts_store.specs.rollup.Rollups.{AreRollups, cells_of}
 use Rattle.ts_store.specs.retain.RollupSteps.{content_with_cells}
 
@@ -77,9 +78,9 @@ AreFilledBut left all = OfEach (IsFilledBut left all)
 -- series stay
 pub record FillsCells (rules : List Rule) (lows : List ℤ) (old new : StoreContent) : Type 0 where
   pub others : new ≡ content_with_cells (cells_of new.rollups) old
-  pub cells : OfEachRule (PutsCells (facts_of old.columns)) rules lows (cells_of old.rollups) (cells_of new.rollups)
-  pub has_cells : HaveCells rules lows (facts_of old.columns) (cells_of new.rollups)
-  pub live : AreLive old.columns rules (cells_of new.rollups)
-  pub possible : HavePossibleCells rules (cells_of old.rollups) → HavePossibleCells rules (cells_of new.rollups)
+  pub cells : OfEachRule (PutsCells (facts_of old.columns)) (rules_with rules lows (cells_of old.rollups)) (rules_with rules lows (cells_of new.rollups))
+  pub has_cells : HaveCells (facts_of old.columns) (rules_with rules lows (cells_of new.rollups))
+  pub live : AreLive old.columns (rules_with rules lows (cells_of new.rollups))
+  pub possible : HavePossibleCells (rules_with rules lows (cells_of old.rollups)) → HavePossibleCells (rules_with rules lows (cells_of new.rollups))
   pub known : AreKnown new
   pub once : AllDistinct (facts_of new.columns)

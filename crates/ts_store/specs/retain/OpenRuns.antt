@@ -9,6 +9,7 @@ use Rattle.ts_core.specs.store.Marks.{Marks}
 use Rattle.ts_core.specs.store.StoreStates.{ColumnPoints, column_of}
 use Rattle.ts_core.specs.store.StoreData.{StoreData}
 use Rattle.ts_store.specs.store.ColumnStates.{StoreContent}
+use Rattle.ts_store.specs.store.RuleLists.{rules_with}
 use Rattle.ts_store.specs.rollup.Rollups.{cells_of}
 
 -- An open run: the index of the column that it moves next, the number of columns when it began, and a flag per column.
@@ -63,12 +64,12 @@ coded_run = code_by (ℕ × (ℕ × List Bool)) (coded× coded_ℕ (coded× code
 -- the data of a store with these parts
 abbrev pub data_of_parts : Settings → Marks → ℕ → StoreContent → Option Run → StoreData
 data_of_parts settings marks n held run = record {
-  settings = settings;
-  marks = marks;
+  raw_duration = settings.raw_duration;
+  raw_mark = marks.raw;
+  rules = rules_with settings.rules marks.lows (cells_of held.rollups);
   running = is_some run;
   waiting = waiting_in run held.columns;
   series = held.series;
   columns = held.columns;
   accepted = n;
-  cells = cells_of held.rollups;
 }

@@ -7,12 +7,12 @@ use Rattle.ts_core.specs.aggregates.Aggregates.{Aggregate}
 use Rattle.ts_core.specs.lists.Numbered.{IsAt}
 use Rattle.ts_core.specs.store.Cells.{total_of}
 use Rattle.ts_core.specs.store.StoreStates.{facts_at, facts_of}
-use Rattle.ts_core.specs.moves.StoreMoves.{all_moved, points_below}
+use Rattle.ts_core.specs.moves.StoreMoves.{points_below}
 use Rattle.ts_cells.specs.Grids.{cell_at}
 use Rattle.ts_raw.specs.Columns.{ColumnState}
 use Rattle.ts_store.specs.store.ColumnStates.{no_column, with_points, point_maps}
 use Rattle.ts_store.specs.rollup.Rollups.{RollupState, rollup_series_at, rollup_series_under, cells_of}
-use Rattle.ts_store.specs.retain.RollupSteps.{HasLive, FreezeFit, bucket_moved, facts_left, with_all_grid_cells}
+use Rattle.ts_store.specs.retain.RollupSteps.{HasLive, FreezeFit, bucket_moved, facts_left, with_all_grid_cells, cells_moved}
 use Rattle.ts_store.specs.write.LivePuts.{IsOver}
 use Rattle.ts_store.specs.write.PointPuts.{AreLiveOver}
 
@@ -45,4 +45,4 @@ pub record MayMove (rules : List Rule) (cs : List Column) (states : List ColumnS
 abbrev pub MovesPoints : List Rule → List ColumnState → ℕ → ℤ → List RollupState → List RollupState → Type 0
 MovesPoints rules states column mark us us' =
     (cs : List Column) (c : Column) → MayMove rules cs states column mark us c
-    → us' ≡ with_all_grid_cells (all_moved rules c (column_below mark column states) (facts_left mark c cs states) (cells_of us)) us
+    → us' ≡ with_all_grid_cells (cells_moved rules c (column_below mark column states) (facts_left mark c cs states) (cells_of us)) us

@@ -10,7 +10,7 @@ use Rattle.ts_core.specs.lists.Changes.{changed}
 use Rattle.ts_core.specs.store.TwoParts.{in_frozen}
 use Rattle.ts_core.specs.store.StoreStates.{ColumnPoints, CellParts, fact_at, facts_of}
 use Rattle.ts_core.specs.store.StoreData.{CellMap}
-use Rattle.ts_core.specs.moves.StoreMoves.{refolded, all_moved, points_below, kept_points}
+use Rattle.ts_core.specs.moves.StoreMoves.{refolded, moved_cells, points_below, kept_points}
 use Rattle.ts_store.specs.store.CellCounts.{frozen_count}
 use Rattle.ts_raw.specs.Columns.{ColumnState}
 use Rattle.ts_store.specs.store.ColumnStates.{StoreContent, with_points, point_maps}
@@ -49,10 +49,14 @@ FreezesFit r c ps m = (k : Cell) → frozen_count m k + points_in_cell r c k ps 
 abbrev pub FreezeFit : List Rule → Column → List (ℤ × ℤ) → List CellMap → Type 0
 FreezeFit rs c ps = OfEach (λ (r : Rule). FreezesFit r c ps) rs
 
+-- the points are moved from the live to the frozen parts of each rule's cells
+abbrev pub cells_moved : List Rule → Column → List (ℤ × ℤ) → List Fact → List CellMap → List CellMap
+cells_moved rs c ps facts = changed_beside (λ (r : Rule). moved_cells r c ps facts) rs
+
 -- the points of a column below a mark are frozen under each rule and removed; the live parts of their cells are folded
 -- from the remaining points
 abbrev pub content_moved : List Rule → ColumnPoints → ℤ → StoreContent → StoreContent
 content_moved rs s mark held = record held {
   columns = map (kept_points s.column mark) held.columns;
-  rollups = with_all_grid_cells (all_moved rs s.column (points_below mark s.points) (facts_of (map (kept_points s.column mark) held.columns)) (cells_of held.rollups)) held.rollups;
+  rollups = with_all_grid_cells (cells_moved rs s.column (points_below mark s.points) (facts_of (map (kept_points s.column mark) held.columns)) (cells_of held.rollups)) held.rollups;
 }

@@ -1,16 +1,16 @@
 -- A run of retention: it begins, moves its columns and removes its cells step by step, and the last step ends it.
 -- (Own rules.)
 use Rattle.std.specs.Prelude.{◌≡◌, ◌⊎◌, ◌↔◌, ◌+◌, ◌<◌, ℕ, ℤ, zero, suc, false, true, IsTrue, List, [], ◌∷◌, Result, IfOk, OnOk, OnErr, IsErr}
+use Rattle.std.specs.List.{AllByRecursion}
 use Rattle.ts_core.specs.lists.Members.{Among}
-use Rattle.ts_core.specs.lists.Beside.{OfEach}
 use Rattle.ts_core.specs.facts.Facts.{Column}
 use Rattle.ts_core.specs.store.History.{History, Begin, Step}
 use Rattle.ts_core.specs.moves.Runs.{steps_left}
 use Rattle.ts_core.specs.store.StoreStates.{StandsFor}
-use Rattle.ts_core.specs.store.StoreData.{CellMap, StoreData, state_of, OfEachHistory, GoesOn}
+use Rattle.ts_core.specs.store.StoreData.{CellMap, RuleData, StoreData, store_settings, store_marks, state_of, OfEachHistory, GoesOn}
 use Rattle.ts_store.specs.declared.retain.StepAnswer.{StepAnswer}
 use Rattle.ts_store.specs.declared.retain.StepAnswer.TheVariants.{Moved, Done}
-use Rattle.ts_core.specs.moves.StoreMoves.{run_begun, column_moved, with_cells, run_ended}
+use Rattle.ts_core.specs.moves.StoreMoves.{run_begun, column_moved, with_rules, run_ended}
 use Rattle.ts_cells.specs.Expiry.{IsAbove, LosesBelow}
 use Rattle.ts_store.specs.rollup.ChangedLists.{FirstChanges}
 use Rattle.ts_store.specs.store.Inventories.{inventory_of, all_waiting, steps_in, StepsTo, LeavesRecent}
@@ -25,8 +25,8 @@ abbrev pub whole_run : ℤ → ℕ → History → History
 whole_run now n h = Step true ∷ steps_taken n (Begin now ∷ h)
 
 -- no rule has cells below its low index
-abbrev pub AreAbove : List ℤ → List CellMap → Type 0
-AreAbove = OfEach (λ (low : ℤ) (m : CellMap). IsAbove low m)
+abbrev pub AreAbove : List RuleData → Type 0
+AreAbove = AllByRecursion (λ (r : RuleData). IsAbove r.low r.cells)
 
 -- removes at least one cell below an index: 256, or all if there are fewer
 pub record LosesCells (low : ℤ) (before after : CellMap) : Type 0 where
@@ -34,9 +34,9 @@ pub record LosesCells (low : ℤ) (before after : CellMap) : Type 0 where
   pub some : 0 < count
   pub below : LosesBelow low count before after
 
--- the first rule that has cells below its low index loses some of them, and no other rule loses any
-abbrev pub FirstLoses : List ℤ → List CellMap → List CellMap → Type 0
-FirstLoses = FirstChanges IsAbove LosesCells
+-- the first rule that has cells below its low index loses some of them, and no other rule changes
+abbrev pub FirstLoses : List RuleData → List RuleData → Type 0
+FirstLoses old = FirstChanges (λ (a b : RuleData). IsAbove b.low b.cells) (λ (a b c : RuleData). LosesCells b.low b.cells c.cells × (c ≡ record b { cells = c.cells })) old old
 
 -- moves the first of the waiting columns
 pub record MovesFirst (old new : StoreData) : Type 0 where
@@ -50,8 +50,8 @@ pub record MovesFirst (old new : StoreData) : Type 0 where
 -- removes cells below a low index; no column waits, and nothing else changes
 pub record RemovesCells (old new : StoreData) : Type 0 where
   pub waits : old.waiting ≡ []
-  pub loses : FirstLoses old.marks.lows old.cells new.cells
-  pub others : new ≡ with_cells new.cells old
+  pub loses : FirstLoses old.rules new.rules
+  pub others : new ≡ with_rules new.rules old
 
 -- A step of the open run. It moves the first waiting column; else it removes cells below a low index; else it ends the
 -- run, and nothing else changes. Each leaves one step fewer. If no run is open, nothing changes.
@@ -62,10 +62,10 @@ pub record TakesStep (old new : StoreData) (answer : StepAnswer) : Type 0 where
   pub running : (answer ≡ Moved) → new.running ≡ true
   pub last : (answer ≡ Done) → (old.running ≡ true) → steps_left (state_of old) ≡ 1
   pub ends : (answer ≡ Done) → (old.running ≡ true) → new ≡ run_ended old
-  pub inventory : (old.running ≡ true) → StepsTo old.marks.lows (inventory_of old) answer (inventory_of new)
+  pub inventory : (old.running ≡ true) → StepsTo (store_marks old).lows (inventory_of old) answer (inventory_of new)
   pub idle : (old.running ≡ false) → (answer ≡ Done) × (new ≡ old)
-  pub above : (answer ≡ Done) → (old.running ≡ true) → AreAbove new.marks.lows new.cells
-  pub marks : new.marks ≡ old.marks
+  pub above : (answer ≡ Done) → (old.running ≡ true) → AreAbove new.rules
+  pub marks : store_marks new ≡ store_marks old
   pub series : new.series ≡ old.series
 
 -- A whole run: after it the store stands for each history that it stood for, with the run. Columns keep their order. The cells of
@@ -74,19 +74,19 @@ pub record Retains (now : ℤ) (old new : StoreData) : Type 0 where
   pub steps : ℕ
   -- with the last step, as many as were left after the begin
   pub count : steps + 1 ≡ steps_left (state_of (run_begun now old))
-  pub inventory_steps : steps + 1 ≡ steps_in new.marks.lows (all_waiting (inventory_of old))
+  pub inventory_steps : steps + 1 ≡ steps_in (store_marks new).lows (all_waiting (inventory_of old))
   pub history : OfEachHistory old (λ opening h. StandsFor opening (whole_run now steps h) (state_of new))
-  pub marks : new.marks ≡ (run_begun now old).marks
+  pub marks : store_marks new ≡ store_marks (run_begun now old)
   pub idle : new.running ≡ false
   pub series : new.series ≡ old.series
-  pub settings : new.settings ≡ old.settings
+  pub settings : store_settings new ≡ store_settings old
   pub accepted : new.accepted ≡ old.accepted
-  pub inventory : LeavesRecent old.settings.rules new.marks.lows (inventory_of old) (inventory_of new)
+  pub inventory : LeavesRecent (store_settings old).rules (store_marks new).lows (inventory_of old) (inventory_of new)
 
 -- A call that begins a run. If none is open, it is done and returns the raw mark; else it is refused, and nothing
 -- changes.
 pub record RunsWhereIdle {E : Type 0} (done : Type 0) (old new : StoreData) (result : Result ℤ E) : Type 0 where
   pub ok : OnOk result done
-  pub raw : IfOk result (λ raw. raw ≡ new.marks.raw)
+  pub raw : IfOk result (λ raw. raw ≡ new.raw_mark)
   pub refused : OnErr result (new ≡ old)
   pub running : IsErr result ↔ IsTrue old.running

@@ -12,7 +12,7 @@ use Rattle.ts_core.specs.declared.settings.settings_fault.SettingsFault.{Setting
 use Rattle.ts_core.specs.declared.settings.settings_fault.SettingsFault.TheVariants.{Form}
 use Rattle.ts_core.specs.store.History.{AddRule, DropRule, settings_of, raw_mark}
 use Rattle.ts_core.specs.store.Marks.{first_from}
-use Rattle.ts_core.specs.store.StoreData.{StoreData}
+use Rattle.ts_core.specs.store.StoreData.{StoreData, store_settings}
 use Rattle.ts_store.specs.write.LineTexts.{LineState}
 use Rattle.ts_store.specs.rules.RulesChanged.{RuleComes}
 use Rattle.ts_store.specs.declared.rules.rule_text.AddedRule.{AddedRule}
@@ -57,14 +57,14 @@ IsErrorOf read (errors.Fault fault) = read ≡ Err fault
 -- the rule of the text was added, with this name and low index
 pub record TextComes (old new : StoreData) (text : Text) (added : AddedRule) : Type 0 where
   pub rule : Rule
-  pub read : rule_for old.settings text ≡ Ok rule
+  pub read : rule_for (store_settings old) text ≡ Ok rule
   pub name : added.name.bytes ≡ rule.name
   pub comes : RuleComes old new rule added.low
 
 -- The rule of the text is added. A text with a fault is refused with its first fault. On an error, nothing changes.
 abbrev pub AddsText : StoreData → StoreData → Text → Result AddedRule SettingsError → Type 0
 AddsText old new text (Ok added) = TextComes old new text added
-AddsText old new text (Err error) = IsErrorOf (rule_for old.settings text) error × (new ≡ old)
+AddsText old new text (Err error) = IsErrorOf (rule_for (store_settings old) text) error × (new ≡ old)
 
 -- ---- the call that adds the rule of a JSON value
 
@@ -75,11 +75,11 @@ rule_of_value s value = rule_or_fault s (rule_parsed value)
 -- the rule of the value was added, with this name and low index
 pub record ValueComes (old new : StoreData) (value : Data) (added : AddedRule) : Type 0 where
   pub rule : Rule
-  pub read : rule_of_value old.settings value ≡ Ok rule
+  pub read : rule_of_value (store_settings old) value ≡ Ok rule
   pub name : added.name.bytes ≡ rule.name
   pub comes : RuleComes old new rule added.low
 
 -- The rule of the value is added. A value with a fault is refused with its first fault. On an error, nothing changes.
 abbrev pub AddsValue : StoreData → StoreData → Data → Result AddedRule SettingsError → Type 0
 AddsValue old new value (Ok added) = ValueComes old new value added
-AddsValue old new value (Err error) = IsErrorOf (rule_of_value old.settings value) error × (new ≡ old)
+AddsValue old new value (Err error) = IsErrorOf (rule_of_value (store_settings old) value) error × (new ≡ old)

@@ -11,7 +11,7 @@ use Rattle.ts_core.specs.store.Cells.{Cell}
 use Rattle.ts_core.specs.store.Marks.{first_from}
 use Rattle.ts_core.specs.moves.Runs.{steps_left}
 use Rattle.ts_core.specs.store.StoreStates.{facts_of}
-use Rattle.ts_core.specs.store.StoreData.{CellMap, StoreData, state_of, GoesOn}
+use Rattle.ts_core.specs.store.StoreData.{CellMap, StoreData, store_settings, state_of, GoesOn}
 use Rattle.ts_core.specs.lists.Beside.{kept_beside}
 use Rattle.ts_core.specs.moves.RuleMoves.{IsFresh, rule_added, rule_dropped}
 use Rattle.ts_store.specs.store.Inventories.{Inventory, inventory_of, AreFilled}
@@ -31,7 +31,7 @@ pub record GainsRule (facts : List Fact) (r : Rule) (low : ℤ) (old new : Inven
 -- exactly the cells of the raw facts from there on. Their frozen parts are empty, and their live parts are those of the
 -- raw facts. Nothing else changes, and the number of steps left of an open run stays.
 pub record RuleComes (old new : StoreData) (r : Rule) (low : ℤ) : Type 0 where
-  pub first : low ≡ first_from r old.marks.raw
+  pub first : low ≡ first_from r old.raw_mark
   pub cells : CellMap
   pub fresh : IsFresh r low (facts_of old.columns) cells
   pub whole : new ≡ rule_added r low cells old
@@ -44,8 +44,8 @@ pub record RuleComes (old new : StoreData) (r : Rule) (low : ℤ) : Type 0 where
 pub record AddsRule (old new : StoreData) (r : Rule) (result : Result ℤ SettingsError) : Type 0 where
   pub ok : IfOk result (RuleComes old new r)
   pub err : OnErr result (new ≡ old)
-  pub refused : IfSome (added_fault old.settings r) (λ fault. result ≡ Err (Fault fault))
-  pub taken : IsNone (added_fault old.settings r) → ((low : ℤ) × (result ≡ Ok low)) ⊎ (result ≡ Err OutOfMemory)
+  pub refused : IfSome (added_fault (store_settings old) r) (λ fault. result ≡ Err (Fault fault))
+  pub taken : IsNone (added_fault (store_settings old) r) → ((low : ℤ) × (result ≡ Ok low)) ⊎ (result ≡ Err OutOfMemory)
 
 -- ---- a rule is dropped
 
@@ -56,11 +56,11 @@ pub record RuleGoes (old new : StoreData) (name : Text) : Type 0 where
   pub history : GoesOn old (DropRule name) new
   pub columns : (inventory_of new).columns ≡ (inventory_of old).columns
   pub waiting : (inventory_of new).waiting ≡ (inventory_of old).waiting
-  pub cells : (inventory_of new).cells ≡ kept_beside (is_unnamed name) old.settings.rules (inventory_of old).cells
+  pub cells : (inventory_of new).cells ≡ kept_beside (is_unnamed name) (store_settings old).rules (inventory_of old).cells
   pub left : steps_left (state_of new) ≤ steps_left (state_of old)
 
 -- The call that drops a rule. It is refused exactly if no rule has the name, and then nothing changes.
 pub record DropsRule {E : Type 0} (old new : StoreData) (name : Text) (result : Result (Unit {0}) E) : Type 0 where
   pub ok : OnOk result (RuleGoes old new name)
   pub err : OnErr result (new ≡ old)
-  pub unknown : IsErr result ↔ (is_named old.settings.rules name ≡ false)
+  pub unknown : IsErr result ↔ (is_named (store_settings old).rules name ≡ false)

@@ -10,7 +10,7 @@ use Rattle.ts_core.specs.settings.Settings.{Rule, Settings}
 use Rattle.ts_core.specs.store.Cells.{Cell}
 use Rattle.ts_core.specs.moves.Runs.{batches_of}
 use Rattle.ts_core.specs.store.StoreStates.{column_of}
-use Rattle.ts_core.specs.store.StoreData.{CellMap, StoreData}
+use Rattle.ts_core.specs.store.StoreData.{RuleData, StoreData}
 use Rattle.ts_line.specs.Parts.{Parts, line_facts}
 use Rattle.ts_line.specs.declared.fault.LineFault.{LineFault}
 use Rattle.ts_store.specs.rollup.ChangedLists.{FirstChanges}
@@ -30,7 +30,7 @@ pub record Inventory : Type 0 where
   pub cells : List (List Cell)
 
 abbrev pub inventory_of : StoreData → Inventory
-inventory_of k = record { columns = map column_of k.columns; waiting = k.waiting; cells = map (λ (m : CellMap). finmap.keys m) k.cells }
+inventory_of k = record { columns = map column_of k.columns; waiting = k.waiting; cells = map (λ (r : RuleData). finmap.keys r.cells) k.rules }
 
 -- that of a new store
 abbrev pub new_inventory : Settings → Inventory

@@ -2,13 +2,13 @@
 -- interval and the offset of a rule, the index of such a cell fits in 64 bits. (Own rules.)
 use Rattle.std.specs.Prelude.{◌≡◌, ℤ, List, length}
 use Rattle.std.specs.FinMap as finmap
+use Rattle.std.specs.List.{AllByRecursion}
 use Rattle.ts_core.specs.lists.Members.{Among}
-use Rattle.ts_core.specs.lists.Beside.{OfEach}
 use Rattle.ts_core.specs.facts.Times.{IsTime}
 use Rattle.ts_core.specs.settings.Settings.{Rule}
 use Rattle.ts_core.specs.store.Marks.{index_of}
 use Rattle.ts_core.specs.store.Cells.{Cell}
-use Rattle.ts_core.specs.store.StoreData.{CellMap}
+use Rattle.ts_core.specs.store.StoreData.{CellMap, RuleData}
 
 -- some valid time is in the bucket
 abbrev pub IsBucketIndex : Rule → ℤ → Type 0
@@ -24,5 +24,5 @@ abbrev pub HasPossibleCells : Rule → CellMap → Type 0
 HasPossibleCells r m = (k : Cell) → Among k (finmap.keys m) → IsPossibleCell r k
 
 -- the same for each rule
-abbrev pub HavePossibleCells : List Rule → List CellMap → Type 0
-HavePossibleCells = OfEach HasPossibleCells
+abbrev pub HavePossibleCells : List RuleData → Type 0
+HavePossibleCells = AllByRecursion (λ (r : RuleData). HasPossibleCells r.rule r.cells)

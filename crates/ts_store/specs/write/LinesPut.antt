@@ -1,8 +1,8 @@
 -- The effect of a write: the line is accepted, or it is refused, or the call ran out of memory. (Own rules.)
-use Rattle.std.specs.Prelude.{◌≡◌, ◌≢◌, ◌⊎◌, ◌↔◌, ℕ, ℤ, ◌≤ℤ◌, List, map, length, Some, None, Result, Ok, Err, OnOk, IfSome, IsNone, IsTrue}
+use Rattle.std.specs.Prelude.{◌≡◌, ◌≢◌, ◌⊎◌, ◌↔◌, ℤ, ◌≤ℤ◌, List, map, length, Some, None, Result, Ok, Err, OnOk, IfSome, IsNone, IsTrue}
 use Rattle.std.specs.FinMap as finmap
 use Rattle.ts_core.specs.lists.Members.{Among}
-use Rattle.ts_core.specs.lists.Numbered.{IsAt, Gains}
+use Rattle.ts_core.specs.lists.Numbered.{Gains}
 use Rattle.ts_core.specs.facts.Facts.{Fact}
 use Rattle.ts_core.specs.settings.Settings.{Rule}
 use Rattle.ts_core.specs.store.Cells.{Cell, is_in_cell}
@@ -10,18 +10,13 @@ use Rattle.ts_core.specs.lists.Changes.{or_else}
 use Rattle.ts_core.specs.store.History.{Line}
 use Rattle.ts_core.specs.moves.Runs.{steps_left}
 use Rattle.ts_core.specs.store.StoreStates.{CellParts, column_of}
-use Rattle.ts_core.specs.store.StoreData.{CellMap, StoreData, no_parts, state_of, GoesOn, StaysFor}
+use Rattle.ts_core.specs.store.StoreData.{CellMap, StoreData, no_parts, OfEachRule, state_of, GoesOn, StaysFor}
 use Rattle.ts_core.specs.moves.StoreMoves.{grown, put_facts}
 use Rattle.ts_line.specs.Parts.{Parts, series_of, line_facts}
 use Rattle.ts_store.specs.declared.write.fault.WriteFault.{WriteFault}
 use Rattle.ts_store.specs.declared.write.fault.WriteFault.TheVariants.{OutOfMemory}
 use Rattle.ts_store.specs.write.Refusals.{write_fault}
 use Rattle.ts_store.specs.write.Registered.{MayGain, MakesFirst, new_columns, with_columns}
-
--- the relation holds of each rule, its low index, and its cells before and after; the number of lists of cells stays
-abbrev pub OfEachRule : (Rule → ℤ → CellMap → CellMap → Type 0) → List Rule → List ℤ → List CellMap → List CellMap → Type 0
-OfEachRule P rules lows before after =
-    (length after ≡ length before) × ((i : ℕ) (r : Rule) (low : ℤ) (m n : CellMap) → IsAt rules i r → IsAt lows i low → IsAt before i m → IsAt after i n → P r low m n)
 
 -- the rule rolls one of the facts up into the cell
 abbrev pub IsOfFacts : List Fact → Rule → Cell → Type 0
@@ -46,8 +41,8 @@ pub record Accepts (old new : StoreData) (p : Parts) : Type 0 where
   pub history : GoesOn old (Line (line_facts p)) new
   pub series : Gains old.series new.series (series_of p)
   pub columns : map column_of new.columns ≡ map column_of (with_columns old.columns (new_columns (map column_of old.columns) (line_facts p)))
-  pub cells : OfEachRule (PutsCells (line_facts p)) old.settings.rules old.marks.lows old.cells new.cells
-  pub others : new ≡ put_facts new.columns new.cells (length (line_facts p)) (grown new.series new.columns new.cells old)
+  pub cells : OfEachRule (PutsCells (line_facts p)) old.rules new.rules
+  pub others : new ≡ put_facts new.columns new.rules (length (line_facts p)) (grown new.series new.columns new.rules old)
   pub left : steps_left (state_of new) ≡ steps_left (state_of old)
 
 -- No fact is accepted. The first of the line's new columns and some of its missing cells may be created.
@@ -55,13 +50,13 @@ pub record Leaves (old new : StoreData) (p : Parts) : Type 0 where
   pub history : StaysFor old new
   pub series : MayGain old.series new.series (series_of p)
   pub columns : MakesFirst old.columns new.columns (line_facts p)
-  pub cells : OfEachRule (GainsCells (line_facts p)) old.settings.rules old.marks.lows old.cells new.cells
-  pub others : new ≡ grown new.series new.columns new.cells old
+  pub cells : OfEachRule (GainsCells (line_facts p)) old.rules new.rules
+  pub others : new ≡ grown new.series new.columns new.rules old
   pub left : steps_left (state_of new) ≡ steps_left (state_of old)
 
 -- a write. Without an error, the line is accepted. A refused line has this error, and changes nothing. A line that
 -- isn't refused may still run out of memory.
 pub record WritesLine (old new : StoreData) (p : Parts) (result : Result (Unit {0}) WriteFault) : Type 0 where
   pub ok : OnOk result (Accepts old new p)
-  pub refused : IfSome (write_fault old.marks.raw old.series old.accepted p) (λ fault. (result ≡ Err fault) × (new ≡ old))
-  pub taken : IsNone (write_fault old.marks.raw old.series old.accepted p) → (result ≡ Ok tt) ⊎ ((result ≡ Err OutOfMemory) × Leaves old new p)
+  pub refused : IfSome (write_fault old.raw_mark old.series old.accepted p) (λ fault. (result ≡ Err fault) × (new ≡ old))
+  pub taken : IsNone (write_fault old.raw_mark old.series old.accepted p) → (result ≡ Ok tt) ⊎ ((result ≡ Err OutOfMemory) × Leaves old new p)

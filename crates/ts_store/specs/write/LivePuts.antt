@@ -11,6 +11,7 @@ use Rattle.ts_core.specs.moves.StoreMoves.{PutsFact, GainEmptyCells}
 use Rattle.ts_line.specs.Parts.{LinePart}
 use Rattle.ts_raw.specs.Columns.{ColumnState}
 use Rattle.ts_store.specs.store.ColumnStates.{with_points, point_maps}
+use Rattle.ts_store.specs.store.RuleLists.{rules_with}
 use Rattle.ts_store.specs.rollup.Rollups.{RollupState, HaveRollupSeries}
 
 -- the columns of these names have these points, and a rollup series each
@@ -38,4 +39,4 @@ AreOfFields time = AllZip (λ (x : LinePart × ℤ) (f : Fact). (f.time ≡ time
 
 -- with more cells created, the live part of each existing cell is still that of its raw facts
 abbrev pub StayLive : List Rule → List ℤ → List ColumnPoints → List CellMap → Type 0
-StayLive rs lows columns ms = (facts : List Fact) (ns : List CellMap) → GainEmptyCells rs lows facts ms ns → AreLive columns rs ns
+StayLive rs lows columns ms = (facts : List Fact) (ns : List CellMap) → GainEmptyCells facts (rules_with rs lows ms) (rules_with rs lows ns) → AreLive columns (rules_with rs lows ns)

@@ -1,9 +1,9 @@
 //! The parts of a store that an image saves.
-ghost use Rattle.std.specs.Prelude.{◌≡◌, ◌↔◌, ◌<◌, IfOk, IsTrue, length, map, pos, slice_index_or};
-ghost use Rattle.std.specs.FinMap as finmap;
+ghost use Rattle.std.specs.Prelude.{◌≡◌, ◌↔◌, ◌<◌, IfOk, IsTrue, length, map, slice_index_or};
 ghost use Rattle.ts_core.specs.lists.Members.{Among};
 ghost use Rattle.ts_core.specs.lists.Numbered.{IsAt};
 ghost use Rattle.ts_core.specs.store.StoreStates.{ColumnPoints, column_of};
+ghost use Rattle.ts_core.specs.store.StoreData.{RuleData};
 ghost use Rattle.ts_raw.specs.Columns.{AreTimed};
 ghost use Rattle.ts_raw.specs.PlainColumns.{IsRising};
 ghost use Rattle.ts_store.specs.image.SavedContent.{SavesSeries, frozen_from};
@@ -43,8 +43,8 @@ impl<A: Allocator + Copy> Store<A> {
     /// Returns an iterator over the cells of the rule with this index that have frozen facts, from its low index on.
     /// They are ordered by index, field and group.
     pub fn frozen_cells(&self, rule: usize) -> FrozenCells<'_, A>
-        requires { rule < length self.now.settings.rules }
-        ensures { result ≡ frozen_from (slice_index_or self.now.marks.lows rule (pos 0)) (slice_index_or self.now.cells rule finmap.empty) }
+        requires { rule < length self.now.rules }
+        ensures { (r : RuleData) → IsAt self.now.rules rule r → result ≡ frozen_from r.low r.cells }
     {
         let kept = &self.settings.rules()[rule];
         self.facts
@@ -53,8 +53,8 @@ impl<A: Allocator + Copy> Store<A> {
 
     /// Returns the number of those cells, without a walk over them.
     pub fn frozen_count(&self, rule: usize) -> u128
-        requires { rule < length self.now.settings.rules }
-        ensures { result ≡ length (frozen_from (slice_index_or self.now.marks.lows rule (pos 0)) (slice_index_or self.now.cells rule finmap.empty)) }
+        requires { rule < length self.now.rules }
+        ensures { (r : RuleData) → IsAt self.now.rules rule r → result ≡ length (frozen_from r.low r.cells) }
     {
         let kept = &self.settings.rules()[rule];
         self.facts

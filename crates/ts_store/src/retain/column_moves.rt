@@ -2,14 +2,17 @@
 ghost use Rattle.std.specs.Prelude.{◌≡◌, ◌<◌, ◌≤◌, ◌^◌, pos, ◌≤ℤ◌, length, map};
 ghost use Rattle.std.specs.Bool.{OnTrue, OnFalse};
 ghost use Rattle.std.specs.List.{AllByRecursion};
-ghost use Rattle.ts_core.specs.store.StoreData.{AreLive};
+ghost use Rattle.ts_core.specs.store.StoreData.{IsLive};
 ghost use Rattle.ts_core.specs.store.StoreStates.{ColumnPoints, column_of, facts_of};
 ghost use Rattle.ts_core.specs.moves.StoreMoves.{points_below};
+ghost use Rattle.ts_core.specs.lists.Beside.{OfEach};
 ghost use Rattle.ts_core.specs.lists.Numbered.{IsAt};
+ghost use Rattle.ts_cells.specs.Expiry.{IsAbove};
 ghost use Rattle.ts_store.specs.read.PointsRead.{HasRisingPoints};
+ghost use Rattle.ts_store.specs.rollup.ChangedLists.{FirstChanges};
 ghost use Rattle.ts_store.specs.rollup.Rollups.{AreRollups, cells_of};
 ghost use Rattle.ts_store.specs.retain.RollupSteps.{with_all_grid_cells, content_with_cells, FreezeFit, content_moved};
-ghost use Rattle.ts_store.specs.retain.WholeRuns.{AreAbove, FirstLoses};
+ghost use Rattle.ts_store.specs.retain.WholeRuns.{LosesCells};
 
 use crate::retain::freezing::move_points;
 use crate::rollup::Rollup;
@@ -22,8 +25,8 @@ use ts_raw::Column as _;
 fn expire_first<A: Allocator + Copy>(rollups: &mut [Rollup<A>], lows: &[i128]) -> bool
     requires { length lows.now ≡ length rollups.old }
     ensures kept { rollups.new ≡ with_all_grid_cells (cells_of rollups.new) rollups.old }
-    ensures some { OnTrue result (FirstLoses lows.now (cells_of rollups.old) (cells_of rollups.new)) }
-    ensures none { OnFalse result ((rollups.new ≡ rollups.old) × AreAbove lows.now (cells_of rollups.old)) }
+    ensures some { OnTrue result (FirstChanges IsAbove LosesCells lows.now (cells_of rollups.old) (cells_of rollups.new)) }
+    ensures none { OnFalse result ((rollups.new ≡ rollups.old) × OfEach IsAbove lows.now (cells_of rollups.old)) }
 {
     for (i, rollup) in rollups.iter_mut().enumerate() {
         if rollup.expire(&lows[i]) > 0 {
@@ -47,7 +50,7 @@ impl<A: Allocator + Copy> ColumnFacts<A> {
     pub(crate) fn move_column(&mut self, rules: &[Rule<A>], column: usize, mark: Time)
         requires intervals { AllByRecursion (λ r. pos 1 ≤ℤ r.interval) rules.now }
         requires rollups { AreRollups rules.now (map column_of self.old.columns) self.old.rollups }
-        requires live { AreLive self.old.columns rules.now (cells_of self.old.rollups) }
+        requires live { OfEach (IsLive self.old.columns) rules.now (cells_of self.old.rollups) }
         requires column { column < length self.old.columns }
         requires few { length (facts_of self.old.columns) ≤ 2 ^ 62 }
         ensures { (s : ColumnPoints) → IsAt self.old.columns column s → FreezeFit rules.now s.column (points_below mark s.points) (cells_of self.old.rollups) → self.new ≡ content_moved rules.now s mark self.old }
@@ -65,8 +68,8 @@ impl<A: Allocator + Copy> ColumnFacts<A> {
     pub(crate) fn expire(&mut self, lows: &[i128]) -> bool
         requires { length lows.now ≡ length self.old.rollups }
         ensures kept { self.new ≡ content_with_cells (cells_of self.new.rollups) self.old }
-        ensures some { OnTrue result (FirstLoses lows.now (cells_of self.old.rollups) (cells_of self.new.rollups)) }
-        ensures none { OnFalse result ((self.new ≡ self.old) × AreAbove lows.now (cells_of self.old.rollups)) }
+        ensures some { OnTrue result (FirstChanges IsAbove LosesCells lows.now (cells_of self.old.rollups) (cells_of self.new.rollups)) }
+        ensures none { OnFalse result ((self.new ≡ self.old) × OfEach IsAbove lows.now (cells_of self.old.rollups)) }
     {
         expire_first(self.rollups.as_mut_slice(), lows)
     }

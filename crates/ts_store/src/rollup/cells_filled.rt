@@ -4,11 +4,12 @@ ghost use Rattle.std.specs.FinMap as finmap;
 ghost use Rattle.std.specs.List.{AllByRecursion};
 ghost use Rattle.ts_core.specs.facts.Facts.{Column, Fact};
 ghost use Rattle.ts_core.specs.lists.Numbered.{IsAt};
-ghost use Rattle.ts_core.specs.store.StoreData.{AreLive};
+ghost use Rattle.ts_core.specs.lists.Beside.{OfEach};
+ghost use Rattle.ts_core.specs.store.StoreData.{IsLive, OfEachRule};
 ghost use Rattle.ts_core.specs.store.StoreStates.{column_of, facts_at, facts_of};
 ghost use Rattle.ts_store.specs.image.BuildingParts.{AreIdle, MakesCells, FillsCells, KeepsFrozen, KeepFrozen, IsFilledBut, AreFilledBut};
 ghost use Rattle.ts_store.specs.store.ColumnStates.{with_points, point_maps};
-ghost use Rattle.ts_store.specs.write.LinesPut.{OfEachRule};
+ghost use Rattle.ts_store.specs.store.RuleLists.{rules_with};
 ghost use Rattle.ts_store.specs.read.PointsRead.{number_of_points};
 ghost use Rattle.ts_store.specs.retain.RollupSteps.{with_all_grid_cells};
 ghost use Rattle.ts_store.specs.rollup.Rollups.{AreRollups, IsRollupSeriesOf, cells_of, rollup_series_at, with_grid_cells};
@@ -83,7 +84,7 @@ fn make_under_all<A: Allocator + Copy>(
     requires lows { length lows.now ≡ length rules.now }
     requires inside { AllByRecursion (λ s. number < length s.series_of_column) rollups.old }
     ensures kept { rollups.new ≡ with_all_grid_cells (cells_of rollups.new) rollups.old }
-    ensures cells { (cs : List Column) (c : Column) → IsAt cs number c → AreRollups rules.now cs rollups.old → OnOk result (OfEachRule (MakesCells (facts_at c (finmap.entries column.now.points))) rules.now lows.now (cells_of rollups.old) (cells_of rollups.new)) }
+    ensures cells { (cs : List Column) (c : Column) → IsAt cs number c → AreRollups rules.now cs rollups.old → OnOk result (OfEachRule (MakesCells (facts_at c (finmap.entries column.now.points))) (rules_with rules.now lows.now (cells_of rollups.old)) (rules_with rules.now lows.now (cells_of rollups.new))) }
 {
     for (i, rollup) in rollups.iter_mut().enumerate() {
         make_cells(&rules[i], &lows[i], rollup, number, column.all())?;
@@ -103,7 +104,7 @@ pub(crate) fn make_all_cells<A: Allocator + Copy>(
     requires lows { length lows.now ≡ length rules.now }
     requires each { AllByRecursion (λ s. length s.series_of_column ≡ length columns.now) rollups.old }
     ensures kept { rollups.new ≡ with_all_grid_cells (cells_of rollups.new) rollups.old }
-    ensures cells { (cs : List Column) → length columns.now ≡ length cs → AreRollups rules.now cs rollups.old → OnOk result (OfEachRule (MakesCells (facts_of (with_points cs (point_maps columns.now)))) rules.now lows.now (cells_of rollups.old) (cells_of rollups.new)) }
+    ensures cells { (cs : List Column) → length columns.now ≡ length cs → AreRollups rules.now cs rollups.old → OnOk result (OfEachRule (MakesCells (facts_of (with_points cs (point_maps columns.now)))) (rules_with rules.now lows.now (cells_of rollups.old)) (rules_with rules.now lows.now (cells_of rollups.new))) }
 {
     for number in 0..columns.len() {
         make_under_all(rules, lows, rollups, number, &columns[number])?;
@@ -192,7 +193,7 @@ pub(crate) fn add_all_points<A: Allocator + Copy>(
     requires few { number_of_points columns.now ≤ 2 ^ 62 }
     ensures kept { rollups.new ≡ with_all_grid_cells (cells_of rollups.new) rollups.old }
     ensures frozen { KeepFrozen (cells_of rollups.old) (cells_of rollups.new) }
-    ensures live { (cs : List Column) → length columns.now ≡ length cs → AreRollups rules.now cs rollups.old → AreIdle (cells_of rollups.old) → AreLive (with_points cs (point_maps columns.now)) rules.now (cells_of rollups.new) }
+    ensures live { (cs : List Column) → length columns.now ≡ length cs → AreRollups rules.now cs rollups.old → AreIdle (cells_of rollups.old) → OfEach (IsLive (with_points cs (point_maps columns.now))) rules.now (cells_of rollups.new) }
 {
     for number in 0..columns.len() {
         add_under_all(rules, rollups, number, &columns[number]);

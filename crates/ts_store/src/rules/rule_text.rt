@@ -4,6 +4,7 @@ ghost use Rattle.serde_json.specs.View.{view};
 ghost use Rattle.ts_core.specs.declared.settings.settings_fault.SettingsError.TheVariants as errors;
 ghost use Rattle.ts_core.specs.settings.SettingsFound.{fault_added};
 ghost use Rattle.ts_core.specs.settings.SettingsTexts.{rule_parsed};
+ghost use Rattle.ts_core.specs.store.StoreData.{store_settings};
 ghost use Rattle.ts_store.specs.rules.RuleTexts.{AddsText, AddsValue};
 
 use crate::read::View as _;
@@ -28,7 +29,7 @@ impl<A: Allocator + Copy> Store<A> {
     /// only a rule that could be added runs out of memory.
     pub fn add_rule_json(&mut self, alloc: A, value: &Value) -> Result<AddedRule, SettingsError>
         ensures added { AddsValue self.old self.new (view value.now) result }
-        ensures memory { IfErr result (λ e. e ≡ errors.OutOfMemory → fault_added self.old.settings (rule_parsed (view value.now)) ≡ None) }
+        ensures memory { IfErr result (λ e. e ≡ errors.OutOfMemory → fault_added (store_settings self.old) (rule_parsed (view value.now)) ≡ None) }
     {
         if let Some(fault) = self.settings().check_json(value) {
             return Err(SettingsError::Fault(fault));

@@ -1,5 +1,6 @@
 //! Writes the text of a line: parses it, and writes its parts.
 ghost use Rattle.std.specs.Prelude.{◌≡◌, ◌≢◌, ◌≤◌, length, IfOk};
+ghost use Rattle.ts_core.specs.store.StoreData.{store_settings, store_marks};
 ghost use Rattle.ts_core.specs.text.FaultTexts.{IsAppended};
 ghost use Rattle.ts_store.specs.store.Inventories.{inventory_of, facts_of_text, GrowsAfter};
 ghost use Rattle.ts_store.specs.write.LineTexts.{LineState, IsStateOf, WritesFrom, parts_in, refusal_of, line_refusal_text};
@@ -68,7 +69,7 @@ impl<A: Allocator + Copy> Store<A> {
         now: Time,
     ) -> Result<LineOutcome, AllocError>
         ensures written { (s : LineState) → IsStateOf s self.old → WritesFrom precision now s text.now result self.new }
-        ensures inventory { GrowsAfter self.old.settings.rules self.old.marks.lows (facts_of_text (parts_in precision now text.now)) result (inventory_of self.old) (inventory_of self.new) }
+        ensures inventory { GrowsAfter (store_settings self.old).rules (store_marks self.old).lows (facts_of_text (parts_in precision now text.now)) result (inventory_of self.old) (inventory_of self.new) }
         ensures unchanged { IfOk result (λ outcome. outcome ≢ LineOutcome.Accepted → self.new ≡ self.old) }
     {
         match read_line(arena, text, precision, now) {

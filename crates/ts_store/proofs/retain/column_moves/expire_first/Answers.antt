@@ -1,6 +1,8 @@
 use Rattle.std.proofs.Common.{◌≡◌, ℕ, ℤ, pos, List, take, get_or, set, refl, sym, subst, arith}
 use Rattle.ts_store.specs.rollup.Rollups.{RollupState, cells_of}
-use Rattle.ts_store.specs.retain.WholeRuns.{FirstLoses}
+use Rattle.ts_cells.specs.Expiry.{IsAbove}
+use Rattle.ts_store.specs.rollup.ChangedLists.{FirstChanges}
+use Rattle.ts_store.specs.retain.WholeRuns.{LosesCells}
 use Rattle.ts_store.specs.write.CellsCreated.{KeepsRollupSeries}
 use Rattle.ts_store.proofs.retain.RollupExpiry.{IsExpired, none_expired, first_expired}
 use Rattle.ts_store.proofs.rollup.ChangedListsLemmas.{next_changed, last_changed, all_changed, grids_beside}
@@ -24,7 +26,7 @@ returns-then-expire-gt0-clause-some g c =
     let us : List RollupState = c.args.rollups.now in
     let before = none_expired (take i lows) us c.loop-i.rollups c.loop-i.invariant in
     let gone : IsExpired (get_or lows i (pos 0)) c.expire.result (get_or c.loop-i.rollups i c.index-rollups-i.result) c.expire.new.self = record { cells = c.expire.ensures.cells; below = c.expire.ensures.below } in
-    subst (λ (vs : List RollupState). FirstLoses lows (cells_of us) (cells_of (set vs i c.expire.new.self))) (sym before.0)
+    subst (λ (vs : List RollupState). FirstChanges IsAbove LosesCells lows (cells_of us) (cells_of (set vs i c.expire.new.self))) (sym before.0)
     (first_expired lows us i (pos 0) c.expire.result c.index-rollups-i.result c.expire.new.self (omega arith) (omega arith) c.if-expire-gt0.true
     (subst (λ (vs : List RollupState). IsExpired (get_or lows i (pos 0)) c.expire.result (get_or vs i c.index-rollups-i.result) c.expire.new.self) before.0 gone) before.1)
 

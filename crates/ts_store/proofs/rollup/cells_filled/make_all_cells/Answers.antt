@@ -7,7 +7,8 @@ use Rattle.ts_core.specs.store.StoreStates.{ColumnPoints, facts_at, facts_of}
 use Rattle.ts_raw.specs.Columns.{ColumnState}
 use Rattle.ts_store.specs.image.BuildingParts.{MakesCells}
 use Rattle.ts_store.specs.store.ColumnStates.{no_column, with_points, point_maps}
-use Rattle.ts_store.specs.write.LinesPut.{OfEachRule}
+use Rattle.ts_core.specs.store.StoreData.{OfEachRule}
+use Rattle.ts_store.specs.store.RuleLists.{rules_with}
 use Rattle.ts_store.specs.rollup.Rollups.{AreRollups, cells_of}
 use Rattle.ts_store.proofs.rollup.CellsCreated.{all-made-none, all-made-then}
 use Rattle.ts_store.proofs.image.ColumnsInTurn.{column-there, turn-taken}
@@ -21,7 +22,7 @@ use Rattle.ts_store.proofs.rollup.cells_filled.make_all_cells.Goals as goal
 pub loop-number-init : goal.loop-number-init
 loop-number-init g c = record {
   kept = grids_kept c.args.rollups.now;
-  cells = λ cs each h. all-made-none c.args.rules.now c.args.lows.now (cells_of c.args.rollups.now);
+  cells = λ cs each h. all-made-none (rules_with c.args.rules.now c.args.lows.now (cells_of c.args.rollups.now));
 }
 
 pub make_under_all-requires-clause-inside : goal.make_under_all-requires-clause-inside
@@ -46,9 +47,9 @@ loop-number-preserved g c =
           let now : AreRollups rs cs c.loop-number.rollups = subst (AreRollups rs cs) (sym c.loop-number.invariant.kept) (rollups_with rs cs (cells_of c.loop-number.rollups) c.args.rollups.now h) in
           let before : List Fact = facts_of (take n (with_points cs (point_maps ss))) in
           let its : List Fact = facts_at there.0 (finmap.entries c.index-columns-number.result.points) in
-          subst (λ (fs : List Fact). OfEachRule (MakesCells fs) rs c.args.lows.now (cells_of c.args.rollups.now) (cells_of c.make_under_all.new.rollups))
+          subst (λ (fs : List Fact). OfEachRule (MakesCells fs) (rules_with rs c.args.lows.now (cells_of c.args.rollups.now)) (rules_with rs c.args.lows.now (cells_of c.make_under_all.new.rollups)))
           (sym (turn-taken cs ss n there.0 c.index-columns-number.result each there.1 is (n + 1) (add-one n)))
-          (all-made-then before its rs c.args.lows.now (cells_of c.args.rollups.now) (cells_of c.loop-number.rollups) (cells_of c.make_under_all.new.rollups) (c.loop-number.invariant.cells cs each h) (c.in_ok-make_under_all.ensures.cells cs there.0 there.1 now));
+          (all-made-then before its _ (rules_with rs c.args.lows.now (cells_of c.loop-number.rollups)) _ (c.loop-number.invariant.cells cs each h) (c.in_ok-make_under_all.ensures.cells cs there.0 there.1 now));
     }
 
 pub returns-clause-cells : goal.returns-clause-cells
@@ -56,4 +57,4 @@ returns-clause-cells g c = λ cs each h.
     let ss : List ColumnState = c.args.columns.now in
     let many : length (with_points cs (point_maps ss)) ≡ length cs = with_points-length cs (point_maps ss) (length-map ss (λ (s : ColumnState). s.points) ∙ each) in
     let all : take c.loop-number.number (with_points cs (point_maps ss)) ≡ with_points cs (point_maps ss) = take_all c.loop-number.number (with_points cs (point_maps ss)) (omega (arith, many, each)) in
-    subst (λ (xs : List ColumnPoints). OfEachRule (MakesCells (facts_of xs)) c.args.rules.now c.args.lows.now (cells_of c.args.rollups.now) (cells_of c.loop-number.rollups)) all (c.loop-number.invariant.cells cs each h)
+    subst (λ (xs : List ColumnPoints). OfEachRule (MakesCells (facts_of xs)) (rules_with c.args.rules.now c.args.lows.now (cells_of c.args.rollups.now)) (rules_with c.args.rules.now c.args.lows.now (cells_of c.loop-number.rollups))) all (c.loop-number.invariant.cells cs each h)

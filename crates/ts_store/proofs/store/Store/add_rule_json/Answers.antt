@@ -8,17 +8,18 @@ use Rattle.ts_core.specs.settings.Settings.{Settings}
 use Rattle.ts_core.specs.settings.SettingsFound.{fault_added}
 use Rattle.ts_core.specs.settings.SettingsTexts.{rule_parsed}
 use Rattle.ts_store.specs.rules.RuleTexts.{ValueComes}
+use Rattle.ts_core.specs.store.StoreData.{store_settings}
 use Rattle.ts_store.proofs.rules.RuleTextLemmas.{value_refused, value_at_fault, value_came, rule_refused, name_fits}
 use Rattle.ts_store.proofs.store.Store.add_rule_json.Goals as goal
 
 pub returns-in-Some-clause-added : goal.returns-in-Some-clause-added
 returns-in-Some-clause-added g c =
-    let fault : Some c.in-Some.fault ≡ fault_added c.args.self.now.settings (rule_parsed (view c.args.value.now)) =
+    let fault : Some c.in-Some.fault ≡ fault_added (store_settings c.args.self.now) (rule_parsed (view c.args.value.now)) =
     subst (λ (s : Settings). Some c.in-Some.fault ≡ fault_added s (rule_parsed (view c.args.value.now))) c.settings.ensures.value c.in-Some.ensures in
-    (value_at_fault c.args.self.now.settings (rule_parsed (view c.args.value.now)) c.in-Some.fault fault, refl)
+    (value_at_fault (store_settings c.args.self.now) (rule_parsed (view c.args.value.now)) c.in-Some.fault fault, refl)
 
 pub returns-in-Err-clause-added : goal.returns-in-Err-clause-added
-returns-in-Err-clause-added g c = (value_refused c.args.self.now.settings (view c.args.value.now) c.in-Err.error c.in-Err.ensures.err, refl)
+returns-in-Err-clause-added g c = (value_refused (store_settings c.args.self.now) (view c.args.value.now) c.in-Err.error c.in-Err.ensures.err, refl)
 
 ok_some : {T E : Type 0} (r : Result T E) → IsOk r → IsSome (result_ok r)
 ok_some (Ok x) h = refl

@@ -10,13 +10,15 @@ use Rattle.ts_store.specs.store.ColumnStates.{StoreContent}
 use Rattle.ts_store.specs.retain.OpenRuns.{data_of_parts}
 use Rattle.ts_store.specs.rules.RuleRollups.{IsRollupOf}
 use Rattle.ts_store.specs.rules.RulesChanged.{RuleComes}
+use Rattle.ts_store.proofs.store.RuleListLemmas.{its_faultless, its_added}
 use Rattle.ts_store.proofs.rules.RulesAdded.{added_wide, rule_is_added}
 use Rattle.ts_store.proofs.store.Store.append_rule.Goals as goal
 
 pub rollup_of-requires-clause-interval : goal.rollup_of-requires-clause-interval
 rollup_of-requires-clause-interval g c =
-    let well : added_fault c.self.inside.settings c.args.rule ≡ None = ap (λ (k : StoreData). added_fault k.settings c.args.rule) c.self.view_is ∙ c.requires.rule in
-    added_wide c.self.inside.settings c.args.rule c.self.invariant.sized.settings well
+    let i = c.self.inside in
+    let well = its_added i.settings i.marks i.accepted i.facts i.run c.self.invariant c.args.self.now c.self.view_is c.args.rule c.requires.rule in
+    added_wide i.settings c.args.rule (its_faultless i.settings i.marks i.accepted i.facts i.run c.self.invariant c.args.self.now c.self.view_is) well
 
 pub returns-in_err-add_rollup-clause-err : goal.returns-in_err-add_rollup-clause-err
 returns-in_err-add_rollup-clause-err g c =
@@ -27,9 +29,9 @@ pub invariant_of-self-2 : goal.invariant_of-self-2
 invariant_of-self-2 g c =
     let before = c.self.inside in
     let r : Rule = c.args.rule in
-    let well : added_fault before.settings r ≡ None = ap (λ (k : StoreData). added_fault k.settings r) c.self.view_is ∙ c.requires.rule in
-    let mark : IsTime before.marks.raw = subst (λ (k : StoreData). IsTime k.marks.raw) (sym c.self.view_is) c.requires.mark in
-    let low : c.args.low ≡ first_from r before.marks.raw = c.requires.low ∙ ap (λ (k : StoreData). first_from r k.marks.raw) (sym c.self.view_is) in
+    let well : added_fault before.settings r ≡ None = its_added before.settings before.marks before.accepted before.facts before.run c.self.invariant c.args.self.now c.self.view_is r c.requires.rule in
+    let mark : IsTime before.marks.raw = subst (λ (k : StoreData). IsTime k.raw_mark) (sym c.self.view_is) c.requires.mark in
+    let low : c.args.low ≡ first_from r before.marks.raw = c.requires.low ∙ ap (λ (k : StoreData). first_from r k.raw_mark) (sym c.self.view_is) in
     let settings : c.in_ok-settings.settings ≡ with_rule r before.settings = c.in_ok-settings.ensures in
     let same : to_z w128 (of_z w128 c.args.low) ≡ c.args.low = search rules in
     let marks : c.in_ok-marks.marks ≡ record { raw = before.marks.raw; lows = before.marks.lows ++ c.args.low ∷ [] } =
@@ -40,12 +42,17 @@ pub returns-clause-ok : goal.returns-clause-ok
 returns-clause-ok g c =
     let before = c.self.inside in
     let r : Rule = c.args.rule in
-    let well : added_fault before.settings r ≡ None = ap (λ (k : StoreData). added_fault k.settings r) c.self.view_is ∙ c.requires.rule in
-    let mark : IsTime before.marks.raw = subst (λ (k : StoreData). IsTime k.marks.raw) (sym c.self.view_is) c.requires.mark in
-    let low : c.args.low ≡ first_from r before.marks.raw = c.requires.low ∙ ap (λ (k : StoreData). first_from r k.marks.raw) (sym c.self.view_is) in
+    let well : added_fault before.settings r ≡ None = its_added before.settings before.marks before.accepted before.facts before.run c.self.invariant c.args.self.now c.self.view_is r c.requires.rule in
+    let mark : IsTime before.marks.raw = subst (λ (k : StoreData). IsTime k.raw_mark) (sym c.self.view_is) c.requires.mark in
+    let low : c.args.low ≡ first_from r before.marks.raw = c.requires.low ∙ ap (λ (k : StoreData). first_from r k.raw_mark) (sym c.self.view_is) in
     let settings : c.in_ok-settings.settings ≡ with_rule r before.settings = c.in_ok-settings.ensures in
     let same : to_z w128 (of_z w128 c.args.low) ≡ c.args.low = search rules in
     let marks : c.in_ok-marks.marks ≡ record { raw = before.marks.raw; lows = before.marks.lows ++ c.args.low ∷ [] } =
     c.in_ok-marks.ensures ∙ ap (λ (z : ℤ). record { raw = before.marks.raw; lows = before.marks.lows ++ z ∷ [] }) same in
     subst (λ (k : StoreData). RuleComes k (data_of_parts c.in_ok-settings.settings c.in_ok-marks.marks before.accepted c.add_rollup.new.self before.run) r c.args.low) c.self.view_is
     (rule_is_added before.settings before.marks before.accepted before.facts before.run r c.args.low c.in_ok-rollup.rollup c.in_ok-settings.settings c.in_ok-marks.marks c.add_rollup.new.self c.self.invariant well mark low (subst (λ (z : ℤ). IsRollupOf before.facts r z c.in_ok-rollup.rollup) same c.in_ok-rollup.ensures) settings marks c.in_ok-add_rollup.ensures.ok).1
+
+pub settings_with-requires : goal.settings_with-requires
+settings_with-requires g c =
+    let before = c.self.inside in
+    its_added before.settings before.marks before.accepted before.facts before.run c.self.invariant c.args.self.now c.self.view_is c.args.rule c.requires.rule

@@ -18,7 +18,7 @@ invariant_of-result g c =
     let lows : c.in_ok-lows.lows.items ≡ map (λ (r : Rule). index_of r least_time) c.args.settings.rules = c.in_ok-lows.ensures ∙ ap (map (λ (r : Rule). index_of r least_time)) c.rules.ensures.value in
     let marks : c.new-2.result ≡ marks_of c.args.settings [] = c.new-2.ensures ∙ (λ i. record { raw = c.least.ensures i; lows = lows i }) in
     let held : c.in_ok-facts.facts ≡ held_new c.args.settings = c.in_ok-facts.ensures ∙ (λ i. record { series = []; columns = []; rollups = replicate (length (c.rules-2.ensures.value i)) new_rollup }) in
-    subst (λ (run : Option Run). IsSoundStore (data_of_parts c.args.settings c.new-2.result 0 c.in_ok-facts.facts run) c.in_ok-facts.facts run) (sym c.none.ensures)
+    subst (λ (run : Option Run). IsSoundStore c.args.settings c.new-2.result 0 c.in_ok-facts.facts run) (sym c.none.ensures)
     (kept_new c.args.settings c.new-2.result c.in_ok-facts.facts c.rules.ensures.faultless marks held)
 
 pub returns-clause-value : goal.returns-clause-value

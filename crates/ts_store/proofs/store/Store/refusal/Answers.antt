@@ -19,7 +19,7 @@ returns-then-fields-self g c =
     let fields = ap length c.fields.ensures.value in
     let facts = length-map line.fields (fact_of line) in
     let many : 2 ^ 62 < inside.accepted + length (line_facts line) = let more = c.if-fields-self.true in omega (arith, fields, facts, more) in
-    sym (facts_refused inside.marks.raw inside.facts.series inside.accepted line late registers many) ∙ ap (λ (k : StoreData). write_fault k.marks.raw k.series k.accepted line) c.self.view_is
+    sym (facts_refused inside.marks.raw inside.facts.series inside.accepted line late registers many) ∙ ap (λ (k : StoreData). write_fault k.raw_mark k.series k.accepted line) c.self.view_is
 
 pub returns : goal.returns
 returns g c =
@@ -32,4 +32,4 @@ returns g c =
     let facts = length-map line.fields (fact_of line) in
     let all = c.self.invariant.sized.accepted in
     let few : inside.accepted + length (line_facts line) ≤ 2 ^ 62 = let more = c.if-fields-self.false in omega (arith, fields, facts, more, all) in
-    sym (welcome inside.marks.raw inside.facts.series inside.accepted line late registers few) ∙ ap (λ (k : StoreData). write_fault k.marks.raw k.series k.accepted line) c.self.view_is
+    sym (welcome inside.marks.raw inside.facts.series inside.accepted line late registers few) ∙ ap (λ (k : StoreData). write_fault k.raw_mark k.series k.accepted line) c.self.view_is

@@ -1,5 +1,6 @@
 use Rattle.std.proofs.Common.{◌∙◌, ap, sym, subst, List, Ok}
 use Rattle.ts_core.specs.facts.Facts.{Fact}
+use Rattle.ts_core.specs.store.StoreData.{store_settings, store_marks}
 use Rattle.ts_store.specs.store.Inventories.{inventory_of, facts_of_text, InventoryGrows, GrowsInPart}
 use Rattle.ts_store.specs.write.LineTexts.{parts_in, WritesText, RunsOutOfMemory}
 use Rattle.ts_store.proofs.write.LineTextLemmas.{refused_same, wrote_accepted, wrote_refused, left_without_memory, wrote_without_memory}
@@ -14,7 +15,7 @@ returns-in-Ok-clause-written g c =
 
 pub returns-in-Ok-clause-inventory : goal.returns-in-Ok-clause-inventory
 returns-in-Ok-clause-inventory g c =
-    subst (λ (facts : List Fact). InventoryGrows c.args.self.now.settings.rules c.args.self.now.marks.lows facts (inventory_of c.args.self.now) (inventory_of c.write.new.self)) (sym (ap facts_of_text (c.in-Ok-Some.ensures.value ∙ ap Ok c.in-Ok-Some.field-0-is)))
+    subst (λ (facts : List Fact). InventoryGrows (store_settings c.args.self.now).rules (store_marks c.args.self.now).lows facts (inventory_of c.args.self.now) (inventory_of c.write.new.self)) (sym (ap facts_of_text (c.in-Ok-Some.ensures.value ∙ ap Ok c.in-Ok-Some.field-0-is)))
     (grown c.args.self.now c.write.new.self c.in-Ok-Some.line c.in-Ok.ensures.ok)
 
 pub returns-in-OutOfMemory-clause-written : goal.returns-in-OutOfMemory-clause-written
@@ -23,7 +24,7 @@ returns-in-OutOfMemory-clause-written g c =
 
 pub returns-in-OutOfMemory-clause-inventory : goal.returns-in-OutOfMemory-clause-inventory
 returns-in-OutOfMemory-clause-inventory g c =
-    subst (λ (facts : List Fact). GrowsInPart c.args.self.now.settings.rules c.args.self.now.marks.lows facts (inventory_of c.args.self.now) (inventory_of c.write.new.self)) (sym (ap facts_of_text (c.in-Ok-Some.ensures.value ∙ ap Ok c.in-Ok-Some.field-0-is)))
+    subst (λ (facts : List Fact). GrowsInPart (store_settings c.args.self.now).rules (store_marks c.args.self.now).lows facts (inventory_of c.args.self.now) (inventory_of c.write.new.self)) (sym (ap facts_of_text (c.in-Ok-Some.ensures.value ∙ ap Ok c.in-Ok-Some.field-0-is)))
     (grown_in_part c.args.self.now c.write.new.self c.in-Ok-Some.line (left_without_memory c.in-Ok-Some.line c.args.self.now c.write.new.self c.in-Err.fault c.in-Err.ensures.refused c.in-Err.ensures.taken c.in-OutOfMemory.is))
 
 pub returns-in-Ok-Some : goal.returns-in-Ok-Some

@@ -8,6 +8,7 @@ use Rattle.ts_store.specs.store.ColumnStates.{with_points, point_maps, all_commi
 use Rattle.ts_store.specs.read.PointsRead.{number_of_points}
 use Rattle.ts_store.specs.write.PointPuts.{PutsPoint}
 use Rattle.ts_store.specs.rollup.Rollups.{RollupState, rollup_series_at, cells_of}
+use Rattle.ts_store.specs.store.RuleLists.{rules_with}
 use Rattle.ts_store.proofs.write.PointsPut.{PutsRest, ready_staged, point_found, now_committed, committed-more, inside_each, commits_alone, commits_rolled, next_is_ready, next_fits, next_left, wide_left, rest_done, none_left, none_committed}
 use Rattle.ts_store.proofs.retain.RollupExpiry.{grids_kept}
 use Rattle.ts_store.proofs.write.committing.commit_points.Goals as goal
@@ -26,9 +27,9 @@ loop-number-init g c =
       long = refl;
       columns = ap (all_committed ss) ids;
       kept = grids_kept us;
-      cells = λ cs after ends rest.
-          subst (λ (ms : List ℕ). PutsRest c.args.rules.now ms c.args.time c.args.fields.now cs ss us after ends) ids
-          (subst (λ (xs : List (LinePart × ℤ)). PutsRest c.args.rules.now ns c.args.time xs cs ss us after ends) values rest);
+      cells = λ cs lows after ends rest.
+          subst (λ (ms : List ℕ). PutsRest c.args.rules.now lows ms c.args.time c.args.fields.now cs ss us after ends) ids
+          (subst (λ (xs : List (LinePart × ℤ)). PutsRest c.args.rules.now lows ns c.args.time xs cs ss us after ends) values rest);
     }
 
 pub is_rolled-requires : goal.is_rolled-requires
@@ -90,6 +91,6 @@ returns-clause-columns g c =
     none_committed _ _ (none_left _ _ c.loop-number.invariant.same (either_empty_from_Zip c.loop-number.number-iterator c.next.new.self c.next.result c.in-None.is c.next.ensures.steps)) ∙ c.loop-number.invariant.columns
 
 pub returns-clause-cells : goal.returns-clause-cells
-returns-clause-cells g c = λ cs fs over put.
+returns-clause-cells g c = λ cs lows fs over put.
     let none = none_left _ _ c.loop-number.invariant.same (either_empty_from_Zip c.loop-number.number-iterator c.next.new.self c.next.result c.in-None.is c.next.ensures.steps) in
-    c.loop-number.invariant.cells cs (with_points cs (point_maps c.loop-number.columns.items)) (cells_of c.loop-number.rollups) (rest_done c.args.rules.now _ _ _ cs _ _ none) fs over put
+    c.loop-number.invariant.cells cs lows (with_points cs (point_maps c.loop-number.columns.items)) (rules_with c.args.rules.now lows (cells_of c.loop-number.rollups)) (rest_done c.args.rules.now lows _ _ _ cs _ _ none) fs over put

@@ -21,7 +21,7 @@ invariant_of-result g c =
     let fills : FillsCells i.settings.rules i.marks.lows i.facts after =
     subst (λ (rs : List Rule). FillsCells rs i.marks.lows i.facts after) c.rules.ensures.value (subst (λ (ls : List ℤ). FillsCells c.rules.result.now ls i.facts after) c.lows.ensures c.in_ok-fill_cells.ensures) in
     let run : c.over.result ≡ run_of i.running 0 (length after.columns) i.passed.items = c.over.ensures ∙ ap (λ n. run_of i.running 0 n i.passed.items) c.column_count-columns.ensures.count in
-    subst (λ (r : Option Run). IsSoundStore (data_of_parts i.settings i.marks i.accepted after r) after r) (sym run) (kept_built i.settings i.marks i.running i.accepted i.facts after i.passed.items c.self.invariant c.rules.ensures.faultless can fills)
+    subst (λ (r : Option Run). IsSoundStore i.settings i.marks i.accepted after r) (sym run) (kept_built i.settings i.marks i.running i.accepted i.facts after i.passed.items c.self.invariant c.rules.ensures.faultless can fills)
 
 pub returns : goal.returns
 returns g c =

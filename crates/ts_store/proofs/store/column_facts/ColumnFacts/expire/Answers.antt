@@ -5,7 +5,10 @@ use Rattle.ts_cells.proofs.ExpiryLemmas.{on_true, on_false}
 use Rattle.ts_store.specs.store.ColumnStates.{StoreContent, columns_in}
 use Rattle.ts_store.specs.rollup.Rollups.{RollupState, cells_of}
 use Rattle.ts_store.specs.retain.RollupSteps.{with_all_grid_cells, content_with_cells}
-use Rattle.ts_store.specs.retain.WholeRuns.{AreAbove, FirstLoses}
+use Rattle.ts_core.specs.lists.Beside.{OfEach}
+use Rattle.ts_cells.specs.Expiry.{IsAbove}
+use Rattle.ts_store.specs.rollup.ChangedLists.{FirstChanges}
+use Rattle.ts_store.specs.retain.WholeRuns.{LosesCells}
 use Rattle.ts_store.proofs.store.column_facts.ColumnFacts.expire.Given.{Over}
 use Rattle.ts_store.proofs.store.column_facts.ColumnFacts.expire.Goals as goal
 
@@ -27,7 +30,7 @@ pub returns-clause-none : goal.returns-clause-none
 returns-clause-none g c =
     on_false c.expire_first.result (λ h. (
       (λ i. record { series = c.self.inside.index.series; columns = columns_in c.self.inside.index c.self.inside.columns.items; rollups = (written g c ∙ h.0 ∙ c.as_mut_slice.ensures.value) i }) ∙ c.self.view_is,
-      subst (λ (ss : List RollupState). AreAbove c.args.lows.now (cells_of ss)) (rollups g c) h.1,
+      subst (λ (ss : List RollupState). OfEach IsAbove c.args.lows.now (cells_of ss)) (rollups g c) h.1,
     )) c.expire_first.ensures.none
 
 pub returns-clause-kept : goal.returns-clause-kept
@@ -42,5 +45,5 @@ pub returns-clause-some : goal.returns-clause-some
 returns-clause-some g c =
     let after : List RollupState = (with_items c.self.inside.rollups c.expire_first.new.rollups).items in
     on_true c.expire_first.result (λ h.
-    subst (λ (ss : List RollupState). FirstLoses c.args.lows.now (cells_of ss) (cells_of after)) (rollups g c)
-    (subst (λ (us : List RollupState). FirstLoses c.args.lows.now (cells_of c.as_mut_slice.result.now) (cells_of us)) (sym (written g c)) h)) c.expire_first.ensures.some
+    subst (λ (ss : List RollupState). FirstChanges IsAbove LosesCells c.args.lows.now (cells_of ss) (cells_of after)) (rollups g c)
+    (subst (λ (us : List RollupState). FirstChanges IsAbove LosesCells c.args.lows.now (cells_of c.as_mut_slice.result.now) (cells_of us)) (sym (written g c)) h)) c.expire_first.ensures.some

@@ -20,12 +20,15 @@ use Rattle.ts_store.specs.write.Registered.{MayGain, MakesFirst, with_columns, n
 use Rattle.ts_store.specs.store.ColumnStates.{StoreContent, IsSoundContent, content_of, columns_in, with_points, point_maps, IsFactStaged, AreStaged}
 use Rattle.ts_store.proofs.write.StagedColumns.{ready_of, numbers_distinct, line_columns, all_committed-length, same_facts}
 use Rattle.std.specs.List.{AllByRecursion}
-use Rattle.ts_core.specs.store.StoreData.{CellMap, AreLive}
+use Rattle.ts_core.specs.store.StoreData.{CellMap, OfEachRule, IsLive}
+use Rattle.ts_core.specs.lists.Beside.{OfEach}
+use Rattle.ts_store.specs.store.RuleLists.{rules_with}
+use Rattle.ts_store.proofs.store.RuleListLemmas.{each_with}
 use Rattle.ts_store.specs.rollup.Rollups.{RollupState, AreRollups, cells_of}
 use Rattle.ts_store.specs.write.LivePuts.{AreOfFields}
 use Rattle.ts_store.specs.retain.RollupSteps.{with_all_grid_cells}
 use Rattle.ts_store.specs.write.CellsCreated.{bucket_indices, cells_created_under, AreCreatedInPart, KeepRollupSeries}
-use Rattle.ts_store.specs.write.LinesPut.{OfEachRule, GainsCells}
+use Rattle.ts_store.specs.write.LinesPut.{GainsCells}
 use Rattle.ts_store.proofs.write.CellsMade.{gain_nothing, line_cells}
 use Rattle.ts_store.proofs.read.ColumnsReads.{facts-length}
 use Rattle.ts_store.proofs.write.PointsPut.{of_fields, wide_of, live_same}
@@ -55,8 +58,8 @@ rule_count rules old before states us was have = us.ok.0 ∙ ap (λ (h : StoreCo
 -- the state after the call ran out of memory
 grown : (rules : List Rule) (lows : List ℤ) (p : Parts) (key : Series) (old : StoreContent) (before between after : Indexed) (states states' : List ColumnState) (us us' us'' : List RollupState) → key ≡ series_of p → content_of before states us ≡ old
     → MayGain before.series between.series key → between.columns ≡ before.columns → after.series ≡ between.series → MakesFirst (columns_in between states) (columns_in after states') (line_facts p)
-    → IsSoundContent after states' → us'' ≡ us' → AreRollups rules after.columns us' → GainEmptyCells rules lows [] (cells_of us) (cells_of us')
-    → OfEachRule (GainsCells (line_facts p)) rules lows (cells_of us) (cells_of us') → (cells_of us' ≡ cells_of us) ⊎ AllByRecursion (MayBeTaken least_time) (line_facts p) → GrowsForLine rules lows old (content_of after states' us'') p
+    → IsSoundContent after states' → us'' ≡ us' → AreRollups rules after.columns us' → GainEmptyCells [] (rules_with rules lows (cells_of us)) (rules_with rules lows (cells_of us'))
+    → OfEachRule (GainsCells (line_facts p)) (rules_with rules lows (cells_of us)) (rules_with rules lows (cells_of us')) → (cells_of us' ≡ cells_of us) ⊎ AllByRecursion (MayBeTaken least_time) (line_facts p) → GrowsForLine rules lows old (content_of after states' us'') p
 grown rules lows p key old before between after states states' us us' us'' named was gains same series made held is rollups has_cells cells taken =
     subst (λ (h : StoreContent). GrowsForLine rules lows h (content_of after states' us'') p) was
     (subst (λ (vs : List RollupState). GrowsForLine rules lows (content_of before states us) (content_of after states' vs) p) (sym is) (record {
@@ -74,7 +77,7 @@ registered_only : (rules : List Rule) (lows : List ℤ) (p : Parts) (key : Serie
     → after.columns ≡ before.columns → IsSoundIndex after → IsSoundContent before states → AreRollups rules (map column_of old.columns) old.rollups → GrowsForLine rules lows old (content_of after states us) p
 registered_only rules lows p key old before after states us named was gains same sound held have =
     grown rules lows p key old before after after states states us us us named was gains same refl (none_made (columns_in after states) (line_facts p)) (series_held before after states sound same held) refl
-    (still_rollups rules old before after states us was same held have) (rooms_same rules lows (cells_of us)) (gain_nothing (line_facts p) rules lows (cells_of us)) (inl refl)
+    (still_rollups rules old before after states us was same held have) (rooms_same (rules_with rules lows (cells_of us))) (gain_nothing (line_facts p) (rules_with rules lows (cells_of us))) (inl refl)
 
 pub commit_points-requires-clause-ready : goal.commit_points-requires-clause-ready
 commit_points-requires-clause-ready g c =
@@ -162,26 +165,28 @@ returns-clause-ok g c =
     ap (λ (xs : List Column). with_points xs (point_maps c.self.inside.columns.items)) c.register.ensures.columns ∙ ap (λ (h : StoreContent). h.columns) c.self.view_is in
     let made : with_points cs (point_maps ss) ≡ with_columns old (new_columns (map column_of old) (line_facts p)) =
     c.in_ok-prepare_line.ensures.line.all ∙ ap (λ (b : List ColumnPoints). with_columns b (new_columns (map column_of b) (line_facts p))) before in
-    let has_cells : GainEmptyCells rs lows (line_facts p) (cells_of c.args.self.now.rollups) (cells_of vs) = line_rooms rs lows cs ss p c.time.result ns (cells_of c.args.self.now.rollups) us vs c.prepare_line.ensures.rollups staged c.time.ensures
+    let has_cells : GainEmptyCells (line_facts p) (rules_with rs lows (cells_of c.args.self.now.rollups)) (rules_with rs lows (cells_of vs)) = line_rooms rs lows cs ss p c.time.result ns (cells_of c.args.self.now.rollups) us vs c.prepare_line.ensures.rollups staged c.time.ensures
     (c.prepare_line.ensures.cells ∙ ap cells_of (c.as_mut_slice.ensures.value ∙ ap (λ (h : StoreContent). h.rollups) c.self.view_is))
     (c.in_ok-create_cells.ensures.ok ∙ (λ i. cells_created_under (listed i) lows (c.as_slice-2.ensures.value i) (lent i))) in
-    let gains' : OfEachRule (GainsCells (line_facts p)) rs lows (cells_of c.args.self.now.rollups) (cells_of vs) = line_gains rs lows cs ss p c.time.result ns (cells_of c.args.self.now.rollups) us vs c.prepare_line.ensures.rollups staged c.time.ensures
+    let gains' : OfEachRule (GainsCells (line_facts p)) (rules_with rs lows (cells_of c.args.self.now.rollups)) (rules_with rs lows (cells_of vs)) = line_gains rs lows cs ss p c.time.result ns (cells_of c.args.self.now.rollups) us vs c.prepare_line.ensures.rollups staged c.time.ensures
     (c.prepare_line.ensures.cells ∙ ap cells_of (c.as_mut_slice.ensures.value ∙ ap (λ (h : StoreContent). h.rollups) c.self.view_is))
     (all_gained rs lows c.time.result ns us vs (c.in_ok-create_cells.ensures.ok ∙ (λ i. cells_created_under (listed i) lows (c.as_slice-2.ensures.value i) (lent i)))) in
     let have : AreRollups rs cs vs = rollups_stay rs cs us vs c.prepare_line.ensures.rollups (subst (λ (xs : List RollupState). KeepRollupSeries xs vs) lent c.create_cells.ensures.kept) in
-    let live : AreLive (with_points cs (point_maps ss)) rs (cells_of vs) =
-    live_same old (with_points cs (point_maps ss)) (sym (ap facts_of made ∙ same_facts old (new_columns (map column_of old) (line_facts p)))) rs (cells_of vs) (c.requires.live (line_facts p) (cells_of vs) has_cells) in
+    let live : OfEach (IsLive (with_points cs (point_maps ss))) rs (cells_of vs) =
+    live_same old (with_points cs (point_maps ss)) (sym (ap facts_of made ∙ same_facts old (new_columns (map column_of old) (line_facts p)))) rs (cells_of vs)
+    (each_with (IsLive old) rs lows (cells_of vs) c.requires.lows (c.requires.live (line_facts p) (cells_of vs) has_cells)) in
     let fields : AreOfFields c.time-2.result c.fields-2.result.now (line_facts p) = subst (λ (xs : List (LinePart × ℤ)). AreOfFields c.time-2.result xs (line_facts p)) (sym c.fields-2.ensures.value) (of_fields p c.time-2.result (sym c.time-2.ensures) p.fields) in
-    let puts : PutsFacts rs (with_points cs (point_maps ss)) (cells_of c.as_mut_slice-3.result.now) (with_points cs (point_maps c.commit_points.new.columns.items)) (cells_of ws) (line_facts p) =
-    c.commit_points.ensures.cells cs (line_facts p)
-    (record { each = c.prepare_line.ensures.line.held.each; once = c.prepare_line.ensures.line.held.sound.columns_once; rollups = subst (AreRollups rs cs) (sym lent') have; live = subst (λ (xs : List RollupState). AreLive (with_points cs (point_maps ss)) rs (cells_of xs)) (sym lent') live })
+    let puts : PutsFacts (with_points cs (point_maps ss)) (rules_with rs lows (cells_of c.as_mut_slice-3.result.now)) (with_points cs (point_maps c.commit_points.new.columns.items)) (rules_with rs lows (cells_of ws)) (line_facts p) =
+    c.commit_points.ensures.cells cs lows (line_facts p)
+    (record { each = c.prepare_line.ensures.line.held.each; once = c.prepare_line.ensures.line.held.sound.columns_once; rollups = subst (AreRollups rs cs) (sym lent') have; live = subst (λ (xs : List RollupState). OfEach (IsLive (with_points cs (point_maps ss))) rs (cells_of xs)) (sym lent') live })
     (record { values = fields; staged = subst (λ (ms : List ℕ). AreStaged cs ss ms (line_facts p)) (sym c.as_slice-4.ensures.value) staged }) in
     let kept : ws ≡ with_all_grid_cells (cells_of ws) vs = c.commit_points.ensures.kept ∙ ap (with_all_grid_cells (cells_of ws)) lent' in
     let each : length c.commit_points.new.columns.items ≡ length cs = ap length c.commit_points.ensures.columns ∙ all_committed-length ss c.as_slice-4.result.now ∙ c.prepare_line.ensures.line.held.each in
-    let facts : PutsFacts rs (with_columns old (new_columns (map column_of old) (line_facts p))) (cells_of vs) (with_points cs (point_maps c.commit_points.new.columns.items)) (cells_of (with_items (with_items (with_items c.self.inside.rollups us) vs) ws).items) (line_facts p) =
-    subst (λ (xs : List RollupState). PutsFacts rs (with_columns old (new_columns (map column_of old) (line_facts p))) (cells_of vs) (with_points cs (point_maps c.commit_points.new.columns.items)) (cells_of xs) (line_facts p)) (sym written)
-    (subst (λ (b : List ColumnPoints). PutsFacts rs b (cells_of vs) (with_points cs (point_maps c.commit_points.new.columns.items)) (cells_of ws) (line_facts p)) made
-    (subst (λ (xs : List RollupState). PutsFacts rs (with_points cs (point_maps ss)) (cells_of xs) (with_points cs (point_maps c.commit_points.new.columns.items)) (cells_of ws) (line_facts p)) lent' puts)) in
+    let facts : PutsFacts (with_columns old (new_columns (map column_of old) (line_facts p))) (rules_with rs lows (cells_of vs)) (with_points cs (point_maps c.commit_points.new.columns.items))
+    (rules_with rs lows (cells_of (with_items (with_items (with_items c.self.inside.rollups us) vs) ws).items)) (line_facts p) =
+    subst (λ (xs : List RollupState). PutsFacts (with_columns old (new_columns (map column_of old) (line_facts p))) (rules_with rs lows (cells_of vs)) (with_points cs (point_maps c.commit_points.new.columns.items)) (rules_with rs lows (cells_of xs)) (line_facts p)) (sym written)
+    (subst (λ (b : List ColumnPoints). PutsFacts b (rules_with rs lows (cells_of vs)) (with_points cs (point_maps c.commit_points.new.columns.items)) (rules_with rs lows (cells_of ws)) (line_facts p)) made
+    (subst (λ (xs : List RollupState). PutsFacts (with_points cs (point_maps ss)) (rules_with rs lows (cells_of xs)) (with_points cs (point_maps c.commit_points.new.columns.items)) (rules_with rs lows (cells_of ws)) (line_facts p)) lent' puts)) in
     record {
       series = subst (λ (xs : List Series). Gains c.args.self.now.series xs (series_of p)) (sym c.prepare_line.ensures.line.series)
           (subst (λ (xs : List Series). Gains xs c.register.new.self.series (series_of p)) (ap (λ (h : StoreContent). h.series) c.self.view_is) gains);
@@ -192,8 +197,8 @@ returns-clause-ok g c =
       rollups = subst (λ (xs : List RollupState). AreRollups rs (map column_of (columns_in c.prepare_line.new.index c.commit_points.new.columns.items)) xs) (sym written)
           (rollups_held rs c.prepare_line.new.index c.commit_points.new.columns.items ws each (subst (AreRollups rs cs) (sym kept) (rollups_with rs cs (cells_of ws) vs have)));
       has_cells = has_cells;
-      cells = line_cells rs lows (line_facts p) (with_columns old (new_columns (map column_of old) (line_facts p))) (columns_in c.prepare_line.new.index c.commit_points.new.columns.items) (cells_of c.args.self.now.rollups) (cells_of vs)
-          _ gains' has_cells facts;
+      cells = line_cells (line_facts p) (with_columns old (new_columns (map column_of old) (line_facts p))) (columns_in c.prepare_line.new.index c.commit_points.new.columns.items) (rules_with rs lows (cells_of c.args.self.now.rollups))
+          (rules_with rs lows (cells_of vs)) _ gains' has_cells facts;
     }
 
 pub create_cells-requires-clause-lows : goal.create_cells-requires-clause-lows
@@ -246,9 +251,9 @@ returns-in_err-prepare_line-clause-err g c =
     (grown c.args.rules.now c.args.lows.now c.args.line.now c.args.key.now c.args.self.now c.self.inside.index c.register.new.self c.prepare_line.new.index c.self.inside.columns.items c.prepare_line.new.columns.items c.self.inside.rollups.items us
     (with_items c.self.inside.rollups us).items c.requires.key c.self.view_is (inr c.in-Ok.ensures.registered.gains) c.register.ensures.columns c.prepare_line.ensures.line.series c.prepare_line.ensures.line.made
     c.prepare_line.ensures.line.held (with_items_is c.self.inside.rollups us long) c.prepare_line.ensures.rollups
-    (subst (λ (ms : List CellMap). GainEmptyCells c.args.rules.now c.args.lows.now [] ms (cells_of us)) (c.prepare_line.ensures.cells ∙ ap cells_of c.as_mut_slice.ensures.value) (rooms_same c.args.rules.now c.args.lows.now (cells_of us)))
-    (subst (λ (ms : List CellMap). OfEachRule (GainsCells (line_facts c.args.line.now)) c.args.rules.now c.args.lows.now ms (cells_of us)) (c.prepare_line.ensures.cells ∙ ap cells_of c.as_mut_slice.ensures.value)
-    (gain_nothing (line_facts c.args.line.now) c.args.rules.now c.args.lows.now (cells_of us))) (inl (c.prepare_line.ensures.cells ∙ ap cells_of c.as_mut_slice.ensures.value)))
+    (subst (λ (ms : List CellMap). GainEmptyCells [] (rules_with c.args.rules.now c.args.lows.now ms) (rules_with c.args.rules.now c.args.lows.now (cells_of us))) (c.prepare_line.ensures.cells ∙ ap cells_of c.as_mut_slice.ensures.value) (rooms_same (rules_with c.args.rules.now c.args.lows.now (cells_of us))))
+    (subst (λ (ms : List CellMap). OfEachRule (GainsCells (line_facts c.args.line.now)) (rules_with c.args.rules.now c.args.lows.now ms) (rules_with c.args.rules.now c.args.lows.now (cells_of us))) (c.prepare_line.ensures.cells ∙ ap cells_of c.as_mut_slice.ensures.value)
+    (gain_nothing (line_facts c.args.line.now) (rules_with c.args.rules.now c.args.lows.now (cells_of us)))) (inl (c.prepare_line.ensures.cells ∙ ap cells_of c.as_mut_slice.ensures.value)))
 
 pub returns-in_err-create_cells-clause-err : goal.returns-in_err-create_cells-clause-err
 returns-in_err-create_cells-clause-err g c =
@@ -267,7 +272,7 @@ returns-in_err-create_cells-clause-err g c =
     (with_items (with_items c.self.inside.rollups c.prepare_line.new.rollups) us).items c.requires.key c.self.view_is (inr c.in-Ok.ensures.registered.gains) c.register.ensures.columns c.prepare_line.ensures.line.series c.prepare_line.ensures.line.made
     c.prepare_line.ensures.line.held (with_items_is (with_items c.self.inside.rollups c.prepare_line.new.rollups) us still)
     (rollups_stay c.args.rules.now c.prepare_line.new.index.columns c.prepare_line.new.rollups us c.prepare_line.ensures.rollups (subst (λ (xs : List RollupState). KeepRollupSeries xs us) lent c.create_cells.ensures.kept))
-    (subst (λ (ms : List CellMap). GainEmptyCells c.args.rules.now c.args.lows.now [] ms (cells_of us)) before (part_rooms c.args.rules.now c.args.lows.now c.time.result ns c.prepare_line.new.rollups us part))
+    (subst (λ (ms : List CellMap). GainEmptyCells [] (rules_with c.args.rules.now c.args.lows.now ms) (rules_with c.args.rules.now c.args.lows.now (cells_of us))) before (part_rooms c.args.rules.now c.args.lows.now c.time.result ns c.prepare_line.new.rollups us part))
     (line_gains c.args.rules.now c.args.lows.now c.prepare_line.new.index.columns c.prepare_line.new.columns.items c.args.line.now c.time.result ns (cells_of c.self.inside.rollups.items) c.prepare_line.new.rollups us c.prepare_line.ensures.rollups
     c.in_ok-prepare_line.ensures.line.staged c.time.ensures before part) (inr c.in_ok-prepare_line.ensures.line.taken))
 

@@ -3,7 +3,8 @@ use Rattle.std.specs.List.{AllByRecursion}
 use Rattle.std.specs.Vec.{with_items}
 use Rattle.std.proofs.lemmas.List.{length-map, with_items_is}
 use Rattle.ts_core.specs.settings.Settings.{Rule}
-use Rattle.ts_core.specs.store.StoreData.{AreLive}
+use Rattle.ts_core.specs.store.StoreData.{IsLive}
+use Rattle.ts_core.specs.lists.Beside.{OfEach}
 use Rattle.ts_core.specs.store.StoreStates.{column_of, facts_of}
 use Rattle.ts_core.specs.moves.StoreMoves.{points_below}
 use Rattle.ts_raw.specs.Columns.{ColumnState}
@@ -79,8 +80,8 @@ returns g c =
     let each = each_rule _ _ _ _ c.self.view_is c.as_mut_slice-rollups.ensures.value c.requires.rollups in
     let rollups : AreRollups rs (map column_of (content_of c.self.inside.index ss us).columns) us =
     subst (λ (h : StoreContent). AreRollups rs (map column_of h.columns) h.rollups) (sym c.self.view_is) c.requires.rollups in
-    let live : AreLive (content_of c.self.inside.index ss us).columns rs (cells_of us) =
-    subst (λ (h : StoreContent). AreLive h.columns rs (cells_of h.rollups)) (sym c.self.view_is) c.requires.live in
+    let live : OfEach (IsLive (content_of c.self.inside.index ss us).columns) rs (cells_of us) =
+    subst (λ (h : StoreContent). OfEach (IsLive h.columns) rs (cells_of h.rollups)) (sym c.self.view_is) c.requires.live in
     let counted = c.self.inside.rollups.ok.0 in
     let long : length vs ≡ c.self.inside.rollups.len = cc (c.loop-i.auto.rollups, c.as_mut_slice-rollups.ensures.value, counted) in
     let written : (with_items c.self.inside.rollups vs).items ≡ vs = with_items_is c.self.inside.rollups vs long in
