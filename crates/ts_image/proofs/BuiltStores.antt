@@ -3,18 +3,17 @@ use Rattle.std.proofs.Common.{◌≡◌, ◌↔◌, ℕ, zero, suc, ◌≤◌, �
 use Rattle.std.specs.List.{zip}
 use Rattle.ts_core.specs.lists.Members.{Among, AllDistinct}
 use Rattle.ts_core.specs.facts.Facts.{Series, Column, Fact}
-use Rattle.ts_core.specs.settings.Settings.{Settings}
-use Rattle.ts_core.specs.store.Marks.{Marks}
 use Rattle.ts_core.specs.aggregates.Aggregates.{Aggregate, empty_aggregate}
 use Rattle.ts_core.specs.store.Cells.{Cell}
 use Rattle.ts_core.specs.io.ReadingAhead.{bit}
 use Rattle.ts_core.specs.store.StoreStates.{ColumnPoints, column_of, facts_of}
-use Rattle.ts_core.specs.store.StoreData.{CellMap, StoreData, AreLive}
-use Rattle.ts_store.specs.write.LinesPut.{OfEachRule, PutsCells}
+use Rattle.ts_core.specs.store.StoreData.{CellMap, RuleData, StoreData, OfEachRule, AreLive}
+use Rattle.ts_store.specs.write.LinesPut.{PutsCells}
+use Rattle.ts_store.specs.store.RuleLists.{rules_with}
 use Rattle.ts_store.specs.image.Building.{IsBuiltFrom, waiting_of, HaveCells}
 use Rattle.ts_image.specs.declared.version.Version.{Version}
 use Rattle.ts_image.specs.Images.{ImageRule, ImageColumn, ImageSeries, ImageCell, ImageData}
-use Rattle.ts_image.specs.ImageTests.{rule_in, settings_of_image, AreLows, IsImageCell, AreImageCells, CellsAre, IsImageSeries, IsPossible}
+use Rattle.ts_image.specs.ImageTests.{rule_in, AreLows, IsImageCell, AreImageCells, CellsAre, IsImageSeries, IsPossible}
 use Rattle.ts_image.specs.Pictures.{column_of_image, image_points_in, columns_of_image, waiting_of_image, cell_part_of, part_at, PicturesCells, PictureCells, IsPictureOf, IsMadeOf}
 use Rattle.ts_image.specs.StoresMade.{is_column_waiting, waits_in, cells_in, built_in, key_in, IsStoreOf}
 use Rattle.ts_image.proofs.MadeCells.{found, part_there, part_missing, part_from, cells_once}
@@ -69,18 +68,17 @@ pictured mark r low cs m are same =
           (λ n. same k ∙ part_missing cs k n) (found cs k);
     }
 
-all_pictured : (v : Version) (mark : ℤ) (facts : List Fact) (rs : List ImageRule) (lows : List ℤ) (cs : List (List ImageCell)) (ns : List CellMap) → AreLows v mark rs lows → length cs ≡ length rs → CellsAre mark rs lows cs
-    → OfEachRule (PutsCells facts) (map rule_in rs) lows (map cells_in cs) ns → PictureCells lows ns cs
-all_pictured v mark facts [] [] [] [] low even are of = (refl, tt)
-all_pictured v mark facts [] [] [] (n ∷ ns) low even are of = absurd (omega (arith, of.0))
-all_pictured v mark facts [] [] (c ∷ cs) ns low even are of = absurd (omega (arith, even))
-all_pictured v mark facts [] (l ∷ lows) cs ns low even are of = absurd low
-all_pictured v mark facts (r ∷ rs) [] cs ns low even are of = absurd low
-all_pictured v mark facts (r ∷ rs) (l ∷ lows) [] ns low even are of = absurd (omega (arith, even))
-all_pictured v mark facts (r ∷ rs) (l ∷ lows) (c ∷ cs) [] low even are of = absurd (omega (arith, of.0))
-all_pictured v mark facts (r ∷ rs) (l ∷ lows) (c ∷ cs) (n ∷ ns) low even are of =
-    let rest = all_pictured v mark facts rs lows cs ns low.1 (omega (arith, even)) are.1 (omega (arith, of.0), λ i q w m o a b e f. of.1 (suc i) q w m o a b e f) in
-    (omega (arith, rest.0), (pictured mark r l c n are.0 (λ k. (of.1 0 (rule_in r) l (cells_in c) n refl refl refl refl).frozen k), rest.1))
+all_pictured : (v : Version) (mark : ℤ) (facts : List Fact) (rs : List ImageRule) (lows : List ℤ) (cs : List (List ImageCell)) (ss : List RuleData) → AreLows v mark rs lows → length cs ≡ length rs → CellsAre mark rs lows cs
+    → OfEachRule (PutsCells facts) (rules_with (map rule_in rs) lows (map cells_in cs)) ss → PictureCells ss cs
+all_pictured v mark facts [] lows [] [] low even are of = tt
+all_pictured v mark facts (r ∷ rs) (l ∷ lows) (c ∷ cs) (y ∷ ss) low even are of =
+    let pictures : PicturesCells l y.cells c = pictured mark r l c y.cells are.0 (λ k. of.0.2.frozen k) in
+    (subst (λ (z : ℤ). PicturesCells z y.cells c) (sym of.0.1) pictures, all_pictured v mark facts rs lows cs ss low.1 (omega (arith, even)) are.1 of.1)
+all_pictured v mark facts [] lows [] (y ∷ ss) low even are of = absurd of
+all_pictured v mark facts [] lows (c ∷ cs) ss low even are of = absurd (omega (arith, even))
+all_pictured v mark facts (r ∷ rs) [] cs ss low even are of = absurd low
+all_pictured v mark facts (r ∷ rs) (l ∷ lows) [] ss low even are of = absurd (omega (arith, even))
+all_pictured v mark facts (r ∷ rs) (l ∷ lows) (c ∷ cs) [] low even are of = absurd of
 
 -- ---- the store
 
@@ -99,8 +97,8 @@ module _ (v : Version) (d : ImageData) (k : StoreData) (p : IsPossible v d) (eve
   waiting : k.waiting ≡ waiting_of_image d.series
   waiting = b.waiting ∙ all_waiting d.series
 
-  cells : PictureCells d.marks.lows k.cells d.cells
-  cells = all_pictured v d.marks.raw (facts_of (columns_of_image d.series)) d.settings.rules d.marks.lows d.cells k.cells p.lows even p.cells b.cells
+  cells : PictureCells k.rules d.cells
+  cells = all_pictured v d.marks.raw (facts_of (columns_of_image d.series)) d.settings.rules d.marks.lows d.cells k.rules p.lows even p.cells b.cells
 
   picture : IsPictureOf k d
   picture = record {
@@ -111,28 +109,16 @@ module _ (v : Version) (d : ImageData) (k : StoreData) (p : IsPossible v d) (eve
     series = same_members (map key_in d.series) k.series (sym b.series);
     columns = same_members (columns_of_image d.series) k.columns (sym b.columns);
     waiting = same_members (waiting_of_image d.series) k.waiting (sym waiting);
-    cells = subst (λ (m : Marks). PictureCells m.lows k.cells d.cells) (sym b.marks) cells;
+    cells = cells;
   }
-
-  has_cells : HaveCells k.settings.rules k.marks.lows (facts_of k.columns) k.cells
-  has_cells =
-      subst (λ (s : Settings). HaveCells s.rules k.marks.lows (facts_of k.columns) k.cells) (sym b.settings)
-      (subst (λ (m : Marks). HaveCells (settings_of_image d.settings).rules m.lows (facts_of k.columns) k.cells) (sym b.marks)
-      (subst (λ (cs : List ColumnPoints). HaveCells (settings_of_image d.settings).rules d.marks.lows (facts_of cs) k.cells) (sym b.columns)
-      b.has_cells))
-
-  live : AreLive k.columns k.settings.rules k.cells
-  live =
-      subst (λ (s : Settings). AreLive k.columns s.rules k.cells) (sym b.settings)
-      (subst (λ (cs : List ColumnPoints). AreLive cs (settings_of_image d.settings).rules k.cells) (sym b.columns) b.live)
 
   made : IsMadeOf d k
   made = record {
     picture = picture;
     waiting_once = subst AllDistinct (sym b.waiting) (waiting_distinct (columns_of_image d.series) (waits_in d.series) once);
     columns_once = subst (λ (cs : List ColumnPoints). AllDistinct (map column_of cs)) (sym b.columns) once;
-    has_cells = has_cells;
-    live = live;
+    has_cells = subst (λ (cs : List ColumnPoints). HaveCells (facts_of cs) k.rules) (sym b.columns) b.has_cells;
+    live = subst (λ (cs : List ColumnPoints). AreLive cs k.rules) (sym b.columns) b.live;
   }
 
   pub built_store : IsStoreOf d k

@@ -146,6 +146,6 @@ answered opening h k d bytes source st p possible is are e (Err fault) ok err = 
 pub first_loaded : FirstImagesAreLoaded
 first_loaded opening h k order f w fits source source' reads result e loads =
     let d : ImageData = store_image k order in
-    let picture = written_picture opening h k order f.stands f.formed.sized w in
+    let picture = written_picture opening h k order f.stands w in
     let possible = first_possible opening h k d f picture (written_orderly opening h k order f.stands f.formed w) in
     answered opening h k d (image_text V1 d) source f.stands picture possible (record { fits = fits; text = refl }) (image_bytes V1 d fits) e result loads.ok loads.err

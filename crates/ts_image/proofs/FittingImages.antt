@@ -1,6 +1,6 @@
 -- The data of each store fits the form of images.
 use Rattle.std.proofs.Common.{◌≡◌, ◌≤◌, ◌<◌, ◌^◌, ℤ, pos, negsuc, unsigned_abs, ◌≤ℤ◌, ◌+ℤ◌, ◌-ℤ◌, FitsSigned, w64, List, [], ◌∷◌, length, map, ap, subst, arith}
-use Rattle.std.specs.List.{AllByRecursion, AllZip, zip}
+use Rattle.std.specs.List.{AllByRecursion}
 use Rattle.std.specs.FinMap as finmap
 use Rattle.std.proofs.lemmas.Int.{ints}
 use Rattle.std.proofs.lemmas.List.{length-map}
@@ -11,7 +11,7 @@ use Rattle.ts_core.specs.settings.Settings.{Rule, IsPossibleRule}
 use Rattle.ts_core.specs.store.Marks.{index_of, first_from}
 use Rattle.ts_core.specs.store.Cells.{Cell}
 use Rattle.ts_core.specs.store.StoreStates.{CellParts, facts_of}
-use Rattle.ts_core.specs.store.StoreData.{CellMap, StoreData, rules_of}
+use Rattle.ts_core.specs.store.StoreData.{CellMap, RuleData, StoreData, store_settings, store_marks}
 use Rattle.ts_core.proofs.aggregates.IndicesFit.{indices_fit}
 use Rattle.ts_core.proofs.facts.Ids.{series_total}
 use Rattle.ts_core.proofs.lists.MembersLemmas.{Among-map}
@@ -46,18 +46,16 @@ low_fits r mark low time second offset least most =
     let next : first_from r (mark +ℤ pos 1) ≡ index_of r mark +ℤ pos 1 = ap (λ (t : ℤ). index_of r t +ℤ pos 1) (next_of mark) in
     between (index_of r least_time) (index_of r mark +ℤ pos 1) low (indices_fit.bucket r least_time second offset near_least) (subst (FitsSigned w64) next first) least most
 
-all_low : (mark : ℤ) (facts : List Fact) (rs : List Rule) (lows : List ℤ) (ms : List CellMap) → IsTime mark → length lows ≡ length rs → length ms ≡ length rs → AllByRecursion (λ (r : Rule). pos 1000000000 ≤ℤ r.interval) rs → AllByRecursion IsPossibleRule rs
-    → AllByRecursion (IsSizedRule mark facts) (rules_of rs lows ms) → AllByRecursion (FitsSigned w64) lows
-all_low mark facts rs [] ms time i j second possible sized = tt
-all_low mark facts [] (l ∷ lows) ms time i j second possible sized = absurd (omega (arith, i))
-all_low mark facts (r ∷ rs) (l ∷ lows) [] time i j second possible sized = absurd (omega (arith, j))
-all_low mark facts (r ∷ rs) (l ∷ lows) (m ∷ ms) time i j second possible sized = (
-  low_fits r mark l time second.0 possible.0.offset sized.0.least sized.0.most,
-  all_low mark facts rs lows ms time (omega (arith, i)) (omega (arith, j)) second.1 possible.1 sized.1,
+all_low : (mark : ℤ) (facts : List Fact) (rs : List RuleData) → IsTime mark → AllByRecursion (λ (r : Rule). pos 1000000000 ≤ℤ r.interval) (map (λ (x : RuleData). x.rule) rs) → AllByRecursion IsPossibleRule (map (λ (x : RuleData). x.rule) rs)
+    → AllByRecursion (IsSizedRule mark facts) rs → AllByRecursion (FitsSigned w64) (map (λ (x : RuleData). x.low) rs)
+all_low mark facts [] time second possible sized = tt
+all_low mark facts (x ∷ rs) time second possible sized = (
+  low_fits x.rule mark x.low time second.0 possible.0.offset sized.0.least sized.0.most,
+  all_low mark facts rs time second.1 possible.1 sized.1,
 )
 
-pub lows_fit : (k : StoreData) → IsSized k → AllByRecursion IsPossibleRule k.settings.rules → IsTime k.marks.raw → AllByRecursion (FitsSigned w64) k.marks.lows
-lows_fit k sized possible mark = all_low k.marks.raw (facts_of k.columns) k.settings.rules k.marks.lows k.cells mark sized.lows sized.cells (settings_are k.settings sized.settings).seconds possible sized.rules
+pub lows_fit : (k : StoreData) → IsSized k → AllByRecursion IsPossibleRule (store_settings k).rules → IsTime k.raw_mark → AllByRecursion (FitsSigned w64) (store_marks k).lows
+lows_fit k sized possible mark = all_low k.raw_mark (facts_of k.columns) k.rules mark (settings_are (store_settings k) sized.settings).seconds possible sized.rules
 
 -- ---- series
 
@@ -92,13 +90,10 @@ rule_fits : (r : Rule) (low : ℤ) (m : CellMap) → pos 1000000000 ≤ℤ r.int
 rule_fits r low m second offset possible =
     among_all (FitsCell r) (frozen_from low m) (λ z a. let is = cell_of_map r low m possible z a in record { index = index_fits r z.cell.index second offset is.index; group = is.group })
 
-rules_fit : (rs : List Rule) (lows : List ℤ) (ms : List CellMap) → length lows ≡ length rs → length ms ≡ length rs → AllByRecursion (λ (r : Rule). pos 1000000000 ≤ℤ r.interval) rs → AllByRecursion IsPossibleRule rs → HavePossibleCells rs ms
-    → AllZip (λ (r : Rule). AllByRecursion (FitsCell r)) rs (map (λ (x : ℤ × CellMap). frozen_from x.0 x.1) (zip lows ms))
-rules_fit [] [] ms i j second rules cells = tt
-rules_fit [] (l ∷ lows) ms i j second rules cells = absurd (omega (arith, i))
-rules_fit (r ∷ rs) [] ms i j second rules cells = absurd (omega (arith, i))
-rules_fit (r ∷ rs) (l ∷ lows) [] i j second rules cells = absurd (omega (arith, j))
-rules_fit (r ∷ rs) (l ∷ lows) (m ∷ ms) i j second rules cells = (rule_fits r l m second.0 rules.0.offset cells.0, rules_fit rs lows ms (omega (arith, i)) (omega (arith, j)) second.1 rules.1 cells.1)
+rules_fit : (rs : List RuleData) → AllByRecursion (λ (r : Rule). pos 1000000000 ≤ℤ r.interval) (map (λ (x : RuleData). x.rule) rs) → AllByRecursion IsPossibleRule (map (λ (x : RuleData). x.rule) rs) → HavePossibleCells rs
+    → AllByRecursion (λ (x : RuleData). AllByRecursion (FitsCell x.rule) (frozen_from x.low x.cells)) rs
+rules_fit [] second rules cells = tt
+rules_fit (x ∷ rs) second rules cells = (rule_fits x.rule x.low x.cells second.0 rules.0.offset cells.0, rules_fit rs second.1 rules.1 cells.1)
 
-pub cells_fit : (k : StoreData) → IsSized k → AllByRecursion IsPossibleRule k.settings.rules → HavePossibleCells k.settings.rules k.cells → FitCells k
-cells_fit k sized rules cells = rules_fit k.settings.rules k.marks.lows k.cells sized.lows sized.cells (settings_are k.settings sized.settings).seconds rules cells
+pub cells_fit : (k : StoreData) → IsSized k → AllByRecursion IsPossibleRule (store_settings k).rules → HavePossibleCells k.rules → FitCells k
+cells_fit k sized rules cells = rules_fit k.rules (settings_are (store_settings k) sized.settings).seconds rules cells

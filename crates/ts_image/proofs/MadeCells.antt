@@ -10,6 +10,7 @@ use Rattle.ts_core.specs.store.StoreStates.{CellParts}
 use Rattle.ts_core.specs.store.StoreData.{CellMap, no_parts}
 use Rattle.ts_core.proofs.moves.MovesStand.{key_not}
 use Rattle.ts_core.proofs.plans.PieceCells.{cells_total, same_cell-eq, same_cell-refl}
+use Rattle.ts_store.specs.store.RuleLists.{rules_with}
 use Rattle.ts_store.specs.store.CellCounts.{HoldsFew, HoldFew}
 use Rattle.ts_store.specs.store.PossibleCells.{HasPossibleCells, HavePossibleCells}
 use Rattle.ts_store.proofs.retain.BatchesLeft.{other_cell}
@@ -92,13 +93,13 @@ possible mark r low cs are k a =
     let is = all_among (IsImageCell mark r low) cs are.each h.0 h.1 in
     record { index = (h.0.extremes.first.0, is.first.valid, is.first.bucket ∙ ap (λ (c : Cell). c.index) h.2); group = ap (λ (c : Cell). length c.group) (sym h.2) ∙ is.group }
 
-pub all_held : (v : Version) (d : ImageData) (mark : ℤ) (rs : List ImageRule) (lows : List ℤ) (cs : List (List ImageCell)) → AreLows v mark rs lows → CellsAre mark rs lows cs → AreCounted d rs cs → HoldFew d.accepted (columns_of_image d.series) (map rule_in rs) (map cells_in cs)
+pub all_held : (v : Version) (d : ImageData) (mark : ℤ) (rs : List ImageRule) (lows : List ℤ) (cs : List (List ImageCell)) → AreLows v mark rs lows → CellsAre mark rs lows cs → AreCounted d rs cs → HoldFew d.accepted (columns_of_image d.series) (rules_with (map rule_in rs) lows (map cells_in cs))
 all_held v d mark [] lows cs low are few = tt
 all_held v d mark (r ∷ rs) [] cs low are few = absurd low
 all_held v d mark (r ∷ rs) (l ∷ lows) [] low are few = tt
 all_held v d mark (r ∷ rs) (l ∷ lows) (c ∷ cs) low are few = (few_held d.accepted d.series r c (cells_once mark r l c are.0) few.0.enough, all_held v d mark rs lows cs low.1 are.1 few.1)
 
-pub all_possible : (v : Version) (mark : ℤ) (rs : List ImageRule) (lows : List ℤ) (cs : List (List ImageCell)) → AreLows v mark rs lows → CellsAre mark rs lows cs → HavePossibleCells (map rule_in rs) (map cells_in cs)
+pub all_possible : (v : Version) (mark : ℤ) (rs : List ImageRule) (lows : List ℤ) (cs : List (List ImageCell)) → AreLows v mark rs lows → CellsAre mark rs lows cs → HavePossibleCells (rules_with (map rule_in rs) lows (map cells_in cs))
 all_possible v mark [] lows cs low are = tt
 all_possible v mark (r ∷ rs) [] cs low are = absurd low
 all_possible v mark (r ∷ rs) (l ∷ lows) [] low are = tt

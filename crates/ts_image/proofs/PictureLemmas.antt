@@ -1,14 +1,15 @@
 -- A store created from the picture of another: it is that store read back.
-use Rattle.std.proofs.Common.{◌≡◌, ◌↔◌, ℕ, zero, suc, ℤ, ◌≤ℤ◌, ◌<◌, Bool, true, false, List, [], ◌∷◌, refl, sym, ◌∙◌, ap, subst, arith, inl, inr, ◌⊎◌, ⊎_elim}
+use Rattle.std.proofs.Common.{◌≡◌, ◌↔◌, ℕ, zero, suc, ℤ, ◌≤ℤ◌, ◌<◌, Bool, true, false, List, [], ◌∷◌, map, refl, sym, ◌∙◌, ap, subst, arith, inl, inr, ◌⊎◌, ⊎_elim}
 use Rattle.ts_core.specs.lists.Members.{Among}
 use Rattle.ts_core.specs.facts.Facts.{Fact}
 use Rattle.ts_core.specs.settings.Settings.{Rule, Settings}
 use Rattle.ts_core.specs.store.Marks.{Marks}
 use Rattle.ts_core.specs.store.Cells.{Cell}
 use Rattle.ts_core.specs.store.StoreStates.{ColumnPoints, facts_of}
-use Rattle.ts_core.specs.store.StoreData.{CellMap, StoreData, AreLive, StaysFor}
+use Rattle.ts_core.specs.store.StoreData.{CellMap, RuleData, StoreData, store_settings, store_marks, StaysFor}
+use Rattle.ts_core.proofs.store.StateLemmas.{same_head, same_rest, cons_not}
 use Rattle.ts_core.specs.io.ReadingAhead.{bit}
-use Rattle.ts_store.specs.image.Building.{HaveCells}
+use Rattle.ts_store.specs.image.Building.{HasCellsOf, HaveCells}
 use Rattle.ts_image.specs.Images.{ImageCell, ImageData}
 use Rattle.ts_image.specs.Pictures.{part_at, PicturesCells, PictureCells, IsPictureOf, IsMadeOf}
 use Rattle.ts_image.specs.Reloading.{HaveSameParts, IsReloaded}
@@ -31,18 +32,22 @@ same_part low m n cells p q k l =
     (λ some. let c = p.all k l some in sym (ap (part_at n) c.2) ∙ q.each c.0 c.1 ∙ sym (p.each c.0 c.1) ∙ ap (part_at m) c.2)
     (none_or_some (part_at m k).count)
 
-same_parts : (rs : List Rule) (lows : List ℤ) (facts facts' : List Fact) (ms ns : List CellMap) (cs : List (List ImageCell)) → ((f : Fact) → Among f facts → Among f facts') → PictureCells lows ms cs → PictureCells lows ns cs → HaveCells rs lows facts' ns → HaveSameParts rs lows facts ms ns
-same_parts rs lows facts facts' [] [] [] into p q h = tt
-same_parts rs lows facts facts' [] (n ∷ ns) [] into p q h = absurd q.1
-same_parts rs lows facts facts' [] ns (c ∷ cs) into p q h = absurd p.1
-same_parts rs lows facts facts' (m ∷ ms) ns [] into p q h = absurd p.1
-same_parts rs lows facts facts' (m ∷ ms) [] (c ∷ cs) into p q h = absurd q.1
-same_parts [] lows facts facts' (m ∷ ms) (n ∷ ns) (c ∷ cs) into p q h = tt
-same_parts (r ∷ rs) [] facts facts' (m ∷ ms) (n ∷ ns) (c ∷ cs) into p q h = tt
-same_parts (r ∷ rs) (low ∷ lows) facts facts' (m ∷ ms) (n ∷ ns) (c ∷ cs) into p q h = (
-  record { parts = same_part low m n c p.1.0 q.1.0; there = λ f a. h.0 f (into f a) },
-  same_parts rs lows facts facts' ms ns cs into (omega (arith, p.0), p.1.1) (omega (arith, q.0), q.1.1) h.1,
-)
+same_parts : (facts facts' : List Fact) (rs ss : List RuleData) (cs : List (List ImageCell)) → ((f : Fact) → Among f facts → Among f facts') → map (λ (a : RuleData). a.rule) ss ≡ map (λ (a : RuleData). a.rule) rs → map (λ (a : RuleData). a.low) ss ≡ map (λ (a : RuleData). a.low) rs
+    → PictureCells rs cs → PictureCells ss cs → HaveCells facts' ss → HaveSameParts facts rs ss
+same_parts facts facts' [] [] [] into rules lows p q h = tt
+same_parts facts facts' (x ∷ rs) (y ∷ ss) (c ∷ cs) into rules lows p q h =
+    let names : RuleData → Rule = λ a. a.rule in
+    let firsts : RuleData → ℤ = λ a. a.low in
+    let rule : y.rule ≡ x.rule = same_head y.rule x.rule (map names ss) (map names rs) rules in
+    let low : y.low ≡ x.low = same_head y.low x.low (map firsts ss) (map firsts rs) lows in
+    let there = subst (λ (z : RuleData). HasCellsOf facts' z.rule z.low y.cells) (λ i. record { rule = rule i; low = low i; cells = y.cells }) h.0 in (
+      (rule, low, record { parts = same_part x.low x.cells y.cells c p.0 (subst (λ (z : ℤ). PicturesCells z y.cells c) low q.0); there = λ f a. there f (into f a) }),
+      same_parts facts facts' rs ss cs into (same_rest y.rule x.rule (map names ss) (map names rs) rules) (same_rest y.low x.low (map firsts ss) (map firsts rs) lows) p.1 q.1 h.1,
+    )
+same_parts facts facts' [] (y ∷ ss) cs into rules lows p q h = absurd (cons_not rules)
+same_parts facts facts' (x ∷ rs) [] cs into rules lows p q h = absurd (cons_not (sym rules))
+same_parts facts facts' [] [] (c ∷ cs) into rules lows p q h = absurd p
+same_parts facts facts' (x ∷ rs) (y ∷ ss) [] into rules lows p q h = absurd p
 
 same_bit : (a b : Bool) → bit a ≡ bit b → a ≡ b
 same_bit true true e = refl
@@ -57,12 +62,9 @@ through a b = (λ z. a.0 (b.1 z), λ y. b.0 (a.1 y))
 pub read_back : (k n : StoreData) (d : ImageData) → IsPictureOf k d → IsMadeOf d n → IsReloaded k n
 read_back k n d p m =
     let q = m.picture in
-    let settings : n.settings ≡ k.settings = sym q.settings ∙ p.settings in
-    let marks : n.marks ≡ k.marks = sym q.marks ∙ p.marks in
+    let settings : store_settings n ≡ store_settings k = sym q.settings ∙ p.settings in
+    let marks : store_marks n ≡ store_marks k = sym q.marks ∙ p.marks in
     let columns : (c : ColumnPoints) → Among c n.columns ↔ Among c k.columns = λ c. through (p.columns c) (q.columns c) in
-    let cells : PictureCells k.marks.lows n.cells d.cells = subst (λ (x : Marks). PictureCells x.lows n.cells d.cells) marks q.cells in
-    let has_cells : HaveCells k.settings.rules k.marks.lows (facts_of n.columns) n.cells =
-    subst (λ (x : Marks). HaveCells k.settings.rules x.lows (facts_of n.columns) n.cells) marks (subst (λ (x : Settings). HaveCells x.rules n.marks.lows (facts_of n.columns) n.cells) settings m.has_cells) in
     record {
       settings = settings;
       marks = marks;
@@ -73,8 +75,8 @@ read_back k n d p m =
       series = λ s a. (q.series s).0 ((p.series s).1 a);
       columns_once = m.columns_once;
       columns = columns;
-      cells = same_parts k.settings.rules k.marks.lows (facts_of k.columns) (facts_of n.columns) k.cells n.cells d.cells (facts_same k.columns n.columns (λ c a. (columns c).1 a)) p.cells cells has_cells;
-      live = subst (λ (x : Settings). AreLive n.columns x.rules n.cells) settings m.live;
+      cells = same_parts (facts_of k.columns) (facts_of n.columns) k.rules n.rules d.cells (facts_same k.columns n.columns (λ c a. (columns c).1 a)) (ap (λ (x : Settings). x.rules) settings) (ap (λ (x : Marks). x.lows) marks) p.cells q.cells m.has_cells;
+      live = m.live;
     }
 
 -- so it represents each history that the other one represented

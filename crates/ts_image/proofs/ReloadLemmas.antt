@@ -12,15 +12,17 @@ use Rattle.ts_core.specs.aggregates.Aggregates.{Aggregate, empty_aggregate, aggr
 use Rattle.ts_core.specs.store.RawFacts.{is_waiting, earlier_mark, kept_from, is_kept}
 use Rattle.ts_core.specs.store.Cells.{Cell, cell_of, is_rolled, is_in_cell, same_cell, frozen_of, live_of}
 use Rattle.ts_core.specs.lists.Changes.{or_else}
-use Rattle.ts_core.specs.store.StoreStates.{ColumnPoints, CellParts, StandsFor, HasCells, column_of, rule_of, lowest_of, facts_at, facts_of, RuleCells}
-use Rattle.ts_core.specs.store.StoreData.{CellMap, StoreData, no_parts, rules_of, state_of, IsLive, AreLive, rule_cells}
+use Rattle.ts_core.specs.store.StoreStates.{ColumnPoints, CellParts, StandsFor, HasCells, column_of, rule_of, lowest_of, facts_at, facts_of}
+use Rattle.ts_core.specs.store.StoreData.{CellMap, RuleData, StoreData, no_parts, state_of, IsLive, AreLive, rule_cells}
 use Rattle.ts_core.proofs.facts.Latests.{latest-distinct}
 use Rattle.ts_core.proofs.plans.PieceCells.{same_cell-eq, same_cell-refl}
 use Rattle.std.proofs.lemmas.Bool.{and_parts}
 use Rattle.ts_core.proofs.lists.MembersLemmas.{no_members, Among-append, AllDistinct-append, Among-filter_was, Among-filter_passes, Among-filter_stays, map_back}
 use Rattle.ts_core.proofs.store.Cuts.{aggregate_where, Holds, CutsAgree, Holds-agree, frozen_of-agree, live_of-held}
 use Rattle.ts_core.proofs.store.StateLemmas.{is_waiting-there, is_waiting-not, Holds-raw_of, StandsFor-Holds}
-use Rattle.ts_core.proofs.moves.MovesStand.{keys_once, key_there, rules_same}
+use Rattle.ts_core.proofs.moves.MovesStand.{keys_once, key_there}
+use Rattle.ts_core.proofs.moves.EachRule.{settings_same, marks_same}
+use Rattle.std.proofs.lemmas.Simd.{map-map}
 use Rattle.ts_core.proofs.store.ColumnFacts.{facts_of-there, column_there, facts_at-column, facts_at-distinct}
 use Rattle.ts_store.proofs.store.Stands.{waiting_among}
 use Rattle.ts_image.specs.Reloading.{HasSameParts, HaveSameParts, IsReloaded, Reloads}
@@ -103,44 +105,36 @@ live_there next fs after held d r low n there live k l =
     ] refl
 
 cells_stay : (cut next : Column → ℤ) (fs : List Fact) (before after : List ColumnPoints) → CutsAgree cut next fs → Holds cut fs (facts_of before) → Holds next fs (facts_of after) → SameMembers (facts_of after) (facts_of before) → AllDistinct fs
-    → (rs : List Rule) (lows : List ℤ) (ms ns : List CellMap) → HaveSameParts rs lows (facts_of before) ms ns → AreLive after rs ns
-    → AllByRecursion (HasCells cut fs) (rules_of rs lows ms) → AllByRecursion (HasCells next fs) (rules_of rs lows ns)
-cells_stay cut next fs before after agree held next_held same d [] lows ms ns e live a = tt
-cells_stay cut next fs before after agree held next_held same d (r ∷ rs) [] ms ns e live a = tt
-cells_stay cut next fs before after agree held next_held same d (r ∷ rs) (low ∷ lows) [] [] e live a = tt
-cells_stay cut next fs before after agree held next_held same d (r ∷ rs) (low ∷ lows) [] (n ∷ ns) e live a = absurd e
-cells_stay cut next fs before after agree held next_held same d (r ∷ rs) (low ∷ lows) (m ∷ ms) [] e live a = tt
-cells_stay cut next fs before after agree held next_held same d (r ∷ rs) (low ∷ lows) (m ∷ ms) (n ∷ ns) e live a = (
-  record {
-    once = keys_once n;
-    there = cells_there cut fs (facts_of before) r low m n held e.0 (λ k l. a.0.frozen k l);
-    frozen = λ k l. e.0.parts k l ∙ a.0.frozen k l ∙ frozen_of-agree cut next fs agree r k;
-    live = λ k l. live_there next fs after next_held d r low n (λ f q. e.0.there f (same f q)) live.0 k l;
-  },
-  cells_stay cut next fs before after agree held next_held same d rs lows ms ns e.1 live.1 a.1,
-)
-
-rules_stay : {X : Type 0} (f : RuleCells → X) → ((r : Rule) (low : ℤ) (m n : CellMap) → f (rule_cells r low m) ≡ f (rule_cells r low n)) → (rs : List Rule) (lows : List ℤ) (facts : List Fact) (ms ns : List CellMap)
-    → HaveSameParts rs lows facts ms ns → map f (rules_of rs lows ns) ≡ map f (rules_of rs lows ms)
-rules_stay f same rs lows facts ms ns e = rules_same (λ (x : Rule × ℤ). HasSameParts x.0 x.1 facts) f same rs lows ms ns e
+    → (rs ss : List RuleData) → HaveSameParts (facts_of before) rs ss → AreLive after ss → AllByRecursion (HasCells cut fs) (map rule_cells rs) → AllByRecursion (HasCells next fs) (map rule_cells ss)
+cells_stay cut next fs before after agree held next_held same d [] [] e live a = tt
+cells_stay cut next fs before after agree held next_held same d (x ∷ rs) (y ∷ ss) e live a =
+    let r : Rule = y.rule in
+    let low : ℤ = y.low in
+    let m : CellMap = x.cells in
+    let n : CellMap = y.cells in
+    let parts : HasSameParts r low (facts_of before) m n =
+    subst (λ (z : RuleData). HasSameParts z.rule z.low (facts_of before) m n) (λ i. record { rule = sym e.0.0 i; low = sym e.0.1 i; cells = m }) e.0.2 in
+    let had : HasCells cut fs (rule_cells (record { rule = r; low = low; cells = m })) = subst (HasCells cut fs) (λ i. rule_cells (record { rule = sym e.0.0 i; low = sym e.0.1 i; cells = m })) a.0 in (
+      record {
+        once = keys_once n;
+        there = cells_there cut fs (facts_of before) r low m n held parts (λ k l. had.frozen k l);
+        frozen = λ k l. parts.parts k l ∙ had.frozen k l ∙ frozen_of-agree cut next fs agree r k;
+        live = λ k l. live_there next fs after next_held d r low n (λ f q. parts.there f (same f q)) live.0 k l;
+      },
+      cells_stay cut next fs before after agree held next_held same d rs ss e.1 live.1 a.1,
+    )
+cells_stay cut next fs before after agree held next_held same d _ _ e live a = absurd e
 
 -- ---- what was read back
 
 -- the same store but for settings, marks, running and accepted, which are equal: stated with those of the old one
-abbrev with_parts : StoreData → List Column → List Series → List ColumnPoints → List CellMap → StoreData
-with_parts k waiting series columns cells = record {
-  settings = k.settings;
-  marks = k.marks;
-  running = k.running;
-  waiting = waiting;
-  series = series;
-  columns = columns;
-  accepted = k.accepted;
-  cells = cells;
-}
+abbrev with_parts : StoreData → List Column → List Series → List ColumnPoints → List RuleData → StoreData
+with_parts k waiting series columns rs = record k { waiting = waiting; series = series; columns = columns; rules = rs }
 
-parts_stand : (opening : Settings) (h : History) (old new : StoreData) → IsReloaded old new → StandsFor opening h (state_of old) → StandsFor opening h (state_of (with_parts old new.waiting new.series new.columns new.cells))
+parts_stand : (opening : Settings) (h : History) (old new : StoreData) → IsReloaded old new → StandsFor opening h (state_of old) → StandsFor opening h (state_of (with_parts old new.waiting new.series new.columns new.rules))
 parts_stand opening h old new t st =
+    let SameParts : Rule → ℤ → CellMap → CellMap → Type 0 = λ r low. HasSameParts r low (facts_of old.columns) in
+    let now : StoreData = with_parts old new.waiting new.series new.columns new.rules in
     let fs : List Fact = latest_of h in
     let cut : Column → ℤ = kept_from opening h old.waiting in
     let next : Column → ℤ = kept_from opening h new.waiting in
@@ -156,8 +150,8 @@ parts_stand opening h old new t st =
     } in
     record {
       lawful = st.lawful;
-      settings = st.settings;
-      marks = st.marks;
+      settings = settings_same SameParts now old.rules t.cells ∙ st.settings;
+      marks = marks_same SameParts now old.rules t.cells ∙ st.marks;
       accepted = st.accepted;
       running = st.running;
       waiting_once = t.waiting_once;
@@ -168,21 +162,17 @@ parts_stand opening h old new t st =
       registered = λ c a. t.series c.series (st.registered c (columns_same new.columns old.columns forth c a));
       once = moved.once;
       raw = λ f. Holds-raw_of opening h new.waiting (facts_of new.columns) moved f;
-      rules = rules_stay rule_of (λ r low m n. refl) old.settings.rules old.marks.lows (facts_of old.columns) old.cells new.cells t.cells ∙ st.rules;
-      lows = rules_stay lowest_of (λ r low m n. refl) old.settings.rules old.marks.lows (facts_of old.columns) old.cells new.cells t.cells ∙ st.lows;
-      rolled = cells_stay cut next fs old.columns new.columns agree held moved (facts_same new.columns old.columns forth) (latest-distinct (accepted h)) old.settings.rules old.marks.lows old.cells new.cells t.cells t.live st.rolled;
+      rules = map-map rule_of rule_cells new.rules;
+      lows = map-map lowest_of rule_cells new.rules;
+      rolled = cells_stay cut next fs old.columns new.columns agree held moved (facts_same new.columns old.columns forth) (latest-distinct (accepted h)) old.rules new.rules t.cells t.live st.rolled;
     }
 
-same_store : (old new : StoreData) → IsReloaded old new → with_parts old new.waiting new.series new.columns new.cells ≡ new
-same_store old new t i = record {
-  settings = sym t.settings i;
-  marks = sym t.marks i;
+same_store : (old new : StoreData) → IsReloaded old new → with_parts old new.waiting new.series new.columns new.rules ≡ new
+same_store old new t i = record new {
+  raw_duration = (sym t.settings i).raw_duration;
+  raw_mark = (sym t.marks i).raw;
   running = sym t.running i;
-  waiting = new.waiting;
-  series = new.series;
-  columns = new.columns;
   accepted = sym t.accepted i;
-  cells = new.cells;
 }
 
 pub reloads : Reloads

@@ -1,6 +1,6 @@
 -- The image of a store that represents a history: it passes each test for contradictions.
 use Rattle.std.proofs.Common.{◌≡◌, ◌⊎◌, ℕ, ◌+◌, ◌≤◌, ◌^◌, ℤ, pos, ◌≤ℤ◌, int_le, ◌==◌, Bool, true, false, cond, List, [], ◌∷◌, length, map, filter, refl, sym, ◌∙◌, ap, subst, inl, inr, true≢false, arith, None}
-use Rattle.std.specs.List.{AllByRecursion, sum_by, zip}
+use Rattle.std.specs.List.{AllByRecursion, sum_by}
 use Rattle.std.proofs.lemmas.Slice.Zip.{AllZip-long}
 use Rattle.std.proofs.lemmas.List.{length-map}
 use Rattle.std.proofs.lemmas.List.Sums.{sum_by-cons}
@@ -17,7 +17,7 @@ use Rattle.ts_core.specs.aggregates.Aggregates.{Aggregate}
 use Rattle.ts_core.specs.store.RawFacts.{is_waiting, earlier_mark, kept_from}
 use Rattle.ts_core.specs.store.Cells.{Cell, cell_cmp, is_rolled, frozen_of}
 use Rattle.ts_core.specs.store.StoreStates.{StandsFor, HasCells, fact_at, facts_of}
-use Rattle.ts_core.specs.store.StoreData.{CellMap, StoreData, rules_of, state_of}
+use Rattle.ts_core.specs.store.StoreData.{CellMap, RuleData, StoreData, rule_cells, state_of}
 use Rattle.ts_core.specs.io.ReadingAhead.{bit}
 use Rattle.ts_core.proofs.lists.Comparisons.{le_from}
 use Rattle.ts_core.proofs.store.ColumnFacts.{facts_of-there, column_there, facts_at-distinct}
@@ -28,30 +28,23 @@ use Rattle.ts_core.proofs.store.LowIndices.{low_of-near}
 use Rattle.ts_core.proofs.lists.MembersLemmas.{Among-map, AllDistinct-filter, Among-filter_was, Among-filter_passes, Among-filter_stays}
 use Rattle.ts_core.proofs.plans.PieceCells.{cells_total}
 use Rattle.ts_core.proofs.settings.SettingsLaws.{settings_are}
-use Rattle.ts_core.proofs.store.StateLemmas.{raw_duration_of, StandsFor-Holds}
+use Rattle.ts_core.proofs.store.StateLemmas.{raw_duration_of, StandsFor-Holds, same_head, same_rest, cons_not}
 use Rattle.ts_core.proofs.moves.StepStands.{few_accepted}
 use Rattle.ts_line.specs.Names.{IsKey}
-use Rattle.ts_image.specs.declared.version.Version.{Version}
 use Rattle.ts_image.specs.declared.version.Version.TheVariants.{V2}
 use Rattle.ts_image.specs.Images.{ImageRule, ImageColumn, ImageSeries, ImageCell, ImageData}
-use Rattle.ts_image.specs.ImageTests.{IsKeyName, rule_in, settings_of_image, IsImageRule, AreImageSettings, IsLow, AreLows, IsImagePoint, IsImageColumn, IsImageSeries, IsImageCell, AreImageCells, points_in_all, points_of_measurement, count_frozen, AreCounted, CellsAre, IsPossible}
+use Rattle.ts_image.specs.ImageTests.{IsKeyName, rule_in, settings_of_image, IsImageRule, AreImageSettings, AreLows, IsImagePoint, IsImageColumn, IsImageSeries, IsImageCell, AreImageCells, points_in_all, points_of_measurement, count_frozen, AreCounted, CellsAre, IsPossible}
 use Rattle.ts_store.specs.image.SavedContent.{AreRising}
 use Rattle.ts_store.proofs.store.CountsKept.{length-within}
 use Rattle.ts_store.proofs.store.Stands.{waiting_among}
 use Rattle.ts_image.specs.Pictures.{column_of_image, image_points_in, columns_of_image, cell_part_of, part_at, PicturesCells, PictureCells, IsPictureOf}
 use Rattle.ts_image.specs.SavedImages.{IsOrderlyColumn, IsOrderlySeries, AreOrderlyCells, IsOrderly, IsWellFormed, SavedImagesArePossible}
-use Rattle.ts_core.proofs.lists.BesideLemmas.{OfEach-none}
 use Rattle.ts_image.proofs.CellSums.{number_of, AreFrom, latest-few, rule_counted}
 use Rattle.ts_image.proofs.FrozenPictures.{latest_valid, frozen_some, frozen_cell}
 use Rattle.ts_image.proofs.NamedKeys.{name_of, key_of}
 use Rattle.ts_image.proofs.Orders.{all_among, among_all, rising_distinct}
 use Rattle.ts_image.proofs.RawPictures.{series_of, field_of, column_here, waiting_from, waiting_here, series_once, fields_once, columns_once, one_column, points_counted, points_rolled, not_one}
 use Rattle.ts_image.proofs.ReloadLemmas.{SameMembers, facts_same, facts_once}
-
--- ---- lists that go by the rules
-
-lows_each : (v : Version) (mark : ℤ) (rs : List ImageRule) (lows : List ℤ) → AreLows v mark rs lows → length lows ≡ length rs
-lows_each v mark rs lows l = AllZip-long (IsLow v mark) rs lows l
 
 -- ---- settings and low indices
 
@@ -251,25 +244,27 @@ module _ (opening : Settings) (h : History) (k : StoreData) (d : ImageData) (st 
   }
 
   -- rule by rule
-  all_cells : (rs : List ImageRule) (lows : List ℤ) (ms : List CellMap) (cs : List (List ImageCell)) → AllByRecursion (HasCells cut (latest_of h)) (rules_of (map rule_in rs) lows ms) → PictureCells lows ms cs → AreOrderlyCells lows cs
-      → CellsAre (raw_mark opening h) rs lows cs × AreCounted d rs cs
-  all_cells [] lows ms cs rolled pictures order = (tt, tt)
-  all_cells (r ∷ rs) lows ms [] rolled pictures order = (OfEach-none (λ (x : ImageRule × ℤ). AreImageCells (raw_mark opening h) x.0 x.1) (zip (r ∷ rs) lows), tt)
-  all_cells (r ∷ rs) lows [] (c ∷ cs) rolled pictures order = absurd pictures.1
-  all_cells (r ∷ rs) [] (m ∷ ms) (c ∷ cs) rolled pictures order = absurd (omega (arith, pictures.0))
-  all_cells (r ∷ rs) (low ∷ lows) (m ∷ ms) (c ∷ cs) rolled pictures order =
-      let rest = all_cells rs lows ms cs rolled.1 (omega (arith, pictures.0), pictures.1.1) order.1 in (
-        (rule_cells_possible r low m c (λ q l. rolled.0.frozen q l) pictures.1.0 order.0.kept order.0.rising, rest.0),
-        (record { enough = rule_few r low m c (λ q l. rolled.0.frozen q l) pictures.1.0 order.0.kept order.0.rising }, rest.1),
+  all_cells : (rs : List ImageRule) (ss : List RuleData) (lows : List ℤ) (cs : List (List ImageCell)) → map rule_in rs ≡ map (λ (a : RuleData). a.rule) ss → lows ≡ map (λ (a : RuleData). a.low) ss → AllByRecursion (HasCells cut (latest_of h)) (map rule_cells ss)
+      → PictureCells ss cs → AreOrderlyCells lows cs → CellsAre (raw_mark opening h) rs lows cs × AreCounted d rs cs
+  all_cells [] ss lows cs rules same rolled pictures order = (tt, tt)
+  all_cells (r ∷ rs) [] lows cs rules same rolled pictures order = absurd (cons_not rules)
+  all_cells (r ∷ rs) (x ∷ ss) [] cs rules same rolled pictures order = absurd (cons_not (sym same))
+  all_cells (r ∷ rs) (x ∷ ss) (low ∷ lows) [] rules same rolled pictures order = absurd pictures
+  all_cells (r ∷ rs) (x ∷ ss) (low ∷ lows) (c ∷ cs) rules same rolled pictures order =
+      let names : RuleData → Rule = λ a. a.rule in
+      let firsts : RuleData → ℤ = λ a. a.low in
+      let rule : rule_in r ≡ x.rule = same_head (rule_in r) x.rule (map rule_in rs) (map names ss) rules in
+      let its : low ≡ x.low = same_head low x.low lows (map firsts ss) same in
+      let parts : (q : Cell) → low ≤ℤ q.index → part_at x.cells q ≡ frozen_of cut (rule_in r) q (latest_of h) =
+      λ q l. rolled.0.frozen q (subst (λ (z : ℤ). z ≤ℤ q.index) its l) ∙ ap (λ z. frozen_of cut z q (latest_of h)) (sym rule) in
+      let pictured : PicturesCells low x.cells c = subst (λ (z : ℤ). PicturesCells z x.cells c) (sym its) pictures.0 in
+      let rest = all_cells rs ss lows cs (same_rest (rule_in r) x.rule (map rule_in rs) (map names ss) rules) (same_rest low x.low lows (map firsts ss) same) rolled.1 pictures.1 order.1 in (
+        (rule_cells_possible r low x.cells c parts pictured order.0.kept order.0.rising, rest.0),
+        (record { enough = rule_few r low x.cells c parts pictured order.0.kept order.0.rising }, rest.1),
       )
 
   cells_possible : CellsAre (raw_mark opening h) d.settings.rules d.marks.lows d.cells × AreCounted d d.settings.rules d.cells
-  cells_possible =
-      let rolled : AllByRecursion (HasCells cut (latest_of h)) (rules_of (map rule_in d.settings.rules) d.marks.lows k.cells) =
-      subst (λ (m : Marks). AllByRecursion (HasCells cut (latest_of h)) (rules_of (map rule_in d.settings.rules) m.lows k.cells)) (sym p.marks)
-      (subst (λ (s : Settings). AllByRecursion (HasCells cut (latest_of h)) (rules_of s.rules k.marks.lows k.cells)) (sym p.settings) st.rolled) in
-      let pictures : PictureCells d.marks.lows k.cells d.cells = subst (λ (m : Marks). PictureCells m.lows k.cells d.cells) (sym p.marks) p.cells in
-      all_cells d.settings.rules d.marks.lows k.cells d.cells rolled pictures o.cells
+  cells_possible = all_cells d.settings.rules k.rules d.marks.lows d.cells (ap (λ (x : Settings). x.rules) p.settings) (ap (λ (m : Marks). m.lows) p.marks) st.rolled p.cells o.cells
 
   bit_few : (b : Bool) → bit b ≤ 1
   bit_few true = omega arith
@@ -284,7 +279,8 @@ module _ (opening : Settings) (h : History) (k : StoreData) (d : ImageData) (st 
     few = few_series;
     series = subst (λ (m : ℤ). AllByRecursion (IsImageSeries m d.runs) d.series) (sym mark_is) (among_all (IsImageSeries (raw_mark opening h) d.runs) d.series series_possible);
     rising = o.rising;
-    each = (subst (λ (m : Marks). PictureCells m.lows k.cells d.cells) (sym p.marks) p.cells).0 ∙ lows_each V2 d.marks.raw d.settings.rules d.marks.lows lows_possible;
+    each =
+        AllZip-long (λ (a : RuleData). PicturesCells a.low a.cells) k.rules d.cells p.cells ∙ sym (length-map k.rules (λ (a : RuleData). a.rule)) ∙ sym (ap (λ (x : Settings). length x.rules) p.settings) ∙ length-map d.settings.rules rule_in;
     cells = subst (λ (m : ℤ). CellsAre m d.settings.rules d.marks.lows d.cells) (sym mark_is) cells_possible.0;
     accepted = accepted_few;
     points = points_few;

@@ -1,11 +1,12 @@
 -- Columns and cells of a store as they are saved.
-use Rattle.std.proofs.Common.{◌≡◌, ◌↔◌, ℕ, ℤ, zero, suc, ◌<◌, Bool, true, false, ◌&&◌, cond, int_le, nat_lt, List, [], ◌∷◌, length, map, filter, refl, sym, ap, ◌∙◌, arith}
-use Rattle.std.specs.Prelude.{IsTrue, pos, min, slice_index_or}
+use Rattle.std.proofs.Common.{◌≡◌, ◌↔◌, ℕ, ℤ, zero, suc, ◌<◌, Bool, true, false, ◌&&◌, cond, int_le, nat_lt, List, [], ◌∷◌, length, map, filter, refl, sym, arith}
+use Rattle.std.specs.Prelude.{IsTrue, slice_index_or}
 use Rattle.std.specs.Int.{w32, w64}
-use Rattle.std.specs.List.{AllByRecursion, zip}
+use Rattle.std.specs.List.{AllByRecursion}
 use Rattle.std.specs.FinMap as finmap
-use Rattle.std.proofs.lemmas.List.{length-map, get_or-map}
-use Rattle.std.proofs.lemmas.Slice.Zip.{length-zip, get_or-zip}
+use Rattle.std.proofs.lemmas.List.{length-map}
+use Rattle.std.proofs.lemmas.Option.{get_or_from_slice_get}
+use Rattle.ts_core.proofs.lists.MembersLemmas.{at_map_of}
 use Rattle.ts_core.specs.lists.Members.{Among}
 use Rattle.ts_core.specs.lists.Numbered.{IsAt}
 use Rattle.ts_core.specs.facts.Facts.{Text, Column}
@@ -14,10 +15,9 @@ use Rattle.ts_core.specs.store.RawFacts.{is_waiting}
 use Rattle.ts_core.specs.aggregates.Aggregates.{Aggregate}
 use Rattle.ts_core.specs.store.Cells.{Cell}
 use Rattle.ts_core.specs.store.StoreStates.{CellParts}
-use Rattle.ts_core.specs.store.StoreData.{CellMap, StoreData}
+use Rattle.ts_core.specs.store.StoreData.{CellMap, RuleData, StoreData}
 use Rattle.ts_core.proofs.store.StateLemmas.{is_waiting-there, is_waiting-not}
 use Rattle.ts_store.specs.image.SavedContent.{FrozenCell, frozen_from}
-use Rattle.ts_store.specs.store.SizedStores.{IsSized}
 use Rattle.ts_image.specs.declared.version.Version.{Version}
 use Rattle.ts_image.specs.Formats.{Format, number, also, along, list_of}
 use Rattle.ts_image.specs.Images.{ImageRule, ImageSettings, ImageColumn, ImageSeries, ImageCell, flag, image_marks, image_series, image_cell}
@@ -62,18 +62,11 @@ frozen_some low m = some_of low (finmap.entries m)
 -- ---- rule by rule
 
 -- each rule has its saved cells
-pub saved-length : (k : StoreData) → IsSized k → length (saved_cells k) ≡ length k.settings.rules
-saved-length k sized =
-    let lows = sized.lows in
-    let cells = sized.cells in
-    let both = length-zip k.marks.lows k.cells in
-    length-map (zip k.marks.lows k.cells) _ ∙ (let e : min (length k.marks.lows) (length k.cells) ≡ length k.settings.rules = omega (arith, lows, cells) in both ∙ e)
+pub saved-length : (k : StoreData) → length (saved_cells k) ≡ length k.rules
+saved-length k = length-map k.rules (λ (x : RuleData). frozen_from x.low x.cells)
 
-pub saved_at : (k : StoreData) (n : ℕ) → n < length (saved_cells k) → saved_cells_at k n ≡ frozen_from (slice_index_or k.marks.lows n (pos 0)) (slice_index_or k.cells n finmap.empty)
-saved_at k n lt =
-    let all = length-map (zip k.marks.lows k.cells) (λ (x : ℤ × CellMap). frozen_from x.0 x.1) in
-    let both = length-zip k.marks.lows k.cells in
-    get_or-map _ (zip k.marks.lows k.cells) n (pos 0, finmap.empty) [] (omega (arith, all)) ∙ ap (λ (x : ℤ × CellMap). frozen_from x.0 x.1) (get_or-zip k.marks.lows k.cells n (pos 0, finmap.empty) (omega (arith, all, both)) (omega (arith, all, both)))
+pub saved_at : (k : StoreData) (n : ℕ) (x : RuleData) → IsAt k.rules n x → saved_cells_at k n ≡ frozen_from x.low x.cells
+saved_at k n x at = get_or_from_slice_get (saved_cells k) n (frozen_from x.low x.cells) [] (at_map_of (λ (y : RuleData). frozen_from y.low y.cells) k.rules n x at)
 
 -- ---- the format
 

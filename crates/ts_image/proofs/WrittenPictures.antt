@@ -1,8 +1,8 @@
 -- The data written of a store: its picture, in the image's order. If the store represents a history, the data has no
 -- contradiction.
-use Rattle.std.proofs.Common.{◌≡◌, ℕ, zero, suc, ◌≤◌, ◌<◌, ℤ, pos, ◌≤ℤ◌, int_le, nat_lt, not, ◌==◌, Bool, true, false, cond, ◌&&◌, List, [], ◌∷◌, T, length, map, filter, refl, sym, ◌∙◌, ap, subst, true≢false, arith, Some, None, Option, MatchOption, is_lt}
+use Rattle.std.proofs.Common.{◌≡◌, ℕ, zero, suc, ◌≤◌, ◌<◌, ℤ, pos, ◌≤ℤ◌, int_le, nat_lt, not, ◌==◌, Bool, true, false, cond, ◌&&◌, List, [], ◌∷◌, T, map, filter, refl, sym, ◌∙◌, ap, subst, true≢false, arith, Some, None, Option, MatchOption, is_lt}
 use Rattle.std.specs.Ordering.{int_cmp}
-use Rattle.std.specs.List.{AllByRecursion, zip}
+use Rattle.std.specs.List.{AllByRecursion}
 use Rattle.std.specs.FinMap as finmap
 use Rattle.std.specs.FinMap.{is_sorted, get-entries, entries_sorted}
 use Rattle.std.specs.FinMap.Entries.{below_all}
@@ -23,7 +23,7 @@ use Rattle.ts_core.specs.store.RawFacts.{is_waiting, is_kept, kept_from}
 use Rattle.ts_core.specs.store.Cells.{Cell, cell_cmp, is_in_cell}
 use Rattle.ts_core.specs.lists.Changes.{or_else}
 use Rattle.ts_core.specs.store.StoreStates.{ColumnPoints, CellParts, StandsFor, HasCells, column_of}
-use Rattle.ts_core.specs.store.StoreData.{CellMap, StoreData, no_parts, rule_cells, rules_of, state_of}
+use Rattle.ts_core.specs.store.StoreData.{CellMap, RuleData, StoreData, store_settings, store_marks, no_parts, rule_cells, state_of}
 use Rattle.ts_core.specs.io.ReadingAhead.{bit}
 use Rattle.ts_core.proofs.store.ColumnFacts.{column_there}
 use Rattle.ts_core.proofs.lists.Comparisons.{le_from, le_true}
@@ -42,7 +42,6 @@ use Rattle.ts_image.specs.Pictures.{column_of_image, image_points_in, columns_of
 use Rattle.ts_image.specs.SavedImages.{IsOrderlyColumn, IsOrderlySeries, AreOrderlyCells, IsOrderly, IsWellFormed}
 use Rattle.ts_store.specs.image.SavedContent.{SavedColumn, SavedSeries, saved_key, SavesColumns, SavesSeries, FrozenCell, frozen_from}
 use Rattle.ts_store.specs.read.ViewResults.{no_points}
-use Rattle.ts_store.specs.store.SizedStores.{IsSized}
 use Rattle.ts_store.proofs.store.Stands.{waiting_among}
 use Rattle.ts_store.proofs.read.ShownCells.{entry_found}
 use Rattle.ts_image.specs.SavedParts.{image_rule_of, image_settings_of, extremes_in}
@@ -206,7 +205,7 @@ entry_of low m c a =
 part_is : (m : CellMap) (e : Cell × CellParts) → Among e (finmap.entries m) → part_at m e.0 ≡ e.1.frozen
 part_is m e a = ap (λ (o : Option CellParts). (or_else no_parts o).frozen) (entry_found m e a)
 
-module _ (cut : Column → ℤ) (fs : List Fact) (r : Rule) (low : ℤ) (m : CellMap) (h : HasCells cut fs (rule_cells r low m)) where
+module _ (cut : Column → ℤ) (fs : List Fact) (r : Rule) (low : ℤ) (m : CellMap) (h : HasCells cut fs (rule_cells (record { rule = r; low = low; cells = m }))) where
   part_sound : (q : Cell) → low ≤ℤ q.index → IsSound (part_at m q)
   part_sound q l = subst IsSound (sym (h.frozen q l)) (facts_possible (filter (λ (f : Fact). is_in_cell r q f && not (is_kept cut f)) fs))
 
@@ -259,26 +258,22 @@ written_kept low m = among_all (λ (c : ImageCell). low ≤ℤ c.cell.index) (wr
 
 -- ---- rule by rule
 
-all_written : (cut : Column → ℤ) (fs : List Fact) (rs : List Rule) (lows : List ℤ) (ms : List CellMap) → length lows ≡ length rs → length ms ≡ length rs → AllByRecursion (HasCells cut fs) (rules_of rs lows ms)
-    → (let cells : List (List ImageCell) = map (map image_cell_of) (map (λ (x : ℤ × CellMap). frozen_from x.0 x.1) (zip lows ms)) in PictureCells lows ms cells × AreOrderlyCells lows cells)
-all_written cut fs [] [] [] i j h = ((refl, tt), tt)
-all_written cut fs [] [] (m ∷ ms) i j h = absurd (omega (arith, j))
-all_written cut fs [] (l ∷ lows) ms i j h = absurd (omega (arith, i))
-all_written cut fs (r ∷ rs) [] ms i j h = absurd (omega (arith, i))
-all_written cut fs (r ∷ rs) (l ∷ lows) [] i j h = absurd (omega (arith, j))
-all_written cut fs (r ∷ rs) (l ∷ lows) (m ∷ ms) i j h =
-    let rest = all_written cut fs rs lows ms (omega (arith, i)) (omega (arith, j)) h.1 in
-    ((omega (arith, rest.0.0), (written_pictures cut fs r l m h.0, rest.0.1)), (record { kept = written_kept l m; rising = written_rising l m }, rest.1))
+all_written : (cut : Column → ℤ) (fs : List Fact) (rs : List RuleData) → AllByRecursion (HasCells cut fs) (map rule_cells rs)
+    → (let cells : List (List ImageCell) = map (map image_cell_of) (map (λ (x : RuleData). frozen_from x.low x.cells) rs) in PictureCells rs cells × AreOrderlyCells (map (λ (x : RuleData). x.low) rs) cells)
+all_written cut fs [] h = (tt, tt)
+all_written cut fs (x ∷ rs) h =
+    let rest = all_written cut fs rs h.1 in
+    ((written_pictures cut fs x.rule x.low x.cells h.0, rest.0), (record { kept = written_kept x.low x.cells; rising = written_rising x.low x.cells }, rest.1))
 
 -- ---- the whole
 
-module _ (opening : Settings) (h : History) (k : StoreData) (order : List SavedSeries) (st : StandsFor opening h (state_of k)) (sized : IsSized k) (w : SavesSeries k.series (map column_of k.columns) order) where
-  cells_written : PictureCells k.marks.lows k.cells (store_image k order).cells × AreOrderlyCells k.marks.lows (store_image k order).cells
-  cells_written = all_written (kept_from opening h k.waiting) (latest_of h) k.settings.rules k.marks.lows k.cells sized.lows sized.cells st.rolled
+module _ (opening : Settings) (h : History) (k : StoreData) (order : List SavedSeries) (st : StandsFor opening h (state_of k)) (w : SavesSeries k.series (map column_of k.columns) order) where
+  cells_written : PictureCells k.rules (store_image k order).cells × AreOrderlyCells (store_marks k).lows (store_image k order).cells
+  cells_written = all_written (kept_from opening h k.waiting) (latest_of h) k.rules st.rolled
 
   pub written_picture : IsPictureOf k (store_image k order)
   written_picture = record {
-    settings = settings_back k.settings;
+    settings = settings_back (store_settings k);
     marks = refl;
     runs = refl;
     accepted = refl;
@@ -292,15 +287,15 @@ module _ (opening : Settings) (h : History) (k : StoreData) (order : List SavedS
   pub written_orderly : IsOrderly (store_image k order)
   written_orderly = record {
     raw = omega (arith, ints);
-    durations = lasting k.settings.rules;
+    durations = lasting (store_settings k).rules;
     series = among_all IsOrderlySeries (map (image_series_of k) order) (series_orderly k order w well.points);
     rising = subst (AreRising series_cmp) (sym (map-map series_of (image_series_of k) order)) w.rising;
-    cells = (cells_written opening h k order st well.sized w).1;
+    cells = (cells_written opening h k order st w).1;
   }
 
 -- ---- no contradiction
 
 pub written_acceptable : WrittenImagesAreAcceptable
 written_acceptable opening h k order st well w =
-    let picture = written_picture opening h k order st well.sized w in
+    let picture = written_picture opening h k order st w in
     record { picture = picture; possible = saved_possible opening h k (store_image k order) st well picture (written_orderly opening h k order st well w) }

@@ -1,16 +1,15 @@
 -- The picture of a store in its image, in the image's order: all data except live parts, empty cells, and cells below a
 -- low index. (Own rules.)
-use Rattle.std.specs.Prelude.{◌≡◌, ◌↔◌, ℤ, ◌≤ℤ◌, ◌<◌, ◌==◌, List, map, filter, Some, length}
+use Rattle.std.specs.Prelude.{◌≡◌, ◌↔◌, ℤ, ◌≤ℤ◌, ◌<◌, ◌==◌, List, map, filter, Some}
 use Rattle.std.specs.FinMap as finmap
-use Rattle.std.specs.List.{flat_map}
+use Rattle.std.specs.List.{AllZip, flat_map}
 use Rattle.ts_core.specs.lists.Members.{Among, AllDistinct}
-use Rattle.ts_core.specs.lists.Beside.{AllZipBeside}
 use Rattle.ts_core.specs.facts.Facts.{Series, Column}
 use Rattle.ts_core.specs.aggregates.Aggregates.{Aggregate, empty_aggregate}
 use Rattle.ts_core.specs.store.Cells.{Cell}
 use Rattle.ts_core.specs.lists.Changes.{or_else}
 use Rattle.ts_core.specs.store.StoreStates.{ColumnPoints, column_of, facts_of}
-use Rattle.ts_core.specs.store.StoreData.{CellMap, StoreData, no_parts, AreLive}
+use Rattle.ts_core.specs.store.StoreData.{CellMap, RuleData, StoreData, store_settings, store_marks, no_parts, AreLive}
 use Rattle.ts_core.specs.io.ReadingAhead.{bit}
 use Rattle.ts_store.specs.image.Building.{HaveCells}
 use Rattle.ts_image.specs.Images.{ImageColumn, ImageSeries, ImageCell, ImageData}
@@ -43,19 +42,19 @@ pub record PicturesCells (low : ℤ) (m : CellMap) (cells : List ImageCell) : Ty
   pub sound : (k : Cell) → low ≤ℤ k.index → (part_at m k).count ≡ 0 → part_at m k ≡ empty_aggregate
 
 -- the same for each rule
-abbrev pub PictureCells : List ℤ → List CellMap → List (List ImageCell) → Type 0
-PictureCells lows ms cs = (length cs ≡ length lows) × AllZipBeside PicturesCells lows ms cs
+abbrev pub PictureCells : List RuleData → List (List ImageCell) → Type 0
+PictureCells = AllZip (λ (r : RuleData). PicturesCells r.low r.cells)
 
 -- the data is the picture of a store
 pub record IsPictureOf (k : StoreData) (d : ImageData) : Type 0 where
-  pub settings : settings_of_image d.settings ≡ k.settings
-  pub marks : d.marks ≡ k.marks
+  pub settings : settings_of_image d.settings ≡ store_settings k
+  pub marks : d.marks ≡ store_marks k
   pub runs : d.runs ≡ bit k.running
   pub accepted : d.accepted ≡ k.accepted
   pub series : (s : Series) → Among s (map (λ (x : ImageSeries). x.series) d.series) ↔ Among s k.series
   pub columns : (c : ColumnPoints) → Among c (columns_of_image d.series) ↔ Among c k.columns
   pub waiting : (c : Column) → Among c (waiting_of_image d.series) ↔ Among c k.waiting
-  pub cells : PictureCells k.marks.lows k.cells d.cells
+  pub cells : PictureCells k.rules d.cells
 
 -- The store is created from the data: the data is its picture, and each column occurs once. Raw facts have their cells,
 -- and live parts are folded from the raw facts.
@@ -63,5 +62,5 @@ pub record IsMadeOf (d : ImageData) (k : StoreData) : Type 0 where
   pub picture : IsPictureOf k d
   pub waiting_once : AllDistinct k.waiting
   pub columns_once : AllDistinct (map column_of k.columns)
-  pub has_cells : HaveCells k.settings.rules k.marks.lows (facts_of k.columns) k.cells
-  pub live : AreLive k.columns k.settings.rules k.cells
+  pub has_cells : HaveCells (facts_of k.columns) k.rules
+  pub live : AreLive k.columns k.rules

@@ -1,15 +1,13 @@
 -- A store that was saved and loaded again: the parts that stay, and those that may differ. (Own rules.)
 use Rattle.std.specs.Prelude.{◌≡◌, ◌↔◌, ℤ, ◌≤ℤ◌, true, None, List, map}
-use Rattle.std.specs.List.{zip}
 use Rattle.std.specs.FinMap as finmap
 use Rattle.ts_core.specs.lists.Members.{Among, AllDistinct}
-use Rattle.ts_core.specs.lists.Beside.{AllZipBeside}
 use Rattle.ts_core.specs.facts.Facts.{Series, Column, Fact}
 use Rattle.ts_core.specs.settings.Settings.{Rule}
 use Rattle.ts_core.specs.store.Cells.{Cell, cell_of, is_rolled}
 use Rattle.ts_core.specs.lists.Changes.{or_else}
 use Rattle.ts_core.specs.store.StoreStates.{ColumnPoints, column_of, facts_of}
-use Rattle.ts_core.specs.store.StoreData.{CellMap, StoreData, no_parts, AreLive, StaysFor}
+use Rattle.ts_core.specs.store.StoreData.{CellMap, RuleData, StoreData, OfEachRule, store_settings, store_marks, no_parts, AreLive, StaysFor}
 
 -- From the low index of a rule on, the frozen parts are the same, and each raw fact has its cell. Cells below it may
 -- differ, and an empty cell is as good as none.
@@ -18,15 +16,15 @@ pub record HasSameParts (r : Rule) (low : ℤ) (facts : List Fact) (m n : CellMa
   pub there : (f : Fact) → Among f facts → is_rolled r f ≡ true → low ≤ℤ (cell_of r f).index → finmap.get n (cell_of r f) ≡ None → ⊥
 
 -- the same for each rule
-abbrev pub HaveSameParts : List Rule → List ℤ → List Fact → List CellMap → List CellMap → Type 0
-HaveSameParts rs lows facts = AllZipBeside (λ (x : Rule × ℤ). HasSameParts x.0 x.1 facts) (zip rs lows)
+abbrev pub HaveSameParts : List Fact → List RuleData → List RuleData → Type 0
+HaveSameParts facts = OfEachRule (λ r low. HasSameParts r low facts)
 
 -- The settings, marks, count of accepted facts and open run are the same. The columns have the same points, in any
 -- order of columns, and the same of them wait. Each series is still registered, and live parts are those of the raw
 -- facts.
 pub record IsReloaded (old new : StoreData) : Type 0 where
-  pub settings : new.settings ≡ old.settings
-  pub marks : new.marks ≡ old.marks
+  pub settings : store_settings new ≡ store_settings old
+  pub marks : store_marks new ≡ store_marks old
   pub running : new.running ≡ old.running
   pub accepted : new.accepted ≡ old.accepted
   pub waiting_once : AllDistinct new.waiting
@@ -34,8 +32,8 @@ pub record IsReloaded (old new : StoreData) : Type 0 where
   pub series : (s : Series) → Among s old.series → Among s new.series
   pub columns_once : AllDistinct (map column_of new.columns)
   pub columns : (c : ColumnPoints) → Among c new.columns ↔ Among c old.columns
-  pub cells : HaveSameParts old.settings.rules old.marks.lows (facts_of old.columns) old.cells new.cells
-  pub live : AreLive new.columns old.settings.rules new.cells
+  pub cells : HaveSameParts (facts_of old.columns) old.rules new.rules
+  pub live : AreLive new.columns new.rules
 
 -- the new store represents each history that the old one represented
 abbrev pub Reloads : Type 0

@@ -9,7 +9,7 @@ use Rattle.ts_core.specs.settings.Settings.{IsPossibleRule, Settings}
 use Rattle.ts_core.specs.store.History.{History}
 use Rattle.ts_core.specs.store.Cells.{cell_cmp}
 use Rattle.ts_core.specs.store.StoreStates.{ColumnPoints, StandsFor}
-use Rattle.ts_core.specs.store.StoreData.{StoreData, state_of}
+use Rattle.ts_core.specs.store.StoreData.{StoreData, store_settings, state_of}
 use Rattle.ts_raw.specs.PlainColumns.{IsRising}
 use Rattle.ts_store.specs.store.SizedStores.{IsSized}
 use Rattle.ts_image.specs.declared.version.Version.TheVariants.{V2}
@@ -47,8 +47,8 @@ pub record IsOrderly (d : ImageData) : Type 0 where
 -- Any store in memory: the rules are possible, the raw mark is a valid time, and counts fit. A line can state each
 -- name, and the points of each column are in the order of time.
 pub record IsWellFormed (k : StoreData) : Type 0 where
-  pub rules : AllByRecursion IsPossibleRule k.settings.rules
-  pub mark : IsTime k.marks.raw
+  pub rules : AllByRecursion IsPossibleRule (store_settings k).rules
+  pub mark : IsTime k.raw_mark
   pub sized : IsSized k
   pub points : AllByRecursion (λ (c : ColumnPoints). IsRising c.points) k.columns
 

@@ -1,12 +1,12 @@
 -- The image of a store, as it is written. (Own rules.)
-use Rattle.std.specs.Prelude.{◌≡◌, ◌+◌, ◌<◌, ◌^◌, ℕ, ℤ, FitsSigned, slice_index_or, List, [], map, length, Result, Ok, Err, OnOk}
+use Rattle.std.specs.Prelude.{◌≡◌, ◌+◌, ◌<◌, ◌^◌, ℕ, FitsSigned, slice_index_or, List, [], map, length, Result, Ok, Err, OnOk}
 use Rattle.std.specs.Int.{w64}
-use Rattle.std.specs.List.{AllByRecursion, AllZip, zip}
+use Rattle.std.specs.List.{AllByRecursion}
 use Rattle.std.specs.Io.KnownBytes.{Appends}
 use Rattle.ts_core.specs.settings.Settings.{Rule}
 use Rattle.ts_core.specs.store.RawFacts.{is_waiting}
 use Rattle.ts_core.specs.store.StoreStates.{ColumnPoints, column_of}
-use Rattle.ts_core.specs.store.StoreData.{CellMap, StoreData}
+use Rattle.ts_core.specs.store.StoreData.{RuleData, StoreData, store_settings, store_marks}
 use Rattle.ts_core.specs.io.ReadingAhead.{bit}
 use Rattle.ts_core.specs.io.Devices.{Output, AppendsFront}
 use Rattle.ts_store.specs.image.SavedContent.{SavedColumn, SavedSeries, SavesSeries, FrozenCell, frozen_from}
@@ -24,7 +24,7 @@ image_cell_of c = image_cell_with c.cell c.frozen
 
 -- the saved cells of each rule, and their numbers
 abbrev pub saved_cells : StoreData → List (List FrozenCell)
-saved_cells k = map (λ (x : ℤ × CellMap). frozen_from x.0 x.1) (zip k.marks.lows k.cells)
+saved_cells k = map (λ (r : RuleData). frozen_from r.low r.cells) k.rules
 
 abbrev pub saved_cells_at : StoreData → ℕ → List FrozenCell
 saved_cells_at k n = slice_index_or (saved_cells k) n []
@@ -48,8 +48,8 @@ HasItsColumns k s = AllByRecursion (λ (c : SavedColumn). c.number < length k.co
 -- all data of a store, with its series and columns in this order
 abbrev pub store_image : StoreData → List SavedSeries → ImageData
 store_image k saved = record {
-  settings = image_settings_of k.settings;
-  marks = k.marks;
+  settings = image_settings_of (store_settings k);
+  marks = store_marks k;
   runs = bit k.running;
   accepted = k.accepted;
   series = map (image_series_of k) saved;
@@ -63,9 +63,9 @@ pub record FitsCell (r : Rule) (c : FrozenCell) : Type 0 where
   pub index : FitsSigned w64 c.cell.index
   pub group : length c.cell.group ≡ length r.kept_tags
 
--- each rule has its saved cells, and they fit
+-- so do the saved cells of each rule
 abbrev pub FitCells : StoreData → Type 0
-FitCells k = AllZip (λ (r : Rule). AllByRecursion (FitsCell r)) k.settings.rules (saved_cells k)
+FitCells k = AllByRecursion (λ (r : RuleData). AllByRecursion (FitsCell r.rule) (frozen_from r.low r.cells)) k.rules
 
 -- each series has few tags, and there are few series
 pub record FitSeries (all : List SavedSeries) : Type 0 where

@@ -8,10 +8,10 @@ use Rattle.ts_core.specs.facts.Facts.{Series, text_cmp}
 use Rattle.ts_core.specs.aggregates.Aggregates.{empty_aggregate}
 use Rattle.ts_core.specs.store.Cells.{Cell, cell_cmp}
 use Rattle.ts_core.specs.store.StoreStates.{CellParts, facts_of}
-use Rattle.ts_core.specs.store.StoreData.{CellMap, StoreData}
+use Rattle.ts_core.specs.store.StoreData.{CellMap, StoreData, OfEachRule}
 use Rattle.ts_raw.specs.Columns.{AreTimed}
-use Rattle.ts_store.specs.image.Building.{Built, cell_map_at}
-use Rattle.ts_store.specs.write.LinesPut.{OfEachRule, PutsCells}
+use Rattle.ts_store.specs.image.Building.{Built, cell_map_at, built_rules}
+use Rattle.ts_store.specs.write.LinesPut.{PutsCells}
 use Rattle.ts_image.specs.Images.{ImageColumn, ImageSeries, ImageCell, ImageData}
 use Rattle.ts_image.specs.ImageTests.{IsKeyName, IsImageSeriesKey, settings_of_image}
 use Rattle.ts_store.specs.image.SavedContent.{AreRising}
@@ -105,4 +105,4 @@ pub record IsStoreOf (d : ImageData) (k : StoreData) : Type 0 where
   pub series : k.series ≡ map key_in d.series
   pub columns : k.columns ≡ columns_of_image d.series
   pub waiting : k.waiting ≡ waiting_of_image d.series
-  pub cells : OfEachRule (PutsCells (facts_of (columns_of_image d.series))) (settings_of_image d.settings).rules d.marks.lows (map cells_in d.cells) k.cells
+  pub cells : OfEachRule (PutsCells (facts_of (columns_of_image d.series))) (built_rules (built_in d)) k.rules

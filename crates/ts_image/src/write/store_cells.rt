@@ -2,6 +2,7 @@
 ghost use Rattle.std.specs.Prelude.{◌≡◌, ◌<◌, length, map, IfOk};
 ghost use Rattle.std.specs.Int.{w64};
 ghost use Rattle.std.specs.List.{AllByRecursion};
+ghost use Rattle.ts_core.specs.store.StoreData.{store_settings};
 ghost use Rattle.ts_image.specs.Formats.{along, list_of};
 ghost use Rattle.ts_image.specs.Images.{image_cell};
 ghost use Rattle.ts_image.specs.FieldWriting.{PutsField, PutsAll};
@@ -18,8 +19,7 @@ use ts_store::{FrozenCell, FrozenCells, Store, View};
 /// Returns the number of saved cells of a rule, without a walk over them. Fails with AllocError if it doesn't fit in 64
 /// bits.
 fn count_cells<A: Allocator + Copy>(store: &Store<A>, number: usize) -> Result<u64, AllocError>
-    requires rule { number < length store.now.settings.rules }
-    requires cells { number < length (saved_cells store.now) }
+    requires { number < length store.now.rules }
     ensures { IfOk result (λ n. n ≡ length (saved_cells_at store.now number)) }
 {
     match u64::try_from(store.frozen_count(number)) {
@@ -35,8 +35,6 @@ pub(crate) fn count_all_cells<A: Allocator + Copy>(
 ) -> Result<Vec<u64, A>, AllocError>
     ensures { IfOk result (λ v. v.items ≡ cell_counts store.now) }
 {
-    // for the proof: each rule has its saved cells
-    store.laws();
     let rules = store.settings().rules().len();
     let mut counts = Vec::with_capacity(alloc, rules)?;
     for number in 0..rules {
@@ -85,8 +83,7 @@ fn put_rule_cells<W: Write, A: Allocator + Copy>(
     out: &mut OutputBuffer<A>,
     sink: &mut Sink<W>,
 ) -> Result<(), Refused>
-    requires rule { number < length store.now.settings.rules }
-    requires cells { number < length (saved_cells store.now) }
+    requires rule { number < length store.now.rules }
     requires count { count ≡ length (saved_cells_at store.now number) }
     requires fit { AllByRecursion (FitsCell rule.now) (saved_cells_at store.now number) }
     ensures { PutsField (list_of w64 (image_cell (image_rule_of rule.now))) (map image_cell_of (saved_cells_at store.now number)) sink.old out.old result sink.new out.new }
@@ -103,9 +100,8 @@ pub(crate) fn put_all_cells<W: Write, A: Allocator + Copy>(
     sink: &mut Sink<W>,
 ) -> Result<(), Refused>
     requires counts { counts.now ≡ cell_counts store.now }
-    requires each { length counts.now ≡ length store.now.settings.rules }
     requires fit { FitCells store.now }
-    ensures { PutsField (along (λ r. list_of w64 (image_cell r)) (map image_rule_of store.now.settings.rules)) (map (map image_cell_of) (saved_cells store.now)) sink.old out.old result sink.new out.new }
+    ensures { PutsField (along (λ r. list_of w64 (image_cell r)) (map image_rule_of (store_settings store.now).rules)) (map (map image_cell_of) (saved_cells store.now)) sink.old out.old result sink.new out.new }
 {
     let rules = store.settings().rules();
     for (number, count) in counts.iter().enumerate() {
