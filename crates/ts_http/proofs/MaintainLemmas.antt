@@ -19,6 +19,7 @@ use Rattle.ts_http.specs.declared.outcome.RequestOutcome.{RequestOutcome}
 use Rattle.ts_http.specs.declared.outcome.RequestOutcome.TheVariants as outcomes
 use Rattle.ts_http.specs.declared.refusal.Refusal.{Refusal}
 use Rattle.ts_http.specs.declared.refusal.Refusal.TheVariants as refusals
+use Rattle.ts_store.proofs.retain.RunsStay.{begun_waiting}
 use Rattle.ts_store.proofs.store.WholeStatesKept.{Steps, last_step}
 
 -- ---- the run begins if none is open
@@ -29,7 +30,7 @@ opens_by now s k true e begins i = (s, OpensRun.goes_on (i.store.stands.running.
 opens_by now s k false e begins i = (
   with_begin now s,
   OpensRun.begins (λ runs. true≢false (sym (i.store.stands.running.1 runs) ∙ e)),
-  record { store = record { stands = begins e s.store.opening s.store.history i.store.stands; series = i.store.series }; inventory = ap all_waiting i.inventory },
+  record { store = record { stands = begins e s.store.opening s.store.history i.store.stands; series = i.store.series }; inventory = begun_waiting now k ∙ ap all_waiting i.inventory },
 )
 
 pub opens : (now : ℤ) (s : WholeState) (k : StoreData) → (k.running ≡ false → GoesOn k (Begin now) (run_begun now k)) → IsWholeStateOf s k → (opened : WholeState) × OpensRun now s opened × IsWholeStateOf opened (run_opened now k)
@@ -64,13 +65,13 @@ module _ (now : ℤ) (query : Text) (old : StoreData) where
   )
 
   pub maintained : (n : ℕ) (new : StoreData) (taken : ℕ) (done : Bool) (o : RequestOutcome) → steps_of_parameter query ≡ Some n → (old.running ≡ false → GoesOn old (Begin now) (run_begun now old)) → HasStepped n (run_opened now old) new taken done
-      → reply_of false o ≡ answer_reply true (progress_text done new.marks.raw taken) → MaintainsAs now query old o new
+      → reply_of false o ≡ answer_reply true (progress_text done new.raw_mark taken) → MaintainsAs now query old o new
   maintained n new taken done o asked begins did reply = (
     λ s i.
         let opened = opens now s old begins i in
         let left : ℕ = left_in opened.0 in
         let ran = did.states opened.0 opened.2 in
-        let raw : new.marks.raw ≡ (marks_of opened.0.store.opening opened.0.store.history).raw = ap (λ m. m.raw) (did.marks ∙ opened.2.store.stands.marks) in
+        let raw : new.raw_mark ≡ (marks_of opened.0.store.opening opened.0.store.history).raw = ap (λ m. m.raw) (did.marks ∙ opened.2.store.stands.marks) in
         let same : reply_of false o ≡ answer_reply true (run_text n left (marks_of opened.0.store.opening opened.0.store.history).raw) =
         reply ∙ (λ j. answer_reply true (progress_text (ran.ended j) (raw j) (ran.count j))) in
         (ran.after, subst (λ (r : Replied). Maintains now s query r ran.after) (sym same) (Maintains.steps n opened.0 ran.after asked opened.1 ran.runs), ran.here),

@@ -5,7 +5,7 @@ use Rattle.ts_core.specs.facts.Facts.{Text}
 use Rattle.ts_core.specs.settings.Settings.{Settings}
 use Rattle.ts_core.specs.settings.SettingsFaults.{is_named, settings_fault_text, unknown_rule_text}
 use Rattle.ts_core.specs.declared.settings.settings_fault.SettingsFault.{SettingsFault}
-use Rattle.ts_core.specs.store.StoreData.{StoreData}
+use Rattle.ts_core.specs.store.StoreData.{StoreData, store_settings}
 use Rattle.ts_http.specs.Acts.{Replied, bad_reply, answer_reply, added_text, dropped_body, PostsRule, DeletesRule, name_in}
 use Rattle.ts_http.specs.HttpReplies.{error_json}
 use Rattle.ts_http.specs.OutcomeReplies.{AddsAs, DropsAs, DropsNamed, reply_of}
@@ -28,7 +28,7 @@ module _ (body : Text) (k : StoreData) where
     pub add_no_memory : AddsAs body k (outcomes.Refused refusals.OutOfMemory) k
     add_no_memory = (λ s i. (s, PostsRule.wants_memory utf8, i), inr refl)
 
-    pub add_refused : (fault : SettingsFault) (o : RequestOutcome) → rule_for k.settings body ≡ Err fault → (reply_of false o ≡ bad_reply (error_json (settings_fault_text fault))) ⊎ (o ≡ outcomes.Refused refusals.OutOfMemory) → AddsAs body k o k
+    pub add_refused : (fault : SettingsFault) (o : RequestOutcome) → rule_for (store_settings k) body ≡ Err fault → (reply_of false o ≡ bad_reply (error_json (settings_fault_text fault))) ⊎ (o ≡ outcomes.Refused refusals.OutOfMemory) → AddsAs body k o k
     add_refused fault o read told = ⊎_elim {C = AddsAs body k o k}
         (λ is. (λ s i. (s, subst (λ (r : Replied). PostsRule s body r s) (sym is) (PostsRule.refuses fault utf8 (subst (λ (z : Settings). rule_for z body ≡ Err fault) i.store.stands.settings read)), i), inr refl))
         (λ want. subst (λ (p : RequestOutcome). AddsAs body k p k) (sym want) add_no_memory)
@@ -53,14 +53,14 @@ module _ (query : Text) (k : StoreData) where
   pub name_missing : name_in query ≡ None → DropsAs query k (outcomes.Refused refusals.MissingName) k
   name_missing none = (λ s i. (s, DeletesRule.missing none, i), inr refl)
 
-pub drop_refused : (name : Text) (k new : StoreData) (o : RequestOutcome) → is_named k.settings.rules name ≡ false → new ≡ k → reply_of false o ≡ bad_reply (error_json unknown_rule_text) → DropsNamed name k o new
+pub drop_refused : (name : Text) (k new : StoreData) (o : RequestOutcome) → is_named (store_settings k).rules name ≡ false → new ≡ k → reply_of false o ≡ bad_reply (error_json unknown_rule_text) → DropsNamed name k o new
 drop_refused name k new o none same reply = λ query n. (
   λ s i.
       (s, subst (λ (r : Replied). DeletesRule s query r s) (sym reply) (DeletesRule.refuses name n (subst (λ (z : Settings). is_named z.rules name ≡ false) i.store.stands.settings none)), subst (IsWholeStateOf s) (sym same) i),
   inr same,
 )
 
-pub was_dropped : (name : Text) (k new : StoreData) (o : RequestOutcome) → IsTrue (is_named k.settings.rules name) → RuleGoes k new name → reply_of false o ≡ answer_reply true (dropped_body name) → DropsNamed name k o new
+pub was_dropped : (name : Text) (k new : StoreData) (o : RequestOutcome) → IsTrue (is_named (store_settings k).rules name) → RuleGoes k new name → reply_of false o ≡ answer_reply true (dropped_body name) → DropsNamed name k o new
 was_dropped name k new o named goes told = λ query n. (
   λ s i. (
     state_without_rule name s,

@@ -1,6 +1,6 @@
 -- The effect of some steps of an open run, at most n, until it ends. (Own rule.)
 use Rattle.std.specs.Prelude.{◌≡◌, ℕ, ℤ, nat_le, min, Bool, if◌then◌else◌}
-use Rattle.ts_core.specs.store.StoreData.{StoreData}
+use Rattle.ts_core.specs.store.StoreData.{StoreData, store_marks}
 use Rattle.ts_core.specs.moves.StoreMoves.{run_begun}
 use Rattle.ts_store.specs.store.WholeStates.{WholeState, IsWholeStateOf, left_in}
 use Rattle.ts_http.specs.Maintaining.{RunsSteps}
@@ -19,4 +19,4 @@ pub record HasRun (n : ℕ) (s : WholeState) (taken : ℕ) (done : Bool) (new : 
 
 pub record HasStepped (n : ℕ) (old new : StoreData) (taken : ℕ) (done : Bool) : Type 0 where
   pub states : (s : WholeState) → IsWholeStateOf s old → HasRun n s taken done new
-  pub marks : new.marks ≡ old.marks
+  pub marks : store_marks new ≡ store_marks old

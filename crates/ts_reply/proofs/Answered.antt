@@ -10,7 +10,7 @@ use Rattle.ts_core.specs.facts.Latest.{latest_of}
 use Rattle.ts_core.specs.store.Marks.{Marks, marks_of}
 use Rattle.ts_core.specs.plans.Pieces.{Piece, IsValid}
 use Rattle.ts_core.specs.settings.Settings.{Settings}
-use Rattle.ts_core.specs.store.StoreData.{StoreData, state_of, OfEachHistory, ShowsEach}
+use Rattle.ts_core.specs.store.StoreData.{StoreData, state_of, OfEachHistory, ShowsEach, store_settings, store_marks}
 use Rattle.ts_core.specs.store.StoreStates.{StandsFor}
 use Rattle.ts_core.specs.store.Views.{view_state_of}
 use Rattle.ts_check.specs.CertificateTexts.{certificate_text, IsFirstBadLine}
@@ -48,7 +48,7 @@ rows_shown k s fill plan table r shows e f a is opening h stands =
 
 -- a fact about a store's settings and marks is one about those of each history that it represents
 pub carried : (Says : Settings → Marks → Type 0) (k : StoreData) (settings : Settings) (marks : Marks) (opening : Settings) (h : History)
-    → ShowsEach k → StandsFor opening h (state_of k) → settings ≡ k.settings → marks ≡ k.marks → Says settings marks → Says (settings_of opening h) (marks_of opening h)
+    → ShowsEach k → StandsFor opening h (state_of k) → settings ≡ store_settings k → marks ≡ store_marks k → Says settings marks → Says (settings_of opening h) (marks_of opening h)
 carried Says k settings marks opening h shows stands st mt said =
     let shown = shows opening h stands in
     let known : Says (settings_of opening h) marks = subst (λ (t : Settings). Says t marks) (st ∙ shown.settings) said in
@@ -57,50 +57,50 @@ carried Says k settings marks opening h shows stands st mt said =
 -- ---- by a plan
 
 plan_carried : (k : StoreData) (settings : Settings) (marks : Marks) (opening : Settings) (h : History) (s : Select) (result plan : Result (List Piece) PlanError)
-    → ShowsEach k → StandsFor opening h (state_of k) → settings ≡ k.settings → marks ≡ k.marks → result ≡ plan
+    → ShowsEach k → StandsFor opening h (state_of k) → settings ≡ store_settings k → marks ≡ store_marks k → result ≡ plan
     → IsPlanFor settings marks s.query result → IsPlanFor (settings_of opening h) (marks_of opening h) s.query plan
 plan_carried k settings marks opening h s result plan shows stands st mt is p =
     carried (λ t m. IsPlanFor t m s.query plan) k settings marks opening h shows stands st mt (subst (IsPlanFor settings marks s.query) is p)
 
 pub planned_rows : (k : StoreData) (settings : Settings) (marks : Marks) (s : Select) (result : Result (List Piece) PlanError) (plan : List Piece) (o : Outcome)
-    → ShowsEach k → settings ≡ k.settings → marks ≡ k.marks → IsPlanFor settings marks s.query result → result ≡ Ok plan
+    → ShowsEach k → settings ≡ store_settings k → marks ≡ store_marks k → IsPlanFor settings marks s.query result → result ≡ Ok plan
     → OfEachHistory k (λ opening h. o ≡ rows_over (latest_of h) s) → OfEachHistory k (λ opening h. IsPlannedOutcome opening h s o)
 planned_rows k settings marks s result plan o shows st mt p is e opening h stands =
     subst (IsPlannedOutcome opening h s) (sym (e opening h stands)) (answered plan (plan_carried k settings marks opening h s result (Ok plan) shows stands st mt is p))
 
 pub planned_fault : (k : StoreData) (settings : Settings) (marks : Marks) (s : Select) (result : Result (List Piece) PlanError) (fault : PlanFault) (o : Outcome)
-    → ShowsEach k → settings ≡ k.settings → marks ≡ k.marks → IsPlanFor settings marks s.query result → result ≡ Err (errors.Fault fault)
+    → ShowsEach k → settings ≡ store_settings k → marks ≡ store_marks k → IsPlanFor settings marks s.query result → result ≡ Err (errors.Fault fault)
     → o ≡ Fault (plan_fault_text fault) → OfEachHistory k (λ opening h. IsPlannedOutcome opening h s o)
 planned_fault k settings marks s result fault o shows st mt p is e opening h stands =
     subst (IsPlannedOutcome opening h s) (sym e) (refused fault (plan_carried k settings marks opening h s result (Err (errors.Fault fault)) shows stands st mt is p))
 
 pub explained_plan : (k : StoreData) (settings : Settings) (marks : Marks) (s : Select) (result : Result (List Piece) PlanError) (plan : List Piece) (o : Outcome)
-    → ShowsEach k → settings ≡ k.settings → marks ≡ k.marks → IsPlanFor settings marks s.query result → result ≡ Ok plan
+    → ShowsEach k → settings ≡ store_settings k → marks ≡ store_marks k → IsPlanFor settings marks s.query result → result ≡ Ok plan
     → o ≡ Certificate (certificate_text plan) → OfEachHistory k (λ opening h. IsExplained opening h s o)
 explained_plan k settings marks s result plan o shows st mt p is e opening h stands =
     subst (IsExplained opening h s) (sym e) (explaining.planned plan (plan_carried k settings marks opening h s result (Ok plan) shows stands st mt is p))
 
 pub explained_fault : (k : StoreData) (settings : Settings) (marks : Marks) (s : Select) (result : Result (List Piece) PlanError) (fault : PlanFault) (o : Outcome)
-    → ShowsEach k → settings ≡ k.settings → marks ≡ k.marks → IsPlanFor settings marks s.query result → result ≡ Err (errors.Fault fault)
+    → ShowsEach k → settings ≡ store_settings k → marks ≡ store_marks k → IsPlanFor settings marks s.query result → result ≡ Err (errors.Fault fault)
     → o ≡ Fault (plan_fault_text fault) → OfEachHistory k (λ opening h. IsExplained opening h s o)
 explained_fault k settings marks s result fault o shows st mt p is e opening h stands =
     subst (IsExplained opening h s) (sym e) (explaining.unplanned fault (plan_carried k settings marks opening h s result (Err (errors.Fault fault)) shows stands st mt is p))
 
 -- a plan that is valid has no fault
 pub plan_faultless : (k : StoreData) (settings : Settings) (marks : Marks) (s : Select) (ps : List Piece) (result : Result Plan CheckError) (e : CheckError) (f : CheckFault)
-    → settings ≡ k.settings → marks ≡ k.marks → IsValid k.settings k.marks s.query ps
+    → settings ≡ store_settings k → marks ≡ store_marks k → IsValid (store_settings k) (store_marks k) s.query ps
     → IsCheckOf (record { settings = settings; marks = marks; select = s; pieces = ps }) result → result ≡ Err e → e ≡ checks.Fault f → ⊥
 plan_faultless k settings marks s ps result e f st mt serves said is kind =
     let p : Plan = record { settings = settings; marks = marks; select = s; pieces = ps } in
     let refused : IsCheckOf p (Err (checks.Fault f)) = subst (IsCheckOf p) (is ∙ ap Err kind) said in
     let still : IsValid settings marks s.query ps =
-    subst (λ (m : Marks). IsValid settings m s.query ps) (sym mt) (subst (λ (t : Settings). IsValid t k.marks s.query ps) (sym st) serves) in
+    subst (λ (m : Marks). IsValid settings m s.query ps) (sym mt) (subst (λ (t : Settings). IsValid t (store_marks k) s.query ps) (sym st) serves) in
     refused.1 still
 
 -- ---- by pieces that are handed in
 
 pub checked_rows : (k : StoreData) (settings : Settings) (marks : Marks) (s : Select) (ps : List Piece) (result : Result Plan CheckError) (plan : Plan) (o : Outcome)
-    → ShowsEach k → settings ≡ k.settings → marks ≡ k.marks
+    → ShowsEach k → settings ≡ store_settings k → marks ≡ store_marks k
     → IsCheckOf (record { settings = settings; marks = marks; select = s; pieces = ps }) result → result ≡ Ok plan
     → OfEachHistory k (λ opening h. o ≡ rows_over (latest_of h) plan.select) → OfEachHistory k (λ opening h. IsChecked opening h ps s o)
 checked_rows k settings marks s ps result plan o shows st mt said is e opening h stands =
@@ -111,7 +111,7 @@ checked_rows k settings marks s ps result plan o shows st mt said is e opening h
     subst (IsChecked opening h ps s) (sym rows) (valid (carried (λ t m. IsValid t m s.query ps) k settings marks opening h shows stands st mt yes.1))
 
 pub checked_fault : (k : StoreData) (settings : Settings) (marks : Marks) (s : Select) (ps : List Piece) (result : Result Plan CheckError) (f : CheckFault) (o : Outcome)
-    → ShowsEach k → settings ≡ k.settings → marks ≡ k.marks
+    → ShowsEach k → settings ≡ store_settings k → marks ≡ store_marks k
     → IsCheckOf (record { settings = settings; marks = marks; select = s; pieces = ps }) result → result ≡ Err (checks.Fault f)
     → o ≡ Fault (check_fault_text f) → OfEachHistory k (λ opening h. IsChecked opening h ps s o)
 checked_fault k settings marks s ps result f o shows st mt said is e opening h stands =

@@ -7,7 +7,7 @@ use Rattle.ts_core.specs.queries.Queries.{Query, matches}
 use Rattle.ts_core.specs.settings.Settings.{Settings}
 use Rattle.ts_core.specs.store.History.{History}
 use Rattle.ts_core.specs.store.Marks.{Marks}
-use Rattle.ts_core.specs.store.StoreData.{StoreData, state_of, OfEachHistory, ShowsEach}
+use Rattle.ts_core.specs.store.StoreData.{StoreData, state_of, OfEachHistory, ShowsEach, store_settings, store_marks}
 use Rattle.ts_core.specs.store.Views.{view_state_of}
 use Rattle.ts_core.proofs.queries.AnswersLaws.{filter_same}
 use Rattle.ts_check.specs.Checks.{Plan}
@@ -46,14 +46,14 @@ count_shown k s plan n shows e is opening h stands =
     is.answer opening h (shows opening h stands) ∙ ap (λ (x : Select). length (filter (matches x.query) (latest_of h))) e
 
 pub was_counted : (k : StoreData) (settings : Settings) (marks : Marks) (q : Query) (r : Result (List Piece) PlanError) (plan : List Piece) (n : ℕ)
-    → ShowsEach k → settings ≡ k.settings → marks ≡ k.marks → IsPlanFor settings marks q r → r ≡ Ok plan
+    → ShowsEach k → settings ≡ store_settings k → marks ≡ store_marks k → IsPlanFor settings marks q r → r ≡ Ok plan
     → OfEachHistory k (λ opening h. n ≡ length (filter (matches q) (latest_of h))) → OfEachHistory k (λ opening h. IsCounted opening h q (Ok n))
 was_counted k settings marks q r plan n shows st mt p is e opening h stands =
     let planned = carried (λ t m. IsPlanFor t m q (Ok plan)) k settings marks opening h shows stands st mt (subst (IsPlanFor settings marks q) is p) in
     ((plan, planned), e opening h stands)
 
 pub was_refused : (k : StoreData) (settings : Settings) (marks : Marks) (q : Query) (r : Result (List Piece) PlanError) (fault : PlanFault)
-    → ShowsEach k → settings ≡ k.settings → marks ≡ k.marks → IsPlanFor settings marks q r → r ≡ Err (plans.Fault fault)
+    → ShowsEach k → settings ≡ store_settings k → marks ≡ store_marks k → IsPlanFor settings marks q r → r ≡ Err (plans.Fault fault)
     → OfEachHistory k (λ opening h. IsCounted opening h q (Err (errors.NoPlan fault)))
 was_refused k settings marks q r fault shows st mt p is opening h stands =
     carried (λ t m. IsPlanFor t m q (Err (plans.Fault fault))) k settings marks opening h shows stands st mt (subst (IsPlanFor settings marks q) is p)

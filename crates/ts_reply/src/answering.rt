@@ -2,7 +2,7 @@
 ghost use Rattle.std.specs.Prelude.{◌≡◌, map, IfOk, string_bytes};
 ghost use Rattle.ts_core.specs.facts.Latest.{latest_of};
 ghost use Rattle.ts_core.specs.plans.Pieces.{IsValid};
-ghost use Rattle.ts_core.specs.store.StoreData.{OfEachHistory, ShowsEach};
+ghost use Rattle.ts_core.specs.store.StoreData.{OfEachHistory, ShowsEach, store_settings, store_marks};
 ghost use Rattle.ts_reply.specs.Answering.{IsPlannedOutcome, IsChecked, IsCertified, IsOutcome, AreOutcomes, is_of_several, IsReplyTo, IsReply};
 ghost use Rattle.ts_reply.specs.Outcomes.{rows_outcome, rows_over};
 ghost use Rattle.ts_reply.specs.OutcomeViews.{outcome_view, given_text};
@@ -37,8 +37,8 @@ fn rows_of<'a, A: Allocator + Copy + 'a>(
     checked: &Checked<A>,
 ) -> Result<Rows<'a, A>, AllocError>
     requires shows { ShowsEach store.now }
-    requires settings { checked.now.settings ≡ store.now.settings }
-    requires marks { checked.now.marks ≡ store.now.marks }
+    requires settings { checked.now.settings ≡ store_settings store.now }
+    requires marks { checked.now.marks ≡ store_marks store.now }
     ensures { IfOk result (λ r. OfEachHistory store.now (λ opening h. rows_outcome r ≡ rows_over (latest_of h) checked.now.select)) }
 {
     match execute_selected(alloc, store, checked) {
@@ -55,7 +55,7 @@ fn rows_by_plan<'a, A: Allocator + Copy + 'a>(
     query: &Query<A>,
     plan: &Certificate<A>,
 ) -> Result<Rows<'a, A>, AllocError>
-    requires { IsValid store.now.settings store.now.marks query.now.query plan.now }
+    requires { IsValid (store_settings store.now) (store_marks store.now) query.now.query plan.now }
     ensures { IfOk result (λ r. OfEachHistory store.now (λ opening h. rows_outcome r ≡ rows_over (latest_of h) query.now)) }
 {
     match check(alloc, store.settings(), store.marks(), query, plan) {

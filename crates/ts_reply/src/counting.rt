@@ -3,7 +3,7 @@ ghost use Rattle.std.specs.Prelude.{◌≡◌, ◌<ℤ◌, length, filter, IfOk}
 ghost use Rattle.ts_core.specs.facts.Latest.{latest_of};
 ghost use Rattle.ts_core.specs.plans.Pieces.{IsValid};
 ghost use Rattle.ts_core.specs.queries.Queries.{matches};
-ghost use Rattle.ts_core.specs.store.StoreData.{OfEachHistory};
+ghost use Rattle.ts_core.specs.store.StoreData.{OfEachHistory, store_settings, store_marks};
 ghost use Rattle.ts_reply.specs.Counts.{IsCount, IsCounted};
 ghost use Rattle.ts_reply.specs.declared.counting.CountError.TheVariants as errors;
 
@@ -45,7 +45,7 @@ fn counted_by<'a, A: Allocator + Copy + 'a>(
     query: &Query<A>,
     plan: &Certificate<A>,
 ) -> Result<u64, AllocError>
-    requires { IsValid store.now.settings store.now.marks query.now.query plan.now }
+    requires { IsValid (store_settings store.now) (store_marks store.now) query.now.query plan.now }
     ensures { IfOk result (λ n. OfEachHistory store.now (λ opening h. n ≡ length (filter (matches query.now.query) (latest_of h)))) }
 {
     let checked = match check(alloc, store.settings(), store.marks(), query, plan) {

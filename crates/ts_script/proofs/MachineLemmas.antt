@@ -7,7 +7,7 @@ use Rattle.ts_core.specs.settings.Settings.{Settings}
 use Rattle.ts_core.specs.settings.SettingsFaults.{settings_fault_text}
 use Rattle.ts_core.specs.settings.SettingsTexts.{settings_read}
 use Rattle.ts_core.specs.declared.settings.settings_fault.SettingsFault.{SettingsFault}
-use Rattle.ts_core.specs.store.StoreData.{StoreData, OfEachHistory, GoesOn, state_of}
+use Rattle.ts_core.specs.store.StoreData.{StoreData, OfEachHistory, GoesOn, store_settings, store_marks, state_of}
 use Rattle.ts_core.specs.moves.StoreMoves.{run_begun}
 use Rattle.ts_core.specs.store.Marks.{Marks, marks_of}
 use Rattle.ts_core.specs.store.StoreStates.{StandsFor}
@@ -25,6 +25,7 @@ use Rattle.ts_core.specs.text.FaultTexts.{memory_text}
 use Rattle.ts_reply.specs.Answering.{IsReply}
 use Rattle.ts_reply.specs.Explaining.{IsExplanation}
 use Rattle.ts_reply.specs.declared.epoch.Epoch.{Epoch}
+use Rattle.ts_store.proofs.retain.RunsStay.{begun_waiting}
 use Rattle.ts_store.proofs.store.WholeStatesKept.{line_written, step_taken}
 use Rattle.ts_script.specs.ScriptLines.{script_line_limit}
 use Rattle.ts_script.specs.ScriptCertificates.{with_line_feeds}
@@ -59,7 +60,7 @@ wrote_as text (Err e) s m k i w = (with_whole w.0 s, writes_no_memory text w.0 w
 
 -- the effect of a text is one in the state's precision, at its moment
 pub wrote : {E : Type 0} (text : Text) (r : Result LineOutcome E) (s : State) (m : MachineState) (k : StoreData) → IsMachineIn s m → ((t : StoreState) → IsStoreIn t m.kept → WritesFrom m.precision m.moment t text r k)
-    → GrowsAfter m.kept.settings.rules m.kept.marks.lows (facts_of_text (parts_in m.precision m.moment text)) r (inventory_of m.kept) (inventory_of k) → TransitionTo (Write text) s (written_text r) (keeping k m)
+    → GrowsAfter (store_settings m.kept).rules (store_marks m.kept).lows (facts_of_text (parts_in m.precision m.moment text)) r (inventory_of m.kept) (inventory_of k) → TransitionTo (Write text) s (written_text r) (keeping k m)
 wrote {E} text r s m k i each grows =
     let w = line_written {E = E} m.precision m.moment text r m.kept k each grows (whole_state s) (whole_in s m i) in
     wrote_as {E = E} text r s m k i (subst (λ (t : ℤ). LineWrites s.precision t (whole_state s) text {E = E} r k) i.moment (subst (λ (p : TimeUnit). LineWrites p m.moment (whole_state s) text {E = E} r k) i.precision w))
@@ -127,17 +128,17 @@ steps_marks opening (suc n) h = steps_marks opening n h
 abbrev IsClosed : State → Type 0
 IsClosed s = IsRunOpen s.store.history → ⊥
 
-pub retained : (answer : Text) (s : State) (m : MachineState) (k : StoreData) → IsMachineIn s m → IsClosed s → Retains m.moment m.kept k → answer ≡ line (marks_text k.settings k.marks) → TransitionTo Retain s answer (keeping k m)
+pub retained : (answer : Text) (s : State) (m : MachineState) (k : StoreData) → IsMachineIn s m → IsClosed s → Retains m.moment m.kept k → answer ≡ line (marks_text (store_settings k) (store_marks k)) → TransitionTo Retain s answer (keeping k m)
 retained answer s m k i idle r told =
     let stands : StandsFor s.store.opening (whole_run s.moment r.steps s.store.history) (state_of k) = subst (λ (t : ℤ). StandsFor s.store.opening (whole_run t r.steps s.store.history) (state_of k)) i.moment (r.history s.store.opening s.store.history i.store.stands) in
     let new : State = with_run r.steps (inventory_of k) s in
     let marks : answer ≡ line (current_marks_text new) = told ∙ (λ j. line (marks_text (stands.settings j) (stands.marks j))) in
-    let lows : k.marks.lows ≡ lows_in (with_begin s.moment (whole_state s)) = ap (λ (z : Marks). z.lows) (stands.marks ∙ steps_marks s.store.opening r.steps (Begin s.moment ∷ s.store.history)) in
+    let lows : (store_marks k).lows ≡ lows_in (with_begin s.moment (whole_state s)) = ap (λ (z : Marks). z.lows) (stands.marks ∙ steps_marks s.store.opening r.steps (Begin s.moment ∷ s.store.history)) in
     let whole : RunsWhole s r.steps (inventory_of k) = record {
       count = r.inventory_steps ∙ (λ j. steps_in (lows j) (all_waiting (i.inventory j)));
       left = subst (λ (z : Inventory). LeavesRecent (rules_in (whole_state s)) (lows_in (with_begin s.moment (whole_state s))) z (inventory_of k)) i.inventory
           (subst (λ (ls : List ℤ). LeavesRecent (rules_in (whole_state s)) ls (inventory_of m.kept) (inventory_of k)) lows
-          (subst (λ (z : Settings). LeavesRecent z.rules k.marks.lows (inventory_of m.kept) (inventory_of k)) i.store.stands.settings r.inventory));
+          (subst (λ (z : Settings). LeavesRecent z.rules (store_marks k).lows (inventory_of m.kept) (inventory_of k)) i.store.stands.settings r.inventory));
     } in (
       new,
       subst (λ (a : Text). Transition s Retain a new) (sym marks) (retains r.steps (inventory_of k) idle whole),
@@ -147,7 +148,7 @@ retained answer s m k i idle r told =
 pub retained_no_memory : (s : State) (m : MachineState) → IsMachineIn s m → TransitionTo Retain s (line memory_text) m
 retained_no_memory s m i = (s, retains_no_memory, i)
 
-pub begun : (answer : Text) (s : State) (m : MachineState) (k : StoreData) → IsMachineIn s m → IsClosed s → k ≡ run_begun m.moment m.kept → GoesOn m.kept (Begin m.moment) k → answer ≡ line (marks_text k.settings k.marks) → TransitionTo BeginRun s answer (keeping k m)
+pub begun : (answer : Text) (s : State) (m : MachineState) (k : StoreData) → IsMachineIn s m → IsClosed s → k ≡ run_begun m.moment m.kept → GoesOn m.kept (Begin m.moment) k → answer ≡ line (marks_text (store_settings k) (store_marks k)) → TransitionTo BeginRun s answer (keeping k m)
 begun answer s m k i idle is goes told =
     let stands : StandsFor s.store.opening (Begin s.moment ∷ s.store.history) (state_of k) = subst (λ (t : ℤ). StandsFor s.store.opening (Begin t ∷ s.store.history) (state_of k)) i.moment (goes s.store.opening s.store.history i.store.stands) in
     let marks : answer ≡ line (current_marks_text (with_open_run s)) = told ∙ (λ j. line (marks_text (stands.settings j) (stands.marks j))) in (
@@ -160,7 +161,7 @@ begun answer s m k i idle is goes told =
         fresh = i.fresh;
         certificate = i.certificate;
         store = record { stands = stands; series = ap (λ (z : StoreData). z.series) is ∙ i.store.series };
-        inventory = ap inventory_of is ∙ ap all_waiting i.inventory;
+        inventory = ap inventory_of is ∙ begun_waiting m.moment m.kept ∙ ap all_waiting i.inventory;
       },
     )
 

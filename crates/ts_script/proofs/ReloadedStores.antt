@@ -9,7 +9,7 @@ use Rattle.ts_core.specs.store.History.{History}
 use Rattle.ts_core.specs.store.RawFacts.{is_waiting}
 use Rattle.ts_core.specs.text.FaultTexts.{memory_text}
 use Rattle.ts_core.specs.store.StoreStates.{ColumnPoints, StandsFor, column_of}
-use Rattle.ts_core.specs.store.StoreData.{StoreData, state_of}
+use Rattle.ts_core.specs.store.StoreData.{StoreData, store_settings, store_marks, state_of}
 use Rattle.ts_core.specs.io.Devices.{Input}
 use Rattle.ts_store.specs.write.LineTexts.{with_series}
 use Rattle.ts_store.specs.store.SizedStores.{IsSized}
@@ -38,19 +38,19 @@ use Rattle.ts_script.proofs.ReloadedCells.{all_filled}
 
 module _ (opening : Settings) (h : History) (k n : StoreData) (old : StandsFor opening h (state_of k)) (r : IsReloadOf k n) where
   pub stands : StandsFor opening h (state_of n)
-  stands = pictured_stands k n (store_image k r.order) (written_picture opening h k r.order old r.sized r.ordered) r.made.made opening h old
+  stands = pictured_stands k n (store_image k r.order) (written_picture opening h k r.order old r.ordered) r.made.made opening h old
 
   columns : map column_of n.columns ≡ saved_columns r.order
   columns = ap (λ (cs : List ColumnPoints). map column_of cs) r.made.columns ∙ all_named k r.order
 
-  pub reloaded_as : Reloaded h k.settings.rules k.marks.lows k.series (inventory_of k) n.series (inventory_of n)
+  pub reloaded_as : Reloaded h (store_settings k).rules (store_marks k).lows k.series (inventory_of k) n.series (inventory_of n)
   reloaded_as = record {
     order = r.order;
     saved = r.ordered;
     series = r.made.series ∙ map-map key_in (image_series_of k) r.order;
     columns = columns;
     waiting = r.made.waiting ∙ all_waiting k r.order r.ordered.columns ∙ ap (λ (cs : List Column). filter (is_waiting k.waiting) cs) (sym columns);
-    cells = all_filled opening h k n r.order old stands r.made r.sized;
+    cells = all_filled opening h k n r.order old stands r.made;
   }
 
 -- ---- the machine
@@ -62,7 +62,7 @@ was_reloaded s m k i r =
     subst (λ (z : Inventory). Reloaded s.store.history (rules_in (whole_state s)) (lows_in (whole_state s)) s.store.series z k.series (inventory_of k)) i.inventory
     (subst (λ (z : List Series). Reloaded s.store.history (rules_in (whole_state s)) (lows_in (whole_state s)) z (inventory_of m.kept) k.series (inventory_of k)) i.store.series
     (subst (λ (z : Marks). Reloaded s.store.history (rules_in (whole_state s)) z.lows m.kept.series (inventory_of m.kept) k.series (inventory_of k)) i.store.stands.marks
-    (subst (λ (z : Settings). Reloaded s.store.history z.rules m.kept.marks.lows m.kept.series (inventory_of m.kept) k.series (inventory_of k)) i.store.stands.settings now))) in (
+    (subst (λ (z : Settings). Reloaded s.store.history z.rules (store_marks m.kept).lows m.kept.series (inventory_of m.kept) k.series (inventory_of k)) i.store.stands.settings now))) in (
       with_store (with_series k.series s.store) (inventory_of k) s,
       reloads k.series (inventory_of k) is,
       record {

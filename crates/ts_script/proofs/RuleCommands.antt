@@ -5,7 +5,7 @@ use Rattle.ts_core.specs.text.FaultTexts.{memory_text}
 use Rattle.ts_core.specs.settings.Settings.{Settings}
 use Rattle.ts_core.specs.settings.SettingsFaults.{is_named, settings_fault_text, unknown_rule_text}
 use Rattle.ts_core.specs.declared.settings.settings_fault.SettingsFault.{SettingsFault}
-use Rattle.ts_core.specs.store.StoreData.{StoreData}
+use Rattle.ts_core.specs.store.StoreData.{StoreData, store_settings}
 use Rattle.ts_store.specs.store.WholeStates.{state_without_rule}
 use Rattle.ts_store.specs.rules.RulesChanged.{RuleGoes, DropsRule}
 use Rattle.ts_store.specs.rules.RuleTexts.{rule_for, settings_in, low_in, TextComes}
@@ -36,7 +36,7 @@ module _ (text : Text) (s : State) (m : MachineState) (k : StoreData) (i : IsMac
   pub rule_no_memory : k ≡ m.kept → TransitionTo (AddRule text) s (line memory_text) (keeping k m)
   rule_no_memory same = (s, adds_no_memory text, stays_in s m k i same)
 
-  pub rule_refused : (fault : SettingsFault) (answer : Reply) → rule_for m.kept.settings text ≡ Err fault → k ≡ m.kept → (text_of answer ≡ line (settings_fault_text fault)) ⊎ (answer ≡ OutOfMemory) → TransitionTo (AddRule text) s (text_of answer) (keeping k m)
+  pub rule_refused : (fault : SettingsFault) (answer : Reply) → rule_for (store_settings m.kept) text ≡ Err fault → k ≡ m.kept → (text_of answer ≡ line (settings_fault_text fault)) ⊎ (answer ≡ OutOfMemory) → TransitionTo (AddRule text) s (text_of answer) (keeping k m)
   rule_refused fault answer read same told =
       elim told as (λ _. TransitionTo (AddRule text) s (text_of answer) (keeping k m)) [
         | inl is ↦ (s, subst (λ (a : Text). Transition s (AddRule text) a s) (sym is) (refuses_rule text fault (subst (λ (z : Settings). rule_for z text ≡ Err fault) i.store.stands.settings read)), stays_in s m k i same)
@@ -52,7 +52,7 @@ found_name false r unknown none = absurd (true≢false (sym (unknown.1 refl) ∙
 
 pub rule_forgotten : {E : Type 0} (r : Result (Unit {0}) E) (name : Text) (s : State) (m : MachineState) (k : StoreData) → IsMachineIn s m → DropsRule m.kept k name r → is_err r ≡ false → TransitionTo (DropRule name) s dropped_text (keeping k m)
 rule_forgotten r name s m k i drops_rule none =
-    let named : is_named m.kept.settings.rules name ≡ true = found_name (is_named m.kept.settings.rules name) r drops_rule.unknown none in
+    let named : is_named (store_settings m.kept).rules name ≡ true = found_name (is_named (store_settings m.kept).rules name) r drops_rule.unknown none in
     let goes : RuleGoes m.kept k name = when_ok r (RuleGoes m.kept k name) drops_rule.ok none in (
       with_whole (state_without_rule name (whole_state s)) s,
       drops name (subst (λ (z : Settings). is_named z.rules name ≡ true) i.store.stands.settings named),

@@ -1,5 +1,6 @@
 //! The state machine of a script: each command takes one step and has one reply.
 ghost use Rattle.std.specs.Prelude.{◌≡◌, ◌≤◌, length, IfOk, string_bytes, string_len, string_capacity};
+ghost use Rattle.ts_core.specs.store.StoreData.{store_settings, store_marks};
 ghost use Rattle.ts_reply.specs.OutcomeViews.{given_text};
 ghost use Rattle.ts_script.specs.CommandParts.{command_view};
 ghost use Rattle.ts_script.specs.ScriptLines.{script_line_limit};
@@ -259,7 +260,7 @@ impl Machine {
     fn marks(&self, text: String) -> Reply
         requires empty { string_len text ≡ 0 }
         requires spare { MARKS_CAPACITY ≤ string_capacity text }
-        ensures { text_of result ≡ line (marks_text self.now.kept.settings self.now.kept.marks) }
+        ensures { text_of result ≡ line (marks_text (store_settings self.now.kept) (store_marks self.now.kept)) }
     {
         Reply::Body(marks_line(text, self.store.settings(), self.store.marks()))
     }

@@ -2,7 +2,7 @@
 //! history.
 ghost use Rattle.std.specs.Prelude.{◌≡◌, ◌∷◌, [], map};
 ghost use Rattle.ts_core.specs.facts.Facts.{is_within};
-ghost use Rattle.ts_core.specs.store.StoreData.{state_of};
+ghost use Rattle.ts_core.specs.store.StoreData.{state_of, store_settings, store_marks};
 ghost use Rattle.ts_core.specs.store.Views.{view_state_of};
 
 use crate::stores::{ONE_RULE, at_second, count_plan, store_of, write_all};
@@ -37,8 +37,8 @@ struct OneCell<'a, A: Allocator> {
 
 impl<'a, A: Allocator + Copy> View<A> for OneCell<'a, A> {
     ghost seen = { λ v. record {
-      settings = v.store.now.settings;
-      marks = v.store.now.marks;
+      settings = store_settings v.store.now;
+      marks = store_marks v.store.now;
       columns = v.store.now.columns;
       rules = map (λ r. record { rule = r.rule; low = r.low; cells = v.cell.cell ∷ []; parts = λ k. v.cell.parts }) (view_state_of (state_of v.store.now)).rules;
     } };

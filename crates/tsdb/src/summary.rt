@@ -168,7 +168,7 @@ impl<'a> Summary<'a> {
         bytes: u64,
     ) -> Result<Summary<'a>, AllocError>
         ensures image { IfOk result (λ s. (s.version ≡ version) × (s.bytes ≡ bytes)) }
-        ensures run { IfOk result (λ s. (s.raw_mark ≡ store.now.marks.raw) × (s.run_open ≡ store.now.running)) }
+        ensures run { IfOk result (λ s. (s.raw_mark ≡ store.now.raw_mark) × (s.run_open ≡ store.now.running)) }
         ensures counts { IfOk result (λ s. (s.accepted ≡ store.now.accepted) × (s.raw_points ≡ length (facts_of store.now.columns))) }
     {
         let all = store.saved_series(alloc)?;

@@ -15,7 +15,7 @@ returns-in-Err g c = steps_refused c.args.now c.args.query.now c.args.store.now 
 pub returns : goal.returns
 returns g c =
     let k : StoreData = c.run_steps-progress.new.store in
-    let text : c.progress_body.result.bytes ≡ progress_text c.run_steps-progress.result.done k.marks.raw c.run_steps-progress.result.taken = search rules in
+    let text : c.progress_body.result.bytes ≡ progress_text c.run_steps-progress.result.done k.raw_mark c.run_steps-progress.result.taken = search rules in
     maintained c.args.now c.args.query.now c.args.store.now c.in-Ok.limit k c.run_steps-progress.result.taken c.run_steps-progress.result.done (Brief Success c.progress_body.result) c.in-Ok.ensures c.open_run.ensures.begins
     (subst (λ (old : StoreData). HasStepped c.in-Ok.limit old k c.run_steps-progress.result.taken c.run_steps-progress.result.done) c.open_run.ensures.opened c.run_steps-progress.ensures)
     (ap (λ (t : Text). answer_reply true t) text)

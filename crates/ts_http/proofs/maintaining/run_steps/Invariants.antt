@@ -1,4 +1,5 @@
 use Rattle.std.proofs.Common.{◌≡◌, ◌≤◌, true}
+use Rattle.ts_core.specs.store.StoreData.{store_marks}
 use Rattle.ts_store.specs.store.WholeStates.{WholeState, IsWholeStateOf}
 use Rattle.ts_store.proofs.store.WholeStatesKept.{Steps}
 use Rattle.ts_http.proofs.maintaining.run_steps.Given as goal
@@ -8,5 +9,5 @@ invariant-loop-taken g l = record {
   within : l.taken ≤ l.limit;
   steps : (s : WholeState) → IsWholeStateOf s l.fn.store → Steps s l.taken l.store;
   running : l.store.running ≡ true;
-  marks : l.store.marks ≡ l.fn.store.marks;
+  marks : store_marks l.store ≡ store_marks l.fn.store;
 }
