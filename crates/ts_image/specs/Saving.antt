@@ -63,7 +63,7 @@ pub record FitsCell (r : Rule) (c : FrozenCell) : Type 0 where
   pub index : FitsSigned w64 c.cell.index
   pub group : length c.cell.group ≡ length r.kept_tags
 
--- so do the saved cells of each rule
+-- the saved cells of each rule fit
 abbrev pub FitCells : StoreData → Type 0
 FitCells k = AllByRecursion (λ (r : RuleData). AllByRecursion (FitsCell r.rule) (frozen_from r.low r.cells)) k.rules
 
