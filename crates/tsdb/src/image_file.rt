@@ -1,6 +1,9 @@
 //! The file of a store's image: locked while it is served, loaded before the first request, and saved so that a crash
 //! leaves the old image or the new one.
-ghost use Rattle.std.specs.Prelude.{IfOk, IfSome};
+ghost use Rattle.std.specs.Prelude.{◌≡◌, IfOk, IfSome, Some, None};
+ghost use Rattle.std.specs.IoError.{error_kind};
+ghost use Rattle.std.specs.declared.io.ErrorKind.TheVariants.{OutOfMemory as NoMemory};
+ghost use Rattle.ts_image.specs.declared.load_fault.LoadFault.TheVariants.{OutOfMemory, Device};
 ghost use Rattle.tsdb.specs.Services.{IsFromImage};
 
 use std::alloc::{AllocError, Global};
@@ -141,7 +144,10 @@ fn refused(error: io::Error) -> Failed<SaveFault> {
 }
 
 /// Returns the error of a load that the system refused.
-pub fn not_loaded(error: io::Error) -> Failed<LoadFault> {
+pub fn not_loaded(error: io::Error) -> Failed<LoadFault>
+    ensures memory { error_kind error ≡ NoMemory → (result.fault ≡ OutOfMemory) × (result.cause ≡ None) }
+    ensures other { (error_kind error ≡ NoMemory → ⊥) → (result.fault ≡ Device) × (result.cause ≡ Some error) }
+{
     if error.kind() == io::ErrorKind::OutOfMemory {
         Failed {
             fault: LoadFault::OutOfMemory,
