@@ -135,8 +135,8 @@ fn with_blocks<F: Fold>(fold: F, low: i64, high: i64, points: &mut Points<'_>) -
     fold
 }
 
-/// Adds points to a run and to the runs after it, and merges each run but the last into its row. At most `others` points
-/// are to come. Returns the last run.
+/// Adds points to a run and to the runs after it, and merges each run but the last into its row. At most `others`
+/// points are to come. Returns the last run.
 fn extend_runs<F: Fold>(
     rows: &mut [Agg],
     buckets: &mut BucketCursor,

@@ -239,8 +239,8 @@ impl<'a, A: Allocator> Line<'a, A> {
     }
 
     /// Writes the tags as (key, value) pairs into `pairs`, sorted by key in byte order. Does not allocate. `pairs` must
-    /// be empty and have capacity for all tags. Creating an `ArrayVec` blanks all of it, so pass a small one if the line
-    /// has few tags. The line's series is one that a line can state: no name is empty, no key is `time`.
+    /// be empty and have capacity for all tags. Creating an `ArrayVec` blanks all of it, so pass a small one if the
+    /// line has few tags. The line's series is one that a line can state: no name is empty, no key is `time`.
     pub fn tags_by_key<'b, const N: usize>(&'b self, pairs: &mut ArrayVec<(&'b str, &'b str), N>)
         requires none { pairs.old.items ≡ [] }
         requires spare { length self.now.tags ≤ N }

@@ -46,8 +46,8 @@ fn first_boundary<A: Allocator>(rule: &Rule<A>, from: Instant, end: Instant) -> 
     from.checked_add(ahead, end)
 }
 
-/// Returns true if a bucket of the rule is still complete and doesn't cross a bucket boundary of the query. `aligned` is
-/// true if no bucket of the rule does.
+/// Returns true if a bucket of the rule is still complete and doesn't cross a bucket boundary of the query. `aligned`
+/// is true if no bucket of the rule does.
 fn is_usable<A: Allocator>(
     context: &QueryContext<'_, A>,
     marked: &MarkedRule<'_, A>,

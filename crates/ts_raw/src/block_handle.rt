@@ -3,8 +3,8 @@ use std::mem::size_of;
 use ts_core::{Agg, Time};
 
 /// A block: the offsets of its first byte, of the byte after it, and of its values within it; the number of its points;
-/// its last time; the nanoseconds from each of its times to the next, or 0 if they differ or there is one point; and the
-/// aggregate of its points. The spacing takes no memory, since the aggregate begins at a multiple of 16 bytes.
+/// its last time; the nanoseconds from each of its times to the next, or 0 if they differ or there is one point; and
+/// the aggregate of its points. The spacing takes no memory, since the aggregate begins at a multiple of 16 bytes.
 #[derive(Clone, Copy)]
 pub(crate) struct BlockHandle {
     pub(crate) start: usize,

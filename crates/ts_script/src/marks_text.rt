@@ -65,8 +65,8 @@ fn raw_to(text: &mut String, mark: i64) -> Result<(), AllocError>
     push_all(text, &["marks ", Buffer::new().format(mark)])
 }
 
-/// Appends the raw mark and the low index of each rule, as the command `retain` prints them. Does not allocate if `text`
-/// has the capacity: 2,414 bytes.
+/// Appends the raw mark and the low index of each rule, as the command `retain` prints them. Does not allocate if
+/// `text` has the capacity: 2,414 bytes.
 pub fn marks_to(
     text: &mut String,
     settings: &Settings<Global>,

@@ -121,8 +121,8 @@ fn rollup_series_for<A: Allocator + Copy>(
     Ok(series)
 }
 
-/// Creates the cell of a bucket in a rollup series, which must be missing, with this frozen part. On allocation failure,
-/// no cell is created.
+/// Creates the cell of a bucket in a rollup series, which must be missing, with this frozen part. On allocation
+/// failure, no cell is created.
 fn add_frozen<A: Allocator + Copy>(
     cells: &mut Cells<Agg, A>,
     index: &i128,

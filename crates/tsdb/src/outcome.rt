@@ -59,8 +59,8 @@ impl CallOutcome {
         }
     }
 
-    /// Returns the line for standard error, if there is one and it is none of a fault. For a wrong command line, clap has
-    /// already printed the error.
+    /// Returns the line for standard error, if there is one and it is none of a fault. For a wrong command line, clap
+    /// has already printed the error.
     pub fn error_line(self) -> Option<&'static str>
         ensures { MatchOption result (error_line self ≡ None) (λ line. error_line self ≡ Some line.now) }
     {

@@ -5,8 +5,8 @@ use crate::facts::{FieldName, Key, Time};
 use std::alloc::Allocator;
 use std::marker::Model;
 
-/// A value of one field of a series, at one time. The store keeps points in columns, so it makes none: this type says in
-/// a program what definitions call a fact.
+/// A value of one field of a series, at one time. The store keeps points in columns, so it makes none: this type says
+/// in a program what definitions call a fact.
 #[derive(Drop)]
 pub struct Fact<A: Allocator> {
     key: Key<A>,

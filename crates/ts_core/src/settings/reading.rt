@@ -184,8 +184,8 @@ pub fn json_value(json: Global, text: &str) -> Result<Value, SettingsError>
 }
 
 impl<A: Allocator + Copy> Rule<A> {
-    /// Creates the rule that a JSON value is. Returns the error `Form` if it isn't one, and so is out of memory only for
-    /// a rule.
+    /// Creates the rule that a JSON value is. Returns the error `Form` if it isn't one, and so is out of memory only
+    /// for a rule.
     pub fn of_json(alloc: A, value: &Value) -> Result<Rule<A>, SettingsError>
         ensures ok { IfOk result (λ r. rule_parsed (view value.now) ≡ Some r) }
         ensures err { IfErr result (λ e. IsRefusal e (rule_parsed (view value.now))) }

@@ -98,8 +98,8 @@ impl<A: Allocator + Copy> TagTable<A> {
         Ok(())
     }
 
-    /// Prepends a series to the chains of its tags, whose hashes are by a seed. When out of memory, it may be in some of
-    /// them.
+    /// Prepends a series to the chains of its tags, whose hashes are by a seed. When out of memory, it may be in some
+    /// of them.
     pub(crate) fn push_all(
         &mut self,
         seed: &RandomState,

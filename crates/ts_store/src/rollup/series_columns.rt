@@ -1,5 +1,6 @@
 //! A small vector of the columns of a rollup series: most rollup series have one, which is stored inline; more are in a
-//! vector on the heap. The kit's `SmallVec` keeps a whole `Vec` in the value, which costs each rollup series more bytes.
+//! vector on the heap. The kit's `SmallVec` keeps a whole `Vec` in the value, which costs each rollup series more
+//! bytes.
 ghost use Rattle.std.specs.Prelude.{◌≡◌, ◌++◌, ◌∷◌, [], true, OnOk};
 
 use std::alloc::{AllocError, Allocator};
