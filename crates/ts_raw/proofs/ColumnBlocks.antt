@@ -1,18 +1,16 @@
 -- A column as coded blocks.
-use Rattle.std.proofs.Common.{◌≡◌, ℕ, zero, suc, ◌+◌, ◌-◌, ◌<◌, ◌≤◌, max, ℤ, pos, ◌+ℤ◌, ◌<ℤ◌, ◌≤ℤ◌, int_cmp, int_lt, int_le, true, false, is_lt, is_eq, cond, T, List, [], ◌∷◌, ◌++◌, length, take, drop, filter, get_or, slice_get, ⊎_elim, append-nil, length-append, length-drop, drop-cons, Option, Some, None, Result, Ok, Err, IfOk, refl, sym, ◌∙◌, ap, subst, arith}
+use Rattle.std.proofs.Common.{◌≡◌, ℕ, zero, suc, ◌+◌, ◌-◌, ◌<◌, ◌≤◌, max, ℤ, pos, ◌+ℤ◌, ◌<ℤ◌, ◌≤ℤ◌, int_cmp, int_lt, int_le, true, false, is_lt, is_eq, cond, T, List, [], ◌∷◌, ◌++◌, length, take, drop, filter, get_or, slice_get, ⊎_elim, append-nil, length-append, length-drop, drop-cons, Option, Some, None, refl, sym, ◌∙◌, ap, subst, arith}
 use Rattle.std.proofs.lemmas.Int.{ints}
 use Rattle.std.proofs.lemmas.Bool.{cases_lt}
-use Rattle.std.proofs.lemmas.List.{take-append-drop, drop-append-le, drop-drop}
+use Rattle.std.proofs.lemmas.List.{take-append-drop, drop-drop}
 use Rattle.std.proofs.Math.Seq.{drop-append-add}
 use Rattle.std.specs.Iterator.{YieldsFirst}
-use Rattle.std.specs.declared.alloc.AllocError.{AllocError}
 use Rattle.std.specs.List.{AllByRecursion}
 use Rattle.std.specs.Cmp.{int_cmp_total}
 use Rattle.std.specs.FinMap as map
 use Rattle.std.specs.FinMap.{put, find}
 use Rattle.std.specs.FinMap.Entries.{below_all}
 use Rattle.ts_core.specs.facts.Facts.{is_within}
-use Rattle.ts_core.specs.facts.Times.{IsTime}
 use Rattle.ts_core.proofs.lists.Places.{both_of}
 use Rattle.ts_core.proofs.lists.Comparisons.{lt_from}
 use Rattle.ts_core.proofs.lists.Windows.{filter-within, filter-nothing_within}
@@ -21,21 +19,18 @@ use Rattle.ts_block.specs.Appending.{last_time}
 use Rattle.ts_raw.specs.declared.coded_blocks.CodedBlocks.{CodedBlocks}
 use Rattle.ts_raw.specs.CodedBlocks.{AreNone, AreSame, AreSoundBlocks, points_of_blocks}
 use Rattle.ts_raw.specs.declared.block_handle.BlockHandle.{BlockHandle}
-use Rattle.ts_raw.specs.declared.rewriting.Rewritten.{Rewritten}
 use Rattle.ts_raw.specs.Columns.{AreTimed}
 use Rattle.ts_raw.specs.PlainColumns.{IsRising, IsStartOf}
-use Rattle.ts_raw.specs.CodedPoints.{block_text_at, block_points_at, coded_points, blocks_at, IsBlockHandle, AreBlocks, AreOrdered, IsCoded, AreCountedBlocks, count_in_blocks, before_first, AllEndBefore, AreApart, LieFrom, IsLastBefore, CutFits}
-use Rattle.ts_raw.specs.Rewriting.{IsRewritten, blocks_of, handles_replaced, cut_in_block, cut_after}
+use Rattle.ts_raw.specs.CodedPoints.{block_text_at, block_points_at, coded_points, blocks_at, IsBlockHandle, AreBlocks, AreOrdered, IsCoded, AreCountedBlocks, count_in_blocks, before_first, AllEndBefore, AreApart, IsLastBefore, CutFits}
 use Rattle.ts_raw.specs.BlockColumns.{AreBlocksOf, texts_at}
 use Rattle.ts_raw.proofs.CodedLemmas.{points_hold}
 use Rattle.ts_raw.proofs.CutLemmas.{first_parts, first_bound, start_behind, is_rising_behind, timed_behind}
-use Rattle.ts_raw.proofs.PointMaps.{rising-put, timed-put, from_sorted-put}
+use Rattle.ts_raw.proofs.PointMaps.{from_sorted-put}
 use Rattle.ts_raw.proofs.PointRanges.{drop-before}
-use Rattle.ts_raw.proofs.PushLemmas.{none_counted, coded_less, all_within}
-use Rattle.ts_raw.proofs.ApartLemmas.{apart_replaced}
-use Rattle.ts_raw.proofs.BlockLists.{mark_at, mark_stays, take_next, counted_again, same_points}
+use Rattle.ts_raw.proofs.PushLemmas.{none_counted, coded_less}
+use Rattle.ts_raw.proofs.BlockLists.{mark_at, take_next, counted_again, same_points}
 use Rattle.ts_block.proofs.SplicingLemmas.{put_after}
-use Rattle.ts_raw.proofs.RewriteLemmas.{counts_are, count_front, coded_join, rising_first, put_within, last_after_drop, length_put}
+use Rattle.ts_raw.proofs.RewriteLemmas.{counts_are, count_front, coded_join, rising_first}
 use Rattle.ts_raw.proofs.SplicedLemmas.{few_points}
 
 -- ---- the removed points are within the first block
@@ -110,10 +105,7 @@ none_at t (e ∷ es) h =
     let other : is_eq (int_cmp t e.0) ≡ false = grind (arith, ints) in
     ap (λ b. cond b (Some e.1) (find int_cmp t es)) other ∙ none_at t es h.1
 
--- ---- a rewritten block
-
-split_there : (ms : List BlockHandle) (at : ℕ) (d : BlockHandle) → at < length ms → ms ≡ take at ms ++ (get_or ms at d ∷ drop (at + 1) ms)
-split_there ms at d l = sym (take-append-drop at ms) ∙ ap (λ (x : List BlockHandle). take at ms ++ x) (drop-cons ms at d l ∙ ap (λ k. get_or ms at d ∷ drop k ms) (let n : suc at ≡ at + 1 = omega arith in n))
+-- ---- blocks before a time
 
 ends_of : (t : ℤ) (ms : List BlockHandle) (at : ℕ) → ((k : ℕ) (d : BlockHandle) → k < at → k < length ms → int_lt (get_or ms k d).last t ≡ true) → AllEndBefore (take at ms) t
 ends_of t ms zero f = tt
@@ -123,26 +115,8 @@ ends_of t (m ∷ ms) (suc at) f = (lt_from m.last t (f 0 m (omega arith) (omega 
 pub ends_before : (t : ℤ) (ms : List BlockHandle) (at : ℕ) → at ≤ length ms → IsLastBefore t ms at → AllEndBefore (take at ms) t
 ends_before t ms at l p = ends_of t ms at (λ k d a b. p.0 k d (omega arith) a)
 
-not_less : (x t : ℤ) → int_lt x t ≡ false → t ≤ℤ x
+pub not_less : (x t : ℤ) → int_lt x t ≡ false → t ≤ℤ x
 not_less x t h = grind (arith, ints, h)
-
-pub reaches : (t : ℤ) (ms : List BlockHandle) (at : ℕ) (d : BlockHandle) → at < length ms → IsLastBefore t ms at → t ≤ℤ (get_or ms at d).last
-reaches t ms at d l p = not_less (get_or ms at d).last t (p.1 at d (omega arith) l)
-
-pub is_rewritten : (old new : List ℕ) (ms : List BlockHandle) (at cut : ℕ) (d : BlockHandle) (p : ℤ × ℤ) (r : Rewritten) → AreBlocks old ms → AreApart ms → at < length ms → IsLastBefore p.0 ms at → r.at ≡ at → AreBlocks new (blocks_of r) → LieFrom (length old) (blocks_of r)
-    → coded_points new (blocks_of r) ≡ put int_cmp p.0 p.1 (drop (cut_in_block at cut) (block_points_at old (get_or ms at d))) → take (length old) new ≡ old → IsRewritten new ms cut p r
-is_rewritten old new ms at cut d p r marked apart l part is blocks behind points front =
-    let stays = mark_stays old new (get_or ms at d) front (mark_at old ms at d marked l) in
-    record {
-      within = let e = is in omega arith;
-      old = get_or ms at d;
-      split = split_there ms at d l ∙ ap (λ k. take k ms ++ (get_or ms at d ∷ drop (k + 1) ms)) (sym is);
-      blocks = blocks;
-      points = points ∙ (λ i. put int_cmp p.0 p.1 (drop (cut_in_block (sym is i) cut) (sym stays.1 i)));
-      apart = apart_replaced (length old) (blocks_of r) ms r.at behind apart (all_within old ms marked) (let e = is in omega arith);
-      earlier = subst (λ k. AllEndBefore (take k ms) p.0) (sym is) (ends_before p.0 ms at (omega arith) part);
-      reached = reaches p.0 ms at d l part;
-    }
 
 -- ---- last times rise with the points
 
@@ -196,7 +170,7 @@ ordered_from bytes (m ∷ ms) h s = (
 pub coded_anew : (bytes : List ℕ) (ms : List BlockHandle) → AreBlocks bytes ms → IsRising (coded_points bytes ms) → AreTimed (coded_points bytes ms) → IsCoded bytes ms
 coded_anew bytes ms h s t = record { marked = h; ordered = ordered_from bytes ms h s; rising = s; timed = t }
 
-blocks_front : (bytes : List ℕ) (k : ℕ) (ms : List BlockHandle) → AreBlocks bytes ms → AreBlocks bytes (take k ms)
+pub blocks_front : (bytes : List ℕ) (k : ℕ) (ms : List BlockHandle) → AreBlocks bytes ms → AreBlocks bytes (take k ms)
 blocks_front bytes zero ms h = tt
 blocks_front bytes (suc k) [] h = tt
 blocks_front bytes (suc k) (m ∷ ms) h = (h.0, blocks_front bytes k ms h.1)
@@ -206,7 +180,7 @@ blocks_behind bytes zero ms h = h
 blocks_behind bytes (suc k) [] h = h
 blocks_behind bytes (suc k) (m ∷ ms) h = blocks_behind bytes k ms h.1
 
-blocks_join : (bytes : List ℕ) (ms ns : List BlockHandle) → AreBlocks bytes ms → AreBlocks bytes ns → AreBlocks bytes (ms ++ ns)
+pub blocks_join : (bytes : List ℕ) (ms ns : List BlockHandle) → AreBlocks bytes ms → AreBlocks bytes ns → AreBlocks bytes (ms ++ ns)
 blocks_join bytes [] ns h k = k
 blocks_join bytes (m ∷ ms) ns h k = (h.0, blocks_join bytes ms ns h.1 k)
 
@@ -214,119 +188,6 @@ pub all_dropped : (t : ℤ) (k : ℕ) (ps : List (ℤ × ℤ)) → AllByRecursio
 all_dropped t zero ps h = h
 all_dropped t (suc k) [] h = h
 all_dropped t (suc k) (p ∷ ps) h = all_dropped t k ps h.1
-
--- ---- a rewritten block replaces the old one
-
-module _ (bytes : List ℕ) (ms : List BlockHandle) (total cut : ℕ) (p : ℤ × ℤ) (r : Rewritten) (c : AreCountedBlocks bytes ms total) (f : CutFits cut (blocks_at bytes ms)) (w : IsRewritten bytes ms cut p r) where
-  abbrev F : List (ℤ × ℤ)
-  F = coded_points bytes (take r.at ms)
-
-  abbrev P : List (ℤ × ℤ)
-  P = block_points_at bytes w.old
-
-  abbrev B : List (ℤ × ℤ)
-  B = coded_points bytes (drop (r.at + 1) ms)
-
-  old_is : coded_points bytes ms ≡ F ++ (P ++ B)
-  unfolding coded_points
-  old_is = ap (coded_points bytes) w.split ∙ coded_join bytes (take r.at ms) (w.old ∷ drop (r.at + 1) ms)
-
-  new_is : coded_points bytes (handles_replaced r ms) ≡ F ++ (put int_cmp p.0 p.1 (drop (cut_in_block r.at cut) P) ++ B)
-  new_is = coded_join bytes (take r.at ms) (blocks_of r ++ drop (r.at + 1) ms) ∙ ap (λ (x : List (ℤ × ℤ)). F ++ x) (coded_join bytes (blocks_of r) (drop (r.at + 1) ms) ∙ ap (λ (x : List (ℤ × ℤ)). x ++ B) w.points)
-
-  split_blocks : AreBlocks bytes (take r.at ms ++ (w.old ∷ drop (r.at + 1) ms))
-  split_blocks = subst (AreBlocks bytes) w.split c.coded.marked
-
-  old_mark : (xs ys : List BlockHandle) (m : BlockHandle) → AreBlocks bytes (xs ++ (m ∷ ys)) → IsBlockHandle bytes m
-  old_mark [] ys m h = h.0
-  old_mark (x ∷ xs) ys m h = old_mark xs ys m h.1
-
-  is_old : IsBlockHandle bytes w.old
-  is_old = old_mark (take r.at ms) (drop (r.at + 1) ms) w.old split_blocks
-
-  less : AllByRecursion (λ (q : ℤ × ℤ). q.0 <ℤ p.0) F
-  less = coded_less bytes p.0 (take r.at ms) (blocks_front bytes r.at ms c.coded.marked) w.earlier
-
-  reach : p.0 ≤ℤ last_time P
-  reach = subst (λ z. p.0 ≤ℤ z) is_old.last_is w.reached
-
-  first_cut : (ns : List BlockHandle) (m : BlockHandle) (ys : List BlockHandle) → ns ≡ m ∷ ys → CutFits cut (blocks_at bytes ns) → cut < length (block_points_at bytes m)
-  first_cut ns m ys e h = subst (λ (x : List BlockHandle). CutFits cut (blocks_at bytes x)) e h
-
-  front_cut : (ns : List BlockHandle) (at : ℕ) → (at ≡ 0 → ⊥) → at < length ns → CutFits cut (blocks_at bytes ns) → cut ≤ length (coded_points bytes (take at ns))
-  unfolding coded_points
-  front_cut ns zero n l h = absurd (n refl)
-  front_cut [] (suc k) n l h = absurd (omega arith)
-  front_cut (m ∷ ns) (suc k) n l h = let a = length-append (block_points_at bytes m) (coded_points bytes (take k ns)) in omega arith
-
-  whole : (at : ℕ) → r.at ≡ at → (F ++ (put int_cmp p.0 p.1 (drop (cut_in_block at cut) P) ++ B) ≡ put int_cmp p.0 p.1 (drop (cut_in_block at cut) (F ++ (P ++ B))))
-      × (drop (cut_after at cut) (F ++ (put int_cmp p.0 p.1 (drop (cut_in_block at cut) P) ++ B)) ≡ put int_cmp p.0 p.1 (drop cut (F ++ (P ++ B))))
-  unfolding coded_points
-  whole zero e =
-      let none : F ≡ [] = ap (λ k. coded_points bytes (take k ms)) e in
-      let first : ms ≡ w.old ∷ drop (r.at + 1) ms = w.split ∙ ap (λ k. take k ms ++ (w.old ∷ drop (r.at + 1) ms)) e in
-      let few : cut < length P = first_cut ms w.old (drop (r.at + 1) ms) first f in
-      let some : 0 < length (drop cut P) = let n = length-drop cut P in omega arith in
-      let last : p.0 ≤ℤ last_time (drop cut P) = subst (λ z. p.0 ≤ℤ z) (sym (last_after_drop cut P few)) reach in
-      let here : F ++ (put int_cmp p.0 p.1 (drop cut P) ++ B) ≡ put int_cmp p.0 p.1 (drop cut (F ++ (P ++ B))) =
-      ap (λ (x : List (ℤ × ℤ)). x ++ (put int_cmp p.0 p.1 (drop cut P) ++ B)) none
-      ∙ sym (put_within p.0 p.1 [] (drop cut P) B tt some last)
-      ∙ ap (put int_cmp p.0 p.1) (sym (drop-append-le cut P B (omega arith)))
-      ∙ ap (λ (x : List (ℤ × ℤ)). put int_cmp p.0 p.1 (drop cut (x ++ (P ++ B)))) (sym none) in
-      (here, here)
-  whole (suc k) e =
-      let fits : cut ≤ length F = front_cut ms r.at (λ z. let n = e in omega arith) w.within f in
-      let some : 0 < length P = (few_points P is_old.block.points_are).1 in
-      let all : F ++ (put int_cmp p.0 p.1 P ++ B) ≡ put int_cmp p.0 p.1 (F ++ (P ++ B)) = sym (put_within p.0 p.1 F P B less some reach) in (
-        all,
-        drop-append-le cut F (put int_cmp p.0 p.1 P ++ B) fits
-            ∙ sym (put_within p.0 p.1 (drop cut F) P B (all_dropped p.0 cut F less) some reach)
-            ∙ ap (put int_cmp p.0 p.1) (sym (drop-append-le cut F (P ++ B) fits)),
-      )
-
-  pub replaced_blocks : AreBlocks bytes (handles_replaced r ms)
-  replaced_blocks =
-      let all = c.coded.marked in
-      blocks_join bytes (take r.at ms) (blocks_of r ++ drop (r.at + 1) ms) (blocks_front bytes r.at ms all) (blocks_join bytes (blocks_of r) (drop (r.at + 1) ms) w.blocks (blocks_behind bytes (r.at + 1) ms all))
-
-  all_new : coded_points bytes (handles_replaced r ms) ≡ put int_cmp p.0 p.1 (drop (cut_in_block r.at cut) (coded_points bytes ms))
-  all_new = new_is ∙ (whole r.at refl).0 ∙ ap (λ (x : List (ℤ × ℤ)). put int_cmp p.0 p.1 (drop (cut_in_block r.at cut) x)) (sym old_is)
-
-  pub replaced_count : count_in_blocks (handles_replaced r ms) ≡ length (coded_points bytes (handles_replaced r ms))
-  replaced_count = counts_are bytes (handles_replaced r ms) replaced_blocks
-
-  pub replaced_few : total < 18446744073709551615 → count_in_blocks (handles_replaced r ms) ≤ 18446744073709551615
-  replaced_few t =
-      let n = replaced_count in
-      let a = ap length all_new in
-      let b = (length_put p.0 p.1 (drop (cut_in_block r.at cut) (coded_points bytes ms))).0 in
-      let d = length-drop (cut_in_block r.at cut) (coded_points bytes ms) in
-      let e = c.total_is in
-      omega arith
-
-  replaced_anew : IsTime p.0 → IsCoded bytes (handles_replaced r ms)
-  replaced_anew is =
-      let rest : List (ℤ × ℤ) = drop (cut_in_block r.at cut) (coded_points bytes ms) in
-      coded_anew bytes (handles_replaced r ms) replaced_blocks
-      (subst IsRising (sym all_new) (rising-put rest (is_rising_behind (cut_in_block r.at cut) (coded_points bytes ms) c.coded.rising) p.0 p.1))
-      (subst AreTimed (sym all_new) (timed-put rest (timed_behind (cut_in_block r.at cut) (coded_points bytes ms) c.coded.timed) p.0 p.1 is))
-
-  pub replaced_points : drop (cut_after r.at cut) (coded_points bytes (handles_replaced r ms)) ≡ put int_cmp p.0 p.1 (drop cut (coded_points bytes ms))
-  replaced_points = ap (drop (cut_after r.at cut)) new_is ∙ (whole r.at refl).1 ∙ ap (λ (x : List (ℤ × ℤ)). put int_cmp p.0 p.1 (drop cut x)) (sym old_is)
-
-  cut_again : (at : ℕ) → r.at ≡ at → CutFits (cut_after at cut) (blocks_at bytes (handles_replaced r ms))
-  cut_again zero e = subst (λ k. CutFits 0 (blocks_at bytes (take k ms ++ (blocks_of r ++ drop (r.at + 1) ms)))) (sym e) ((few_points (block_points_at bytes r.first) w.blocks.0.block.points_are).1)
-  cut_again (suc k) e = subst (λ j. CutFits cut (blocks_at bytes (take j ms ++ (blocks_of r ++ drop (r.at + 1) ms)))) (sym e) (same_first ms f (subst (λ j. j < length ms) e w.within))
-    where
-      same_first : (ns : List BlockHandle) → CutFits cut (blocks_at bytes ns) → suc k < length ns → CutFits cut (blocks_at bytes (take (suc k) ns ++ (blocks_of r ++ drop (r.at + 1) ms)))
-      same_first [] h l = absurd (omega arith)
-      same_first (m ∷ ns) h l = h
-
-  pub replaced_counted : IsTime p.0 → AreCountedBlocks bytes (handles_replaced r ms) (length (coded_points bytes (handles_replaced r ms)))
-  replaced_counted is = record { coded = replaced_anew is; total_is = refl }
-
-  pub replaced_cut : CutFits (cut_after r.at cut) (blocks_at bytes (handles_replaced r ms))
-  replaced_cut = cut_again r.at refl
 
 -- ---- points that are removed
 
@@ -487,15 +348,6 @@ sound_again old new s same = record {
 
 pub points_again : {A : Type 0} (old new : CodedBlocks A) → AreSame old new → points_of_blocks new ≡ points_of_blocks old
 points_again old new same = λ i. drop (same.counts.1 i) (same_points old.bytes.items new.bytes.items old.handles.items new.handles.items same.blocks i)
-
-pub cut_at_later : (at cut : ℕ) → (at ≡ 0 → ⊥) → (0 ≡ cut_in_block at cut) × (cut ≡ cut_after at cut)
-cut_at_later zero cut n = absurd (n refl)
-cut_at_later (suc at) cut n = (refl, refl)
-
-pub rewritten_if_ok : (old new : List ℕ) (ms : List BlockHandle) (at cut : ℕ) (d : BlockHandle) (p : ℤ × ℤ) (r : Result Rewritten AllocError) → AreBlocks old ms → AreApart ms → at < length ms → IsLastBefore p.0 ms at → IfOk r (λ n. n.at ≡ at) → IfOk r (λ n. AreBlocks new (blocks_of n)) → IfOk r (λ n. LieFrom (length old) (blocks_of n))
-    → IfOk r (λ n. coded_points new (blocks_of n) ≡ put int_cmp p.0 p.1 (drop (cut_in_block at cut) (block_points_at old (get_or ms at d)))) → take (length old) new ≡ old → IfOk r (λ n. IsRewritten new ms cut p n)
-rewritten_if_ok old new ms at cut d p (Ok n) marked apart l part is blocks behind points front = is_rewritten old new ms at cut d p n marked apart l part is blocks behind points front
-rewritten_if_ok old new ms at cut d p (Err e) marked apart l part is blocks behind points front = tt
 
 pub rest_count : (bytes : List ℕ) (k : ℕ) (ms : List BlockHandle) → AreBlocks bytes ms → count_in_blocks (drop k ms) ≡ length (coded_points bytes (drop k ms))
 rest_count bytes k ms h = counts_are bytes (drop k ms) (blocks_behind bytes k ms h)

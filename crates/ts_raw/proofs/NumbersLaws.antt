@@ -1,5 +1,5 @@
 -- Indices of the items that pass a test: exactly these, each once; the items at them, in order, are the filtered list.
-use Rattle.std.proofs.Common.{◌≡◌, ℕ, zero, suc, ◌+◌, Bool, true, false, cond, List, [], ◌∷◌, ◌++◌, refl, sym, ◌∙◌, ap, subst, inl, inr, ⊎_elim, arith}
+use Rattle.std.proofs.Common.{◌≡◌, ℕ, zero, suc, ◌+◌, Bool, true, false, cond, List, [], ◌∷◌, refl, sym, ◌∙◌, ap, subst, inl, inr, ⊎_elim, arith}
 use Rattle.std.proofs.lemmas.Option.{same_Some}
 use Rattle.ts_core.specs.lists.Members.{Among}
 use Rattle.ts_core.specs.lists.Numbered.{IsAt, numbers_where_from, numbers_where}

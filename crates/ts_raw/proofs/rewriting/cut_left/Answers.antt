@@ -1,6 +1,6 @@
 use Rattle.std.proofs.Common.{ap, sym}
 use Rattle.ts_raw.specs.Rewriting.{cut_after}
-use Rattle.ts_raw.proofs.ColumnBlocks.{cut_at_later}
+use Rattle.ts_raw.proofs.ReplacedBlocks.{cut_at_later}
 use Rattle.ts_raw.proofs.rewriting.cut_left.Goals as goal
 
 pub returns-then-at-eq0 : goal.returns-then-at-eq0

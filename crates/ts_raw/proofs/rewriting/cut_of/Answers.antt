@@ -1,6 +1,6 @@
 use Rattle.std.proofs.Common.{ap, sym}
 use Rattle.ts_raw.specs.Rewriting.{cut_in_block}
-use Rattle.ts_raw.proofs.ColumnBlocks.{cut_at_later}
+use Rattle.ts_raw.proofs.ReplacedBlocks.{cut_at_later}
 use Rattle.ts_raw.proofs.rewriting.cut_of.Goals as goal
 
 pub returns-then-at-eq0 : goal.returns-then-at-eq0

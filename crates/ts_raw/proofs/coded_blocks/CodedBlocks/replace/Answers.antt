@@ -3,7 +3,7 @@ use Rattle.ts_raw.specs.declared.block_handle.BlockHandle.{BlockHandle}
 use Rattle.ts_raw.specs.CodedPoints.{AreCountedBlocks, AreApart, CutFits, blocks_at, coded_points}
 use Rattle.ts_raw.specs.Rewriting.{handles_replaced, cut_after}
 use Rattle.ts_raw.proofs.RewriteLemmas.{counts_are}
-use Rattle.ts_raw.proofs.ColumnBlocks.{replaced_few, replaced_count, replaced_points, replaced_counted, replaced_cut}
+use Rattle.ts_raw.proofs.ReplacedBlocks.{replaced_few, replaced_count, replaced_points, replaced_counted, replaced_cut}
 use Rattle.ts_raw.proofs.coded_blocks.CodedBlocks.replace.Goals as goal
 
 pub replace_handles-self-requires-clause-total : goal.replace_handles-self-requires-clause-total

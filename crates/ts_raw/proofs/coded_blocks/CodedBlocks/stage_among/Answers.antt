@@ -4,7 +4,7 @@ use Rattle.ts_raw.specs.declared.block_handle.BlockHandle.{BlockHandle}
 use Rattle.ts_raw.specs.CodedPoints.{IsBlockHandle, LieFrom, block_points_at, coded_points}
 use Rattle.ts_raw.specs.Rewriting.{IsRewritten, blocks_of, cut_in_block}
 use Rattle.ts_raw.proofs.BlockLists.{mark_at}
-use Rattle.ts_raw.proofs.ColumnBlocks.{rewritten_if_ok, reaches}
+use Rattle.ts_raw.proofs.ReplacedBlocks.{rewritten_if_ok, reaches}
 use Rattle.ts_raw.proofs.SameLemmas.{same_longer}
 use Rattle.ts_raw.proofs.SplicedLemmas.{cut_less}
 use Rattle.ts_raw.proofs.coded_blocks.CodedBlocks.stage_among.Given.{Over}
