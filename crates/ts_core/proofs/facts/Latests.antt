@@ -1,8 +1,7 @@
 -- Latest facts in other words: each accepted id has exactly one, the fact accepted last.
-use Rattle.std.proofs.lemmas.Bool.{not_from_false, false_from_ne_true}
+use Rattle.std.proofs.lemmas.Bool.{not_from_false, false_from_ne_true, not-true}
 use Rattle.std.proofs.Common.{◌≡◌, Bool, true, false, cond, not, List, [], ◌∷◌, refl, sym, ◌∙◌, ap, Some, None, inl, inr, ◌⊎◌, ⊎_elim, true≢false}
 use Rattle.std.proofs.lemmas.Option.{same_Some}
-use Rattle.std.proofs.lemmas.Bool.{not-true}
 use Rattle.ts_core.specs.lists.Members.{Among, AllDistinct}
 use Rattle.ts_core.specs.facts.Facts.{Fact, id_of, same_id}
 use Rattle.ts_core.specs.facts.Latest.{others, latest, value_at}

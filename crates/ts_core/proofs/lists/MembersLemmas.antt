@@ -1,8 +1,7 @@
 -- Members of two joined lists, of a filtered list, of distinct items without one, and of images.
 use Rattle.std.proofs.lemmas.Bool.{or_cases, or_left, or_right}
-use Rattle.std.specs.List.{list_any}
+use Rattle.std.specs.List.{list_any, slice_get}
 use Rattle.std.proofs.Common.{◌≡◌, Bool, true, false, cond, List, [], ◌∷◌, ◌++◌, ◌⊎◌, ℕ, zero, suc, Some, filter, map, refl, sym, ◌∙◌, ap, inl, inr, subst, ⊎_elim, true≢false}
-use Rattle.std.specs.List.{slice_get}
 use Rattle.std.proofs.lemmas.Option.{same_Some}
 use Rattle.ts_core.specs.lists.Members.{Among, AllDistinct}
 

@@ -164,25 +164,6 @@ keys_refolded r c facts (p ∷ ps) m =
     let q : Cell = cell_of r (fact_at c p) in
     keys_refolded r c facts ps (refolded r q facts m) ∙ keys_changed m q (with_live (total_of r q facts))
 
--- a live part that is refolded already stays so
-refolded_again : (r : Rule) (c : Column) (k : Cell) (facts : List Fact) (ps : List (ℤ × ℤ)) (m : CellMap) → live_in (finmap.get m k) ≡ total_of r k facts → (finmap.get m k ≡ None → ⊥)
-    → live_in (finmap.get (refolded_points r c ps facts m) k) ≡ total_of r k facts
-refolded_again r c k facts [] m e there = e
-refolded_again r c k facts (p ∷ ps) m e there =
-    let q : Cell = cell_of r (fact_at c p) in
-    let f : CellParts → CellParts = with_live (total_of r q facts) in
-    elim (finmap.get m k) as (λ o. finmap.get m k ≡ o → live_in (finmap.get (refolded_points r c ps facts (changed m q f)) k) ≡ total_of r k facts) [
-      | None ↦ λ g. absurd (there g)
-      | Some a ↦ λ g. elim (same_cell k q) as (λ b. same_cell k q ≡ b → live_in (finmap.get (refolded_points r c ps facts (changed m q f)) k) ≡ total_of r k facts) [
-        | true ↦ λ s.
-            let now = changed_here m q k f a s g in
-            refolded_again r c k facts ps (changed m q f) (ap live_in now ∙ ap (λ (x : Cell). total_of r x facts) (sym (same_cell-eq k q s))) (λ n. none-some (f a) (sym n ∙ now))
-        | false ↦ λ s.
-            let now = changed_else m q k f s in
-            refolded_again r c k facts ps (changed m q f) (ap live_in now ∙ e) (λ n. there (sym now ∙ n))
-      ] refl
-    ] refl
-
 -- the cell of one of the points gets what is left, and another keeps what it has
 pub refolded_live : (r : Rule) (c : Column) (k : Cell) (facts : List Fact) (ps : List (ℤ × ℤ)) (m : CellMap)
     → (any_in r c k ps ≡ true → finmap.get m k ≡ None → ⊥) → (any_in r c k ps ≡ false → live_in (finmap.get m k) ≡ total_of r k facts)
@@ -197,7 +178,7 @@ refolded_live r c k facts (p ∷ ps) m there else_same =
         | None ↦ λ g. absurd (t refl g)
         | Some a ↦ λ g.
             let now = changed_here m q k f a s g in
-            refolded_again r c k facts ps (changed m q f) (ap live_in now ∙ ap (λ (x : Cell). total_of r x facts) (sym (same_cell-eq k q s))) (λ n. none-some (f a) (sym n ∙ now))
+            refolded_live r c k facts ps (changed m q f) (λ y n. none-some (f a) (sym n ∙ now)) (λ y. ap live_in now ∙ ap (λ (x : Cell). total_of r x facts) (sym (same_cell-eq k q s)))
       ] refl
       | false ↦ λ s t u.
           let now = changed_else m q k f s in

@@ -1,5 +1,5 @@
 -- The other transitions, on a store's content.
-use Rattle.std.proofs.lemmas.Bool.{not-true, false_from_ne_true}
+use Rattle.std.proofs.lemmas.Bool.{not-true, false_from_ne_true, and_parts}
 use Rattle.std.proofs.Common.{◌≡◌, ℤ, ◌≤ℤ◌, true, false, cond, not, ◌&&◌, List, [], ◌∷◌, filter, map, refl, sym, ◌∙◌, ap, subst, inl, inr, ◌⊎◌, ⊎_elim, true≢false, Some, None, is_eq, T}
 use Rattle.std.specs.List.{AllByRecursion, AllZip}
 use Rattle.std.specs.FinMap as finmap
@@ -28,7 +28,6 @@ use Rattle.ts_core.proofs.store.RunSteps.{expire_stands, close_stands}
 use Rattle.ts_core.proofs.store.Writes.{is_other}
 use Rattle.ts_core.specs.store.TwoParts.{with_live}
 use Rattle.ts_core.specs.lists.Changes.{or_else}
-use Rattle.std.proofs.lemmas.Bool.{and_parts}
 use Rattle.ts_core.specs.store.StoreData.{CellMap, no_parts, RuleData, StoreData, rule_cells, state_of}
 use Rattle.ts_core.specs.moves.StoreMoves.{in_cells, raised_rule, run_begun, KeepsFrom, Expired, with_rules, run_ended, GainsEmptyCells, GainEmptyCells, grown, refolded, put_cell, put_cells, PutsFact}
 use Rattle.ts_core.proofs.moves.Freezing.{frozen_in, live_in, changed_as, changed_here, changed_else, keys_changed}

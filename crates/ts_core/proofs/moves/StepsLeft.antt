@@ -8,7 +8,3 @@ pub batches_left-same : (rs after : List RuleCells) → AllZip (λ (r y : RuleCe
 batches_left-same [] [] t = refl
 batches_left-same (r ∷ rs) (y ∷ ys) t = ap₂ (λ m n. batches_of m + n) t.0 (batches_left-same rs ys t.1)
 batches_left-same _ _ t = absurd t
-
--- the number of steps left of an open run
-left_open : (s : StoreState) → s.running ≡ true → steps_left s ≡ length s.waiting + batches_left s.rules + 1
-left_open s e = ap (λ b. cond b (length s.waiting + batches_left s.rules + 1) 0) e

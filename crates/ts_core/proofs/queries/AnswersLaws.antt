@@ -1,16 +1,14 @@
 -- Answers, by membership and not by the order of the list; an aggregate of a range is that of its two halves.
-use Rattle.ts_core.proofs.lists.MembersLemmas.{Among-map_as, map_back}
-use Rattle.std.proofs.lemmas.Bool.{and_right}
+use Rattle.ts_core.proofs.lists.MembersLemmas.{Among-map_as, map_back, Among-filter_passes, Among-filter_was, Among-filter_stays, AllDistinct-filter}
+use Rattle.std.proofs.lemmas.Bool.{and_right, and_parts, and_from}
 use Rattle.std.proofs.Common.{◌≡◌, ℤ, ◌+ℤ◌, ◌*ℤ◌, ◌≤ℤ◌, int_lt, Bool, true, false, cond, ◌&&◌, not, List, [], ◌∷◌, map, filter, refl, sym, ◌∙◌, ap, ap₂, arith, true≢false}
 use Rattle.std.proofs.lemmas.Int.{ints, by_lt_z}
-use Rattle.std.proofs.lemmas.Bool.{and_parts, and_from}
 use Rattle.ts_core.specs.lists.Members.{Among, AllDistinct}
 use Rattle.ts_core.specs.facts.Facts.{Text, Fact, is_within}
 use Rattle.ts_core.specs.aggregates.Aggregates.{aggregate_of, aggregate_of_one, merged}
 use Rattle.ts_core.specs.aggregates.MergeLaws.{aggregate_laws}
 use Rattle.ts_core.specs.queries.Queries.{Query, is_selected, matches, group_of}
 use Rattle.ts_core.specs.queries.Answers.{buckets_in, is_in_row, groups_of, answer_of}
-use Rattle.ts_core.proofs.lists.MembersLemmas.{Among-filter_passes, Among-filter_was, Among-filter_stays, AllDistinct-filter}
 use Rattle.ts_core.proofs.aggregates.Folds.{fold-same, fold-split}
 use Rattle.ts_core.proofs.lists.Comparisons.{and_true, same_bool, lt_from, lt_true}
 use Rattle.ts_core.proofs.queries.GroupsInOrder.{all_groups-same}

@@ -1,5 +1,5 @@
 -- The points of each column of a store that represents a history: exactly the column's raw facts.
-use Rattle.ts_core.proofs.lists.MembersLemmas.{Among-map, map_back}
+use Rattle.ts_core.proofs.lists.MembersLemmas.{Among-map, map_back, Among-left, Among-right, Among-append}
 use Rattle.std.proofs.Common.{◌≡◌, ℕ, ◌+◌, ℤ, List, [], ◌∷◌, ◌++◌, map, length, sym, ◌∙◌, ap, subst, inl, inr, ⊎_elim}
 use Rattle.ts_core.specs.lists.Members.{Among, AllDistinct}
 use Rattle.ts_core.specs.facts.Facts.{Column, Fact}
@@ -7,7 +7,6 @@ use Rattle.ts_core.specs.settings.Settings.{Settings}
 use Rattle.ts_core.specs.store.History.{History}
 use Rattle.ts_core.specs.store.RawFacts.{raw_of}
 use Rattle.ts_core.specs.store.StoreStates.{fact_at, ColumnPoints, column_of, facts_at, facts_of}
-use Rattle.ts_core.proofs.lists.MembersLemmas.{Among-left, Among-right, Among-append}
 
 -- a column's facts are of that column
 pub facts_at-column : (c : Column) (ps : List (ℤ × ℤ)) (f : Fact) → Among f (facts_at c ps) → f.column ≡ c

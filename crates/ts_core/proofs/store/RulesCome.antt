@@ -24,6 +24,7 @@ use Rattle.ts_core.proofs.settings.SettingsLaws.{settings_are}
 use Rattle.ts_core.proofs.settings.RuleLaws.{with_rule-fault, added_new}
 use Rattle.ts_core.proofs.settings.Intervals.{settings_faultless}
 use Rattle.ts_core.proofs.store.LowIndices.{first_from-after}
+use Rattle.ts_core.proofs.store.RunSteps.{stands_as}
 use Rattle.ts_core.proofs.store.StateLemmas.{same_head, same_rest, is_kept-above, StandsFor-Holds}
 
 -- ---- a rule is added
@@ -87,24 +88,10 @@ added_stands opening h s r st well low starts =
     ap (λ (m : Marks). m.lows) st.marks ∙ sym (lows_stay opening h r.rule (settings_of opening h).rules (added_new (settings_of opening h) r.rule was)) in
     let lows : s.marks.lows ++ r.low ∷ [] ≡ map (low_of opening (AddRule r.rule ∷ h)) ((settings_of opening h).rules ++ r.rule ∷ []) =
     ap₂ (λ xs x. xs ++ x ∷ []) old (at ∙ sym (cond-true _ (first_from r.rule (raw_mark opening h)) (low_of opening h r.rule) (same_text-refl r.rule.name))) ∙ sym (map-push (low_of opening (AddRule r.rule ∷ h)) (settings_of opening h).rules r.rule) in
-    record {
-      lawful = (st.lawful, was);
-      settings = ap (with_rule r.rule) st.settings;
-      marks = λ i. record { raw = raw i; lows = lows i };
-      accepted = st.accepted;
-      running = st.running;
-      waiting_once = st.waiting_once;
-      waiting_there = st.waiting_there;
-      idle = st.idle;
-      columns_once = st.columns_once;
-      columns_there = st.columns_there;
-      registered = st.registered;
-      once = st.once;
-      raw = st.raw;
-      rules = map-push rule_of s.rules r ∙ ap (λ xs. xs ++ r.rule ∷ []) st.rules;
-      lows = map-push lowest_of s.rules r ∙ ap (λ xs. xs ++ r.low ∷ []) st.lows;
-      rolled = all_push (HasCells (kept_from opening h s.waiting) (latest_of h)) s.rules r st.rolled (added_cells opening h s.waiting (facts_of s.columns) (StandsFor-Holds opening h s st) r wide at starts);
-    }
+    stands_as opening h (AddRule r.rule ∷ h) s (with_rule r.rule s.settings) (record { raw = s.marks.raw; lows = s.marks.lows ++ r.low ∷ [] }) s.running (s.rules ++ r ∷ []) st refl refl
+    (st.lawful, was) (ap (with_rule r.rule) st.settings) (λ i. record { raw = raw i; lows = lows i }) st.running st.idle
+    (map-push rule_of s.rules r ∙ ap (λ xs. xs ++ r.rule ∷ []) st.rules) (map-push lowest_of s.rules r ∙ ap (λ xs. xs ++ r.low ∷ []) st.lows)
+    (all_push (HasCells (kept_from opening h s.waiting) (latest_of h)) s.rules r st.rolled (added_cells opening h s.waiting (facts_of s.columns) (StandsFor-Holds opening h s st) r wide at starts))
 
 -- ---- a rule is dropped
 
@@ -135,21 +122,6 @@ dropped_stands opening h s name st named =
     let rules : map rule_of (filter (stays_under name) s.rules) ≡ filter (is_unnamed name) s.settings.rules = sym (filter-map (is_unnamed name) rule_of s.rules) ∙ ap (filter (is_unnamed name)) st.rules in
     let lows : map lowest_of (filter (stays_under name) s.rules) ≡ map (low_of opening h) (filter (is_unnamed name) (settings_of opening h).rules) =
     lows_left (low_of opening h) name s.rules old ∙ ap (λ rs. map (low_of opening h) (filter (is_unnamed name) rs)) (st.rules ∙ ap (λ (x : Settings). x.rules) st.settings) in
-    record {
-      lawful = (st.lawful, subst (λ (x : Settings). IsTrue (is_named x.rules name)) st.settings named);
-      settings = ap (without_rule name) st.settings;
-      marks = λ i. record { raw = ap (λ (m : Marks). m.raw) st.marks i; lows = lows i };
-      accepted = st.accepted;
-      running = st.running;
-      waiting_once = st.waiting_once;
-      waiting_there = st.waiting_there;
-      idle = st.idle;
-      columns_once = st.columns_once;
-      columns_there = st.columns_there;
-      registered = st.registered;
-      once = st.once;
-      raw = st.raw;
-      rules = rules;
-      lows = refl;
-      rolled = all_filter (HasCells (kept_from opening h s.waiting) (latest_of h)) (stays_under name) s.rules st.rolled;
-    }
+    stands_as opening h (DropRule name ∷ h) s (without_rule name s.settings) (dropped name s).marks s.running (filter (stays_under name) s.rules) st refl refl
+    (st.lawful, subst (λ (x : Settings). IsTrue (is_named x.rules name)) st.settings named) (ap (without_rule name) st.settings) (λ i. record { raw = ap (λ (m : Marks). m.raw) st.marks i; lows = lows i }) st.running st.idle rules refl
+    (all_filter (HasCells (kept_from opening h s.waiting) (latest_of h)) (stays_under name) s.rules st.rolled)

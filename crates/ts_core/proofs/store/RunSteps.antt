@@ -2,14 +2,14 @@
 -- removes cells below the low index; the last one ends the run.
 use Rattle.ts_core.proofs.lists.ListSteps.{filter-map}
 pub use Rattle.std.proofs.lemmas.List.Elements.{filter-append}
-use Rattle.std.proofs.Common.{◌≡◌, ◌↔◌, IsTrue, ℤ, Bool, true, false, cond, not, ◌&&◌, ◌||◌, List, [], ◌∷◌, ◌++◌, filter, map, refl, sym, ◌∙◌, ap, ap₂, subst, inr, true≢false, int_le, ◌≤ℤ◌}
+use Rattle.std.proofs.Common.{◌≡◌, ◌↔◌, IsTrue, ℤ, Bool, true, false, cond, not, ◌&&◌, ◌||◌, List, [], ◌∷◌, ◌++◌, filter, length, map, refl, sym, ◌∙◌, ap, ap₂, subst, inr, true≢false, int_le, ◌≤ℤ◌}
 use Rattle.std.specs.List.{AllByRecursion, AllZip}
 use Rattle.ts_core.specs.lists.Members.{Among, AllDistinct}
 use Rattle.ts_core.specs.facts.Facts.{Column, Fact}
 use Rattle.ts_core.specs.settings.Settings.{Rule, Settings}
-use Rattle.ts_core.specs.store.History.{History, Step, IsRunOpen, raw_mark, accepted}
-use Rattle.ts_core.specs.facts.Latest.{latest_of}
-use Rattle.ts_core.specs.store.Marks.{Marks}
+use Rattle.ts_core.specs.store.History.{History, Step, IsRunOpen, IsLawful, settings_of, raw_mark, accepted}
+use Rattle.ts_core.specs.facts.Latest.{latest, latest_of}
+use Rattle.ts_core.specs.store.Marks.{Marks, marks_of}
 use Rattle.ts_core.specs.aggregates.Aggregates.{merged}
 use Rattle.ts_core.specs.store.RawFacts.{same_column, is_waiting, earlier_mark, kept_from, is_kept}
 use Rattle.ts_core.specs.store.Cells.{Cell, cell_of, is_in_cell}
@@ -132,25 +132,26 @@ move_stands opening h s c rest after st w t =
 
 -- ---- cells are removed, and the run ends
 
--- a step that moves no column
-step_stands : (opening : Settings) (h : History) (s : StoreState) (ended running : Bool) (after : List RuleCells) → StandsFor opening h s → (IsTrue running ↔ IsRunOpen (Step ended ∷ h))
-    → ((IsRunOpen (Step ended ∷ h) → ⊥) → s.waiting ≡ []) → map rule_of after ≡ s.settings.rules → map lowest_of after ≡ s.marks.lows
-    → AllByRecursion (HasCells (kept_from opening h s.waiting) (latest_of h)) after → StandsFor opening (Step ended ∷ h) (record s { running = running; rules = after })
-step_stands opening h s ended running after st is_open idle rules lows rolled = record {
-  lawful = st.lawful;
-  settings = st.settings;
-  marks = st.marks;
-  accepted = st.accepted;
+-- after an event that changes no facts, and cuts no column anew, the columns are those of before
+pub stands_as : (opening : Settings) (h after : History) (s : StoreState) (settings : Settings) (marks : Marks) (running : Bool) (rules : List RuleCells) → StandsFor opening h s
+    → accepted h ≡ accepted after → kept_from opening h s.waiting ≡ kept_from opening after s.waiting → IsLawful opening after → settings ≡ settings_of opening after → marks ≡ marks_of opening after
+    → (IsTrue running ↔ IsRunOpen after) → ((IsRunOpen after → ⊥) → s.waiting ≡ []) → map rule_of rules ≡ settings.rules → map lowest_of rules ≡ marks.lows
+    → AllByRecursion (HasCells (kept_from opening after s.waiting) (latest_of after)) rules → StandsFor opening after (record s { settings = settings; marks = marks; running = running; rules = rules })
+stands_as opening h after s settings marks running rules st facts cut lawful of_settings of_marks is_open idle same_rules lows rolled = record {
+  lawful = lawful;
+  settings = of_settings;
+  marks = of_marks;
+  accepted = st.accepted ∙ ap (λ xs. length xs) facts;
   running = is_open;
   waiting_once = st.waiting_once;
   waiting_there = st.waiting_there;
   idle = idle;
   columns_once = st.columns_once;
-  columns_there = st.columns_there;
+  columns_there = subst (λ xs. (f : Fact) → Among f (latest xs) → Among f.column (map column_of s.columns)) facts st.columns_there;
   registered = st.registered;
   once = st.once;
-  raw = st.raw;
-  rules = rules;
+  raw = subst (λ (z : (Column → ℤ) × List Fact). (f : Fact) → Among f (facts_of s.columns) ↔ Among f (filter (λ (g : Fact). same_column g.column f.column && is_kept z.0 g) (latest z.1))) (λ i. (cut i, facts i)) st.raw;
+  rules = same_rules;
   lows = lows;
   rolled = rolled;
 }
@@ -160,7 +161,7 @@ pub expire_stands : (opening : Settings) (h : History) (s : StoreState) (after :
 expire_stands opening h s after st t =
     let cut : Column → ℤ = kept_from opening h s.waiting in
     let fs : List Fact = latest_of h in
-    step_stands opening h s false s.running after st st.running st.idle
+    stands_as opening h (Step false ∷ h) s s.settings s.marks s.running after st refl refl st.lawful st.settings st.marks st.running st.idle
     (sym (AllZip-maps IsExpired rule_of rule_of (λ r y k. k.rule) s.rules after t) ∙ st.rules)
     (sym (AllZip-maps IsExpired lowest_of lowest_of (λ r y k. k.low) s.rules after t) ∙ st.lows)
     (AllZip-all IsExpired (HasCells cut fs) (HasCells cut fs) (λ r y k p. HasCells-as cut fs r y k.rule k.low (record {
@@ -171,4 +172,5 @@ expire_stands opening h s after st t =
     })) s.rules after t st.rolled)
 
 pub close_stands : (opening : Settings) (h : History) (s : StoreState) → StandsFor opening h s → s.waiting ≡ [] → StandsFor opening (Step true ∷ h) (closed s)
-close_stands opening h s st e = step_stands opening h s true false s.rules st (λ k. absurd (true≢false (sym k)), λ k. absurd k) (λ k. e) st.rules st.lows st.rolled
+close_stands opening h s st e =
+    stands_as opening h (Step true ∷ h) s s.settings s.marks false s.rules st refl refl st.lawful st.settings st.marks (λ k. absurd (true≢false (sym k)), λ k. absurd k) (λ k. e) st.rules st.lows st.rolled

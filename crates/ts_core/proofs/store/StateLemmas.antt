@@ -1,12 +1,11 @@
 -- The representation of a history in the words that transitions need, and lists taken item by item.
-use Rattle.std.proofs.lemmas.Bool.{false_from_ne_true}
-use Rattle.ts_core.proofs.lists.MembersLemmas.{Among-from_any, any-from_Among}
+use Rattle.std.proofs.lemmas.Bool.{false_from_ne_true, and_parts}
+use Rattle.ts_core.proofs.lists.MembersLemmas.{Among-from_any, any-from_Among, Among-filter_passes, Among-filter_was, Among-filter_stays}
 use Rattle.std.proofs.Common.{◌≡◌, ℤ, Bool, true, false, cond, ◌&&◌, List, [], ◌∷◌, map, refl, ap, ap₂, subst, int_le, ◌≤ℤ◌, arith, is_eq}
 use Rattle.std.proofs.lemmas.Int.{ints, clamps}
 use Rattle.std.proofs.lemmas.Cmp.{tied_itself}
 use Rattle.std.specs.List.{AllByRecursion, AllZip}
 use Rattle.std.specs.Int.{int_max}
-use Rattle.std.proofs.lemmas.Bool.{and_parts}
 use Rattle.ts_core.specs.lists.Members.{Among, AllDistinct}
 use Rattle.ts_core.specs.facts.Times.{least_time}
 use Rattle.ts_core.specs.facts.Facts.{Column, Fact, column_cmp}
@@ -16,7 +15,6 @@ use Rattle.ts_core.specs.facts.Latest.{latest_of}
 use Rattle.ts_core.specs.store.RawFacts.{same_column, is_waiting, earlier_mark, kept_from, is_kept, raw_of}
 use Rattle.ts_core.specs.store.StoreStates.{RuleCells, StoreState, StandsFor, HasCells, facts_of}
 use Rattle.ts_core.proofs.facts.Ids.{columns_total, exact_columns, equal_of}
-use Rattle.ts_core.proofs.lists.MembersLemmas.{Among-filter_passes, Among-filter_was, Among-filter_stays}
 use Rattle.ts_core.proofs.lists.Comparisons.{le_true}
 use Rattle.ts_core.proofs.store.Cuts.{Holds}
 
