@@ -2,7 +2,6 @@
 pub mod SettingsBack
 pub mod SettingsForms
 pub mod FoundLemmas
-pub mod FilledTexts
 pub mod EachItem
 -- SettingsFaults: the properties of settings without a fault
 pub mod SettingsLaws

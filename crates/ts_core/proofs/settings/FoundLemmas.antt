@@ -14,6 +14,7 @@ use Rattle.ts_core.specs.settings.SettingsTexts.{has_keys, if_not_empty, filled_
 use Rattle.ts_core.specs.settings.SettingsFound.{text_found, of_each, items_in, rule_found, rules_found, texts_found, settings_found, settings_from, fault_added}
 use Rattle.ts_core.specs.declared.settings.settings_fault.SettingsFault.{SettingsFault}
 use Rattle.ts_core.specs.declared.settings.settings_fault.SettingsFault.TheVariants.{Form}
+pub use Rattle.ts_core.proofs.settings.SettingsForms.{none_of}
 use Rattle.ts_core.proofs.settings.SettingsForms.{rule_of_parts, settings_of_parts, name_in, measurement_in, interval_in, offset_in, tags_in, duration_in, raw_in}
 
 -- ---- items
@@ -70,23 +71,6 @@ unfolding rule_parsed rule_found
 rule_is d r h = loose_is (has_keys 6 d) (name_in d) (measurement_in d) (interval_in d) (offset_in d) (tags_in d) (duration_in d) (of_each text_found (items_in (codes "keep") d)) r
     (λ ts. tags_are (option_and_then as_array (get (codes "keep") d)) ts) h
 
--- with all parts but the last, a rule's form is that of its last part
-last_form : (b : Bool) (n m : Option Text) (i o : Option ℤ) (t : Option (List Text)) (l : Option ℤ) → b ≡ true → is_some n ≡ true → is_some m ≡ true → is_some i ≡ true → is_some o ≡ true → is_some t ≡ true
-    → is_some l ≡ is_some (rule_with b n m i o t l)
-last_form true (Some n) (Some m) (Some i) (Some o) (Some t) (Some l) eb en em ei eo et = refl
-last_form true (Some n) (Some m) (Some i) (Some o) (Some t) None eb en em ei eo et = refl
-last_form true (Some n) (Some m) (Some i) (Some o) None l eb en em ei eo et = absurd (let q : false ≡ true = et in cc)
-last_form true (Some n) (Some m) (Some i) None t l eb en em ei eo et = absurd (let q : false ≡ true = eo in cc)
-last_form true (Some n) (Some m) None o t l eb en em ei eo et = absurd (let q : false ≡ true = ei in cc)
-last_form true (Some n) None i o t l eb en em ei eo et = absurd (let q : false ≡ true = em in cc)
-last_form true None m i o t l eb en em ei eo et = absurd (let q : false ≡ true = en in cc)
-last_form false n m i o t l eb en em ei eo et = absurd (let q : false ≡ true = eb in cc)
-
-pub rule_form : (d : Data) → has_keys 6 d ≡ true → is_some (name_in d) ≡ true → is_some (measurement_in d) ≡ true → is_some (interval_in d) ≡ true → is_some (offset_in d) ≡ true → is_some (tags_in d) ≡ true
-    → is_some (duration_in d) ≡ is_some (rule_parsed d)
-unfolding rule_parsed
-rule_form d eb en em ei eo et = last_form (has_keys 6 d) (name_in d) (measurement_in d) (interval_in d) (offset_in d) (tags_in d) (duration_in d) eb en em ei eo et
-
 -- ---- settings
 
 rules_are : (o : Option Items) (rs : List Rule) → option_and_then (each rule_parsed) o ≡ Some rs → of_each rule_found (unwrap_or o no_items) ≡ rs
@@ -106,29 +90,15 @@ unfolding settings_parsed settings_found
 settings_is d s h = loose_settings (has_keys 2 d) (raw_in d) (option_and_then (each rule_parsed) (option_and_then as_array (get (codes "rules") d))) (of_each rule_found (items_in (codes "rules") d)) s
     (λ rs. rules_are (option_and_then as_array (get (codes "rules") d)) rs) h
 
-last_settings_form : (b : Bool) (raw : Option ℤ) (t : Option (List Rule)) → b ≡ true → is_some raw ≡ true → is_some t ≡ is_some (settings_with b raw t)
-last_settings_form true (Some raw) (Some t) eb er = refl
-last_settings_form true (Some raw) None eb er = refl
-last_settings_form true None t eb er = absurd (let q : false ≡ true = er in cc)
-last_settings_form false raw t eb er = absurd (let q : false ≡ true = eb in cc)
-
-pub settings_form : (d : Data) → has_keys 2 d ≡ true → is_some (raw_in d) ≡ true → is_some (option_and_then (each rule_parsed) (option_and_then as_array (get (codes "rules") d))) ≡ is_some (settings_parsed d)
-unfolding settings_parsed
-settings_form d eb er = last_settings_form (has_keys 2 d) (raw_in d) (option_and_then (each rule_parsed) (option_and_then as_array (get (codes "rules") d))) eb er
-
 -- ---- faults
 
 unless_is : (s : Settings) (v : Option SettingsFault) → result_err (unless_fault s v) ≡ v
 unless_is s None = refl
 unless_is s (Some fault) = refl
 
-form_is : (o : Option Settings) → is_some o ≡ false → Some Form ≡ result_err (settings_or_fault o)
-form_is None h = refl
-form_is (Some s) h = absurd (let q : true ≡ false = h in cc)
-
 -- a value without the form of settings
 pub no_form : (d : Data) → is_some (settings_parsed d) ≡ false → Some Form ≡ result_err (settings_from d)
-no_form d h = form_is (settings_parsed d) h
+no_form d h = sym (ap (λ o. result_err (settings_or_fault o)) (none_of (settings_parsed d) h))
 
 found_is : (o : Option Settings) (found : Settings) → ((s : Settings) → o ≡ Some s → found ≡ s) → is_some o ≡ true → settings_fault found ≡ result_err (settings_or_fault o)
 found_is None found same h = absurd (let q : false ≡ true = h in cc)
@@ -150,10 +120,6 @@ kept_tags_found d vs e = sym (ap (of_each text_found) e ∙ found_of_each text_f
 pub rules_listed : (d : Data) (vs : List Value) → items_in (codes "rules") d ≡ items_view vs → rules_found vs ≡ (settings_found d).rules
 unfolding settings_found
 rules_listed d vs e = sym (ap (of_each rule_found) e ∙ found_of_each rule_found vs)
-
-pub none_of : {X : Type 0} (o : Option X) → is_some o ≡ false → o ≡ None
-none_of None h = refl
-none_of (Some x) h = absurd (let q : true ≡ false = h in cc)
 
 -- ---- a rule that is added
 

@@ -1,6 +1,7 @@
 -- Settings after a valid rule is appended or a rule is dropped, which have no fault.
 use Rattle.std.proofs.lemmas.List.Folds.{list_any-append}
 use Rattle.std.proofs.Common.{◌≡◌, ℕ, ◌+◌, Bool, true, false, cond, not, ◌||◌, List, [], ◌∷◌, ◌++◌, length, filter, Some, None, refl, sym, ap, ◌∙◌, arith, nat_lt, nat_le}
+use Rattle.std.proofs.Math.Bool.{or-false}
 use Rattle.std.proofs.lemmas.Bool.Decides.{nat_tests}
 use Rattle.std.proofs.lemmas.Bool.{not-true, or_from, or_parts, le-leb}
 use Rattle.std.proofs.lemmas.List.{append-nil, append_assoc, length-append}
@@ -41,12 +42,8 @@ added_new s r h = not-true _ (new_name s.raw_duration s.rules r (or_none (length
 abbrev NamesFewer : List Rule → List Rule → Type 0
 NamesFewer others earlier = (name : Text) → is_named earlier name ≡ false → is_named others name ≡ false
 
-or_false : (b : Bool) → (b || false) ≡ b
-or_false true = refl
-or_false false = refl
-
 named_push : (rs : List Rule) (r : Rule) (name : Text) → is_named (rs ++ r ∷ []) name ≡ (is_named rs name || same_text r.name name)
-named_push rs r name = list_any-append (λ (x : Rule). same_text x.name name) rs (r ∷ []) ∙ ap (λ b. is_named rs name || b) (or_false (same_text r.name name))
+named_push rs r name = list_any-append (λ (x : Rule). same_text x.name name) rs (r ∷ []) ∙ ap (λ b. is_named rs name || b) (or-false (same_text r.name name))
 
 fault_fewer : (raw : ℕ) (earlier others : List Rule) (r : Rule) → NamesFewer others earlier → fault_of_rule raw earlier r ≡ None → fault_of_rule raw others r ≡ None
 fault_fewer raw earlier others r f h =

@@ -58,16 +58,13 @@ begins : (ds rest : Text) → IsNumeral 10 ds → BeginsWithDigit (ds ++ rest)
 begins [] rest w = absurd (omega (arith, w.0))
 begins (b ∷ bs) rest w = record { first = b; behind = bs ++ rest; is = refl; digit = digit_is b w.1.0 }
 
-not_i : (b : ℕ) → is_ascii_digit b ≡ true → (b == 73) ≡ false
-not_i b h = grind (arith, nat_tests)
-
 offset_plain : (text : Text) → BeginsWithDigit text → offset_of text ≡ span_of text
 unfolding offset_of
 offset_plain text d = let no = digit_not_minus d.first d.digit in rw d.is (rw no refl)
 
 keeping_plain : (text : Text) → BeginsWithDigit text → keeping_of text ≡ span_of text
 unfolding keeping_of
-keeping_plain text d = let no = not_i d.first d.digit in rw d.is (rw no refl)
+keeping_plain text d = let no : (d.first == 73) ≡ false = grind (arith, nat_tests, d.digit) in rw d.is (rw no refl)
 
 interval_back : (i : ℤ) → pos 1 ≤ℤ i → FitsSigned w64 i → span_of (nanoseconds_text i) ≡ Some i
 interval_back (pos n) some fits = span_back n (omega (arith, ints))
@@ -137,12 +134,9 @@ texts_flat : (ts : List Text) → tree.items_depth (items_outline (items_of (map
 texts_flat [] = refl
 texts_flat (t ∷ ts) = rw (texts_flat ts) refl
 
-rule_depth : (r : Rule) → tree.depth (outline (rule_data r)) ≡ 2
-rule_depth r = rw (texts_flat r.kept_tags) refl
-
 rules_depth : (rs : List Rule) → tree.items_depth (items_outline (items_of (map rule_data rs))) ≤ 2
 rules_depth [] = omega arith
-rules_depth (r ∷ rs) = omega (arith, rule_depth r, rules_depth rs)
+rules_depth (r ∷ rs) = let flat : tree.depth (outline (rule_data r)) ≡ 2 = rw (texts_flat r.kept_tags) refl in omega (arith, rules_depth rs)
 
 texts_numbers : (ts : List Text) → tree.ItemsHaveNumbers (items_outline (items_of (map string ts)))
 texts_numbers [] = tt

@@ -1,5 +1,5 @@
 -- The parts of a text of settings: a missing one is a fault of the form.
-use Rattle.std.proofs.Common.{◌≡◌, ℤ, ℕ, Bool, true, false, List, Option, Some, None, Result, Ok, Err, option_and_then, unsigned_abs, codes, refl, sym, ap, ◌∙◌, IfErr}
+use Rattle.std.proofs.Common.{◌≡◌, ◌&&◌, is_some, ℤ, ℕ, Bool, true, false, List, Option, Some, None, Result, Ok, Err, option_and_then, unsigned_abs, codes, refl, sym, ap, ◌∙◌, IfErr}
 use Rattle.std.specs.Result.{IsErrAnd, IsOk, result_err}
 use Rattle.serde_json.specs.Data.{Data, Items}
 use Rattle.serde_json.specs.Find.{get, as_array}
@@ -14,6 +14,10 @@ use Rattle.ts_core.specs.declared.settings.settings_fault.SettingsError.{Setting
 use Rattle.ts_core.specs.declared.settings.settings_fault.SettingsError.TheVariants.{Fault, OutOfMemory}
 use Rattle.ts_core.specs.declared.settings.settings_fault.SettingsFault.{SettingsFault}
 use Rattle.ts_core.specs.declared.settings.settings_fault.SettingsFault.TheVariants.{Form}
+
+pub none_of : {X : Type 0} (o : Option X) → is_some o ≡ false → o ≡ None
+none_of None h = refl
+none_of (Some x) h = absurd (let q : true ≡ false = h in cc)
 
 -- ---- a rule
 
@@ -41,71 +45,22 @@ tags_in d = option_and_then (each filled_text) (values_in (codes "keep") d)
 abbrev pub duration_in : Data → Option ℤ
 duration_in d = option_and_then keeping_of (text_at (codes "duration") d)
 
-without_name : (b : Bool) (m : Option Text) (i o : Option ℤ) (t : Option (List Text)) (l : Option ℤ) → rule_with b None m i o t l ≡ None
-without_name true m i o t l = refl
-without_name false m i o t l = refl
+-- a rule is there with all of its parts
+rule_there : (b : Bool) (n m : Option Text) (i o : Option ℤ) (t : Option (List Text)) (l : Option ℤ)
+    → is_some (rule_with b n m i o t l) ≡ (b && (is_some n && (is_some m && (is_some i && (is_some o && (is_some t && is_some l))))))
+rule_there true (Some n) (Some m) (Some i) (Some o) (Some t) (Some l) = refl
+rule_there _ n m i o t l = refl
 
-without_measurement : (b : Bool) (n : Option Text) (i o : Option ℤ) (t : Option (List Text)) (l : Option ℤ) → rule_with b n None i o t l ≡ None
-without_measurement true (Some n) i o t l = refl
-without_measurement _ n i o t l = refl
+-- a value has each part of a rule
+abbrev pub has_rule : Data → Bool
+has_rule d = has_keys 6 d && (is_some (name_in d) && (is_some (measurement_in d) && (is_some (interval_in d) && (is_some (offset_in d) && (is_some (tags_in d) && is_some (duration_in d))))))
 
-without_interval : (b : Bool) (n m : Option Text) (o : Option ℤ) (t : Option (List Text)) (l : Option ℤ) → rule_with b n m None o t l ≡ None
-without_interval true (Some n) (Some m) o t l = refl
-without_interval _ n m o t l = refl
-
-without_offset : (b : Bool) (n m : Option Text) (i : Option ℤ) (t : Option (List Text)) (l : Option ℤ) → rule_with b n m i None t l ≡ None
-without_offset true (Some n) (Some m) (Some i) t l = refl
-without_offset _ n m i t l = refl
-
-without_tags : (b : Bool) (n m : Option Text) (i o l : Option ℤ) → rule_with b n m i o None l ≡ None
-without_tags true (Some n) (Some m) (Some i) (Some o) l = refl
-without_tags _ n m i o l = refl
-
-without_duration : (b : Bool) (n m : Option Text) (i o : Option ℤ) (t : Option (List Text)) → rule_with b n m i o t None ≡ None
-without_duration true (Some n) (Some m) (Some i) (Some o) (Some t) = refl
-without_duration _ n m i o t = refl
-
-pub other_keys : (d : Data) → has_keys 6 d ≡ false → rule_parsed d ≡ None
+pub rule_form : (d : Data) → is_some (rule_parsed d) ≡ has_rule d
 unfolding rule_parsed
-other_keys d e = ap (λ b. rule_with b (name_in d) (measurement_in d) (interval_in d) (offset_in d) (tags_in d) (duration_in d)) e
+rule_form d = rule_there (has_keys 6 d) (name_in d) (measurement_in d) (interval_in d) (offset_in d) (tags_in d) (duration_in d)
 
-pub no_name : (d : Data) → name_in d ≡ None → rule_parsed d ≡ None
-unfolding rule_parsed
-no_name d e = ap (λ n. rule_with (has_keys 6 d) n (measurement_in d) (interval_in d) (offset_in d) (tags_in d) (duration_in d)) e
-    ∙ without_name (has_keys 6 d) (measurement_in d) (interval_in d) (offset_in d) (tags_in d) (duration_in d)
-
-pub no_measurement : (d : Data) → measurement_in d ≡ None → rule_parsed d ≡ None
-unfolding rule_parsed
-no_measurement d e = ap (λ m. rule_with (has_keys 6 d) (name_in d) m (interval_in d) (offset_in d) (tags_in d) (duration_in d)) e
-    ∙ without_measurement (has_keys 6 d) (name_in d) (interval_in d) (offset_in d) (tags_in d) (duration_in d)
-
-pub no_interval : (d : Data) → interval_in d ≡ None → rule_parsed d ≡ None
-unfolding rule_parsed
-no_interval d e = ap (λ i. rule_with (has_keys 6 d) (name_in d) (measurement_in d) i (offset_in d) (tags_in d) (duration_in d)) e
-    ∙ without_interval (has_keys 6 d) (name_in d) (measurement_in d) (offset_in d) (tags_in d) (duration_in d)
-
-pub no_offset : (d : Data) → offset_in d ≡ None → rule_parsed d ≡ None
-unfolding rule_parsed
-no_offset d e = ap (λ o. rule_with (has_keys 6 d) (name_in d) (measurement_in d) (interval_in d) o (tags_in d) (duration_in d)) e
-    ∙ without_offset (has_keys 6 d) (name_in d) (measurement_in d) (interval_in d) (tags_in d) (duration_in d)
-
-pub no_tags : (d : Data) → tags_in d ≡ None → rule_parsed d ≡ None
-unfolding rule_parsed
-no_tags d e = ap (λ t. rule_with (has_keys 6 d) (name_in d) (measurement_in d) (interval_in d) (offset_in d) t (duration_in d)) e
-    ∙ without_tags (has_keys 6 d) (name_in d) (measurement_in d) (interval_in d) (offset_in d) (duration_in d)
-
-pub no_tag_values : (d : Data) → values_in (codes "keep") d ≡ None → rule_parsed d ≡ None
-no_tag_values d e = no_tags d (ap (option_and_then (each filled_text)) e)
-
-pub no_duration : (d : Data) → duration_in d ≡ None → rule_parsed d ≡ None
-unfolding rule_parsed
-no_duration d e = ap (λ l. rule_with (has_keys 6 d) (name_in d) (measurement_in d) (interval_in d) (offset_in d) (tags_in d) l) e
-    ∙ without_duration (has_keys 6 d) (name_in d) (measurement_in d) (interval_in d) (offset_in d) (tags_in d)
-
-all_there : {b : Bool} {n m : Option Text} {i o : Option ℤ} {t : Option (List Text)} {l : Option ℤ} (name measurement : Text) (interval offset : ℤ) (tags : List Text) (duration : ℤ)
-    → b ≡ true → n ≡ Some name → m ≡ Some measurement → i ≡ Some interval → o ≡ Some offset → t ≡ Some tags → l ≡ Some duration
-    → rule_with b n m i o t l ≡ Some (record { name = name; measurement = measurement; interval = interval; offset = offset; kept_tags = tags; duration = unsigned_abs duration })
-all_there name measurement interval offset tags duration eb en em ei eo et el = rw (eb, en, em, ei, eo, et, el) refl
+pub rule_lacking : (d : Data) → has_rule d ≡ false → rule_parsed d ≡ None
+rule_lacking d e = none_of (rule_parsed d) (rule_form d ∙ e)
 
 pub rule_parts_read : (d : Data) (values : Items) (name measurement : Text) (interval offset : ℤ) (tags : List Text) (duration : ℤ)
     → has_keys 6 d ≡ true → name_in d ≡ Some name → measurement_in d ≡ Some measurement → interval_in d ≡ Some interval → offset_in d ≡ Some offset
@@ -113,7 +68,7 @@ pub rule_parts_read : (d : Data) (values : Items) (name measurement : Text) (int
     → rule_parsed d ≡ Some (record { name = name; measurement = measurement; interval = interval; offset = offset; kept_tags = tags; duration = unsigned_abs duration })
 unfolding rule_parsed
 rule_parts_read d values name measurement interval offset tags duration keys en em ei eo ev et el =
-    all_there name measurement interval offset tags duration keys en em ei eo (ap (option_and_then (each filled_text)) ev ∙ et) el
+    let tagged : tags_in d ≡ Some tags = ap (option_and_then (each filled_text)) ev ∙ et in rw (keys, en, em, ei, eo, tagged, el) refl
 
 pub same_rule : {n n' m m' : Text} {i i' o o' : ℤ} {l l' : ℕ} (tags : List Text) → n ≡ n' → m ≡ m' → i ≡ i' → o ≡ o' → l ≡ l' → rule_of_parts n m i o tags l ≡ rule_of_parts n' m' i' o' tags l'
 same_rule tags en em ei eo el = rw (en, em, ei, eo, el) refl
@@ -129,38 +84,25 @@ raw_in d = option_and_then keeping_of (text_at (codes "raw") d)
 abbrev pub rules_in : Data → Option (List Rule)
 rules_in d = option_and_then (each rule_parsed) (values_in (codes "rules") d)
 
-without_raw : (b : Bool) (rs : Option (List Rule)) → settings_with b None rs ≡ None
-without_raw true rs = refl
-without_raw false rs = refl
+settings_there : (b : Bool) (raw : Option ℤ) (rs : Option (List Rule)) → is_some (settings_with b raw rs) ≡ (b && (is_some raw && is_some rs))
+settings_there true (Some raw) (Some rs) = refl
+settings_there _ raw rs = refl
 
-without_rules : (b : Bool) (raw : Option ℤ) → settings_with b raw None ≡ None
-without_rules true (Some raw) = refl
-without_rules _ raw = refl
+abbrev pub has_settings : Data → Bool
+has_settings d = has_keys 2 d && (is_some (raw_in d) && is_some (rules_in d))
 
-pub other_settings_keys : (d : Data) → has_keys 2 d ≡ false → settings_parsed d ≡ None
+pub settings_form : (d : Data) → is_some (settings_parsed d) ≡ has_settings d
 unfolding settings_parsed
-other_settings_keys d e = ap (λ b. settings_with b (raw_in d) (rules_in d)) e
+settings_form d = settings_there (has_keys 2 d) (raw_in d) (rules_in d)
 
-pub no_raw : (d : Data) → raw_in d ≡ None → settings_parsed d ≡ None
-unfolding settings_parsed
-no_raw d e = ap (λ raw. settings_with (has_keys 2 d) raw (rules_in d)) e ∙ without_raw (has_keys 2 d) (rules_in d)
-
-pub no_rules : (d : Data) → rules_in d ≡ None → settings_parsed d ≡ None
-unfolding settings_parsed
-no_rules d e = ap (settings_with (has_keys 2 d) (raw_in d)) e ∙ without_rules (has_keys 2 d) (raw_in d)
-
-pub no_rule_values : (d : Data) → values_in (codes "rules") d ≡ None → settings_parsed d ≡ None
-no_rule_values d e = no_rules d (ap (option_and_then (each rule_parsed)) e)
-
-both_there : {b : Bool} {r : Option ℤ} {rs : Option (List Rule)} (raw : ℤ) (rules : List Rule) → b ≡ true → r ≡ Some raw → rs ≡ Some rules
-    → settings_with b r rs ≡ Some (record { raw_duration = unsigned_abs raw; rules = rules })
-both_there raw rules eb er es = rw (eb, er, es) refl
+pub settings_lacking : (d : Data) → has_settings d ≡ false → settings_parsed d ≡ None
+settings_lacking d e = none_of (settings_parsed d) (settings_form d ∙ e)
 
 pub parts_read : (d : Data) (values : Items) (raw : ℤ) (rules : List Rule) → has_keys 2 d ≡ true → raw_in d ≡ Some raw
     → values_in (codes "rules") d ≡ Some values → each rule_parsed values ≡ Some rules
     → settings_parsed d ≡ Some (record { raw_duration = unsigned_abs raw; rules = rules })
 unfolding settings_parsed
-parts_read d values raw rules keys er ev es = both_there raw rules keys er (ap (option_and_then (each rule_parsed)) ev ∙ es)
+parts_read d values raw rules keys er ev es = let listed : rules_in d ≡ Some rules = ap (option_and_then (each rule_parsed)) ev ∙ es in rw (keys, er, listed) refl
 
 -- ---- the text
 

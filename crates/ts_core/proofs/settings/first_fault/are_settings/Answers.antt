@@ -1,19 +1,18 @@
-use Rattle.std.proofs.Common.{rules, ◌≡◌, ◌∙◌, true, false, None, Some, option_and_then, codes, sym, ap}
-use Rattle.std.specs.Prelude.{is_some}
+use Rattle.std.proofs.Common.{rules, ◌≡◌, ◌∙◌, true, false, None, Some, codes, sym}
 use Rattle.serde_json.specs.View.{view, items_view}
-use Rattle.ts_core.specs.settings.SettingsTexts.{has_keys, each, rule_parsed}
-use Rattle.ts_core.proofs.settings.SettingsForms.{raw_in, values_in, other_settings_keys, no_raw, no_rule_values}
-use Rattle.ts_core.proofs.settings.FoundLemmas.{settings_form}
+use Rattle.ts_core.specs.settings.SettingsTexts.{has_keys}
+use Rattle.ts_core.proofs.settings.SettingsForms.{raw_in, values_in, settings_form}
+use Rattle.std.proofs.Math.Bool.{and-false}
 use Rattle.ts_core.proofs.settings.first_fault.are_settings.Goals as goal
 
 pub returns-then-not-has_keys : goal.returns-then-not-has_keys
-returns-then-not-has_keys c = let none : has_keys 2 (view c.args.value.now) ≡ false = search rules in sym (ap is_some (other_settings_keys _ none))
+returns-then-not-has_keys c = let none : has_keys 2 (view c.args.value.now) ≡ false = search rules in sym (settings_form _ ∙ simp none)
 
 pub returns-in_default : goal.returns-in_default
-returns-in_default c = let none : raw_in (view c.args.value.now) ≡ None = search rules in sym (ap is_some (no_raw _ none))
+returns-in_default c = let none : raw_in (view c.args.value.now) ≡ None = search rules in sym (settings_form _ ∙ simp (none, and-false))
 
 pub returns-in_default-values_at : goal.returns-in_default-values_at
-returns-in_default-values_at c = let none : values_in (codes "rules") (view c.args.value.now) ≡ None = search rules in sym (ap is_some (no_rule_values _ none))
+returns-in_default-values_at c = let none : values_in (codes "rules") (view c.args.value.now) ≡ None = search rules in sym (settings_form _ ∙ simp (none, and-false))
 
 pub returns : goal.returns
 returns c =
@@ -21,4 +20,4 @@ returns c =
     let values = items_view c.in-Some-values_at.rules.now in
     let found : values_in (codes "rules") d ≡ Some values = sym c.in-Some-values_at.ensures in
     let keys : has_keys 2 d ≡ true = search rules in
-    c.are_rules.ensures ∙ sym (ap (λ o. is_some (option_and_then (each rule_parsed) o)) found) ∙ settings_form d keys (ap is_some (sym c.in-Some.ensures.value))
+    c.are_rules.ensures ∙ sym (settings_form d ∙ simp (keys, sym c.in-Some.ensures.value, found))

@@ -1,28 +1,28 @@
-use Rattle.std.proofs.Common.{rules, ◌≡◌, ◌∙◌, true, false, None, Some, option_and_then, codes, sym, ap}
+use Rattle.std.proofs.Common.{rules, ◌≡◌, ◌∙◌, true, false, None, Some, codes, sym, ap}
 use Rattle.std.specs.Prelude.{is_some}
 use Rattle.serde_json.specs.View.{view, items_view}
 use Rattle.ts_core.specs.settings.SettingsTexts.{has_keys, each, filled_text}
-use Rattle.ts_core.proofs.settings.SettingsForms.{name_in, measurement_in, interval_in, offset_in, values_in, tags_in, other_keys, no_name, no_measurement, no_interval, no_offset, no_tag_values, no_tags}
-use Rattle.ts_core.proofs.settings.FoundLemmas.{none_of, rule_form}
+use Rattle.ts_core.proofs.settings.SettingsForms.{name_in, measurement_in, interval_in, offset_in, values_in, rule_form}
+use Rattle.std.proofs.Math.Bool.{and-false}
 use Rattle.ts_core.proofs.settings.first_fault.is_rule.Goals as goal
 
 pub returns-then-not-has_keys : goal.returns-then-not-has_keys
-returns-then-not-has_keys c = let none : has_keys 6 (view c.args.value.now) ≡ false = search rules in sym (ap is_some (other_keys _ none))
+returns-then-not-has_keys c = let none : has_keys 6 (view c.args.value.now) ≡ false = search rules in sym (rule_form _ ∙ simp none)
 
 pub returns-in_default : goal.returns-in_default
-returns-in_default c = let none : name_in (view c.args.value.now) ≡ None = search rules in sym (ap is_some (no_name _ none))
+returns-in_default c = let none : name_in (view c.args.value.now) ≡ None = search rules in sym (rule_form _ ∙ simp (none, and-false))
 
 pub returns-in_default-filled_string_at : goal.returns-in_default-filled_string_at
-returns-in_default-filled_string_at c = let none : measurement_in (view c.args.value.now) ≡ None = search rules in sym (ap is_some (no_measurement _ none))
+returns-in_default-filled_string_at c = let none : measurement_in (view c.args.value.now) ≡ None = search rules in sym (rule_form _ ∙ simp (none, and-false))
 
 pub returns-in_default-interval_at : goal.returns-in_default-interval_at
-returns-in_default-interval_at c = let none : interval_in (view c.args.value.now) ≡ None = search rules in sym (ap is_some (no_interval _ none))
+returns-in_default-interval_at c = let none : interval_in (view c.args.value.now) ≡ None = search rules in sym (rule_form _ ∙ simp (none, and-false))
 
 pub returns-in_default-offset_at : goal.returns-in_default-offset_at
-returns-in_default-offset_at c = let none : offset_in (view c.args.value.now) ≡ None = search rules in sym (ap is_some (no_offset _ none))
+returns-in_default-offset_at c = let none : offset_in (view c.args.value.now) ≡ None = search rules in sym (rule_form _ ∙ simp (none, and-false))
 
 pub returns-in_default-values_at : goal.returns-in_default-values_at
-returns-in_default-values_at c = let none : values_in (codes "keep") (view c.args.value.now) ≡ None = search rules in sym (ap is_some (no_tag_values _ none))
+returns-in_default-values_at c = let none : values_in (codes "keep") (view c.args.value.now) ≡ None = search rules in sym (rule_form _ ∙ simp (none, and-false))
 
 pub returns-then-not-are_filled : goal.returns-then-not-are_filled
 returns-then-not-are_filled c =
@@ -30,7 +30,7 @@ returns-then-not-are_filled c =
     let values = items_view c.in-Some-values_at.tags.now in
     let found : values_in (codes "keep") d ≡ Some values = sym c.in-Some-values_at.ensures in
     let empty : is_some (each filled_text values) ≡ false = search rules in
-    sym (ap is_some (no_tags d (ap (option_and_then (each filled_text)) found ∙ none_of (each filled_text values) empty)))
+    sym (rule_form d ∙ simp (found, empty, and-false))
 
 pub returns : goal.returns
 returns c =
@@ -39,6 +39,5 @@ returns c =
     let found : values_in (codes "keep") d ≡ Some values = sym c.in-Some-values_at.ensures in
     let keys : has_keys 6 d ≡ true = search rules in
     let all : is_some (each filled_text values) ≡ true = search rules in
-    let tags : is_some (tags_in d) ≡ true = ap (λ o. is_some (option_and_then (each filled_text) o)) found ∙ all in
     c.is_some.ensures ∙ ap is_some c.keeping_at.ensures.value
-    ∙ rule_form d keys (ap is_some (sym c.in-Some.ensures)) (ap is_some (sym c.in-Some-filled_string_at.ensures)) (ap is_some (sym c.in-Some-interval_at.ensures)) (ap is_some (sym c.in-Some-offset_at.ensures)) tags
+    ∙ sym (rule_form d ∙ simp (keys, sym c.in-Some.ensures, sym c.in-Some-filled_string_at.ensures, sym c.in-Some-interval_at.ensures, sym c.in-Some-offset_at.ensures, found, all))
