@@ -12,5 +12,4 @@ pub mod Groups
 -- Remainders
 pub mod RemaindersLemmas
 -- Means, Ratios
-pub mod RatiosLemmas
 pub mod MeansLemmas

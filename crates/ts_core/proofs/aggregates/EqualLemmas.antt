@@ -1,23 +1,19 @@
 -- Equality of aggregates by comparison.
-use Rattle.std.proofs.Common.{◌≡◌, ℤ, Bool, true, ◌&&◌, nat_eq, int_eq, refl, sym, ap, subst, true≢false, Option, Some, None, int_cmp}
+use Rattle.std.proofs.Common.{◌≡◌, ℤ, Bool, true, ◌&&◌, nat_eq, int_eq, refl, sym, ap, subst, true≢false, Option, Some, None}
 use Rattle.std.specs.Option.{option_eq}
 use Rattle.std.specs.Cmp.Derive.{both_true}
 use Rattle.std.proofs.lemmas.Bool.{eqb-true, eq-eqb, and_parts}
 use Rattle.std.proofs.lemmas.Cmp.{int_eq_equiv}
-use Rattle.std.proofs.lemmas.Map.Lookups.{exact_signed}
+use Rattle.std.proofs.lemmas.Bool.Decides.{Decides-int_eq}
 use Rattle.ts_core.specs.declared.aggregates.aggregate.Extremes.{Extremes}
 use Rattle.ts_core.specs.contracts.aggregates.aggregate.ExtremesPartialEq.TheImpl.{eq-value}
 use Rattle.ts_core.specs.aggregates.Aggregates.{Aggregate}
-use Rattle.ts_core.proofs.facts.Ids.{equal_of}
-
-same_value : (x y : ℤ) → int_eq x y ≡ true → x ≡ y
-same_value x y h = exact_signed x y (equal_of (int_cmp x y) h)
 
 same_point : (p q : ℤ × ℤ) → (int_eq p.0 q.0 && int_eq p.1 q.1) ≡ true → p ≡ q
 same_point p q h =
     let s = and_parts (int_eq p.0 q.0) (int_eq p.1 q.1) h in
-    let t = same_value p.0 q.0 s.0 in
-    let v = same_value p.1 q.1 s.1 in
+    let t = (Decides-int_eq p.0 q.0).0 s.0 in
+    let v = (Decides-int_eq p.1 q.1).0 s.1 in
     λ i. (t i, v i)
 
 abbrev are_equal : Extremes → Extremes → Bool
@@ -29,8 +25,8 @@ same_extremes x y h =
     let a = and_parts (int_eq x.min y.min) _ h in
     let b = and_parts (int_eq x.max y.max) _ a.1 in
     let c = and_parts (int_eq x.first.0 y.first.0 && int_eq x.first.1 y.first.1) (int_eq x.last.0 y.last.0 && int_eq x.last.1 y.last.1) b.1 in
-    let min = same_value x.min y.min a.0 in
-    let max = same_value x.max y.max b.0 in
+    let min = (Decides-int_eq x.min y.min).0 a.0 in
+    let max = (Decides-int_eq x.max y.max).0 b.0 in
     let first = same_point x.first y.first c.0 in
     let last = same_point x.last y.last c.1 in
     λ i. record { min = min i; max = max i; first = first i; last = last i }
@@ -56,7 +52,7 @@ pub same_aggregates : (a b : Aggregate) → equal_aggregates a b ≡ true → a 
 same_aggregates a b h =
     let s = and_parts (int_eq a.sum b.sum) _ h in
     let t = and_parts (nat_eq a.count b.count) _ s.1 in
-    let sum = same_value a.sum b.sum s.0 in
+    let sum = (Decides-int_eq a.sum b.sum).0 s.0 in
     let count = eqb-true a.count b.count t.0 in
     let extremes = same_options a.extremes b.extremes t.1 in
     λ i. record { count = count i; sum = sum i; extremes = extremes i }

@@ -1,12 +1,15 @@
 -- Uniqueness of the mean in lowest terms: the quotients by the greatest common divisor.
 use Rattle.std.proofs.Common.{inl, inr, ◌⊎◌, ⊎_elim, ◌≡◌, ℕ, ℤ, pos, negsuc, suc, zero, ◌+◌, ◌*◌, ◌/◌, ◌%◌, ◌<◌, ◌≤◌, ◌*ℤ◌, arith, refl, sym, ap, ◌∙◌, subst, neg_ℤ, unsigned_abs, pos_of_ne-zero, one-mul, div-add-mod', mod-lt}
 use Rattle.std.proofs.Math.Nat.{dvd-mul_left, dvd-mod_iff, dvd-add_iff_left, dvd_of_mul-dvd-mul_left, dvd-mul_right, eq-one_of_dvd-one, mul-div_cancel, mul-div_cancel', div-mul_cancel, mul-dvd-mul_right, dvd_of_mul-dvd-mul_right, pos_of_dvd_of_pos, one-dvd}
-use Rattle.std.proofs.lemmas.Nat.Gcd.{dvd_antisymm, dvd_of_mod-eq-zero, dvd-zero, dvd_refl}
+use Rattle.std.proofs.lemmas.Nat.Gcd.{dvd_antisymm, dvd_of_mod-eq-zero, dvd-zero, dvd_refl, IsGcd-from_zero, IsGcd-from_mod}
 use Rattle.std.proofs.lemmas.Int.{unsigned_abs-mul}
 use Rattle.ts_core.proofs.aggregates.BucketsLemmas.{times_cancel, times_neg}
 use Rattle.std.proofs.Math.IntN.{negsuc-*ℤ-pos, pos-*ℤ-pos}
 use Rattle.std.specs.Int.{IsGcd, ◌∣◌}
 use Rattle.ts_core.specs.aggregates.Means.{IsMean, signed_as_of}
+use Rattle.ts_core.specs.declared.aggregates.means.Frac.{Frac}
+use Rattle.ts_core.specs.aggregates.Aggregates.{Aggregate}
+use Rattle.ts_core.specs.aggregates.Ratios.{divisor_within, common_divisor, mean_of}
 
 crossed : (s c g : ℕ) → g ∣ s → g ∣ c → (s / g) * c ≡ s * (c / g)
 crossed s c g p q = ap (λ n. (s / g) * n) (sym (div-mul_cancel g q)) ∙ omega arith ∙ ap (λ n. n * (c / g)) (div-mul_cancel g p)
@@ -25,27 +28,21 @@ lowest_terms s c g h k = (
       dvd_of_mul-dvd-mul_right d (pos_of_dvd_of_pos k.1 h) w,
 )
 
-pub IsMean-from_natural : (s c g : ℕ) → 0 < c → IsGcd s c g → IsMean c (pos s) (pos (s / g)) (c / g)
-IsMean-from_natural s c g h k = record {
-  exact = pos-*ℤ-pos (s / g) c ∙ ap pos (crossed s c g k.0 k.1) ∙ sym (pos-*ℤ-pos s (c / g));
-  lowest = lowest_terms s c g h k;
-  positive = quotient_pos c g h k.1;
-}
-
 abs_neg : (n : ℕ) → unsigned_abs (neg_ℤ (pos n)) ≡ n
 abs_neg zero = refl
 abs_neg (suc n) = refl
 
-pub IsMean-from_negative : (s c g : ℕ) → 0 < c → IsGcd (suc s) c g → IsMean c (negsuc s) (neg_ℤ (pos (suc s / g))) (c / g)
-IsMean-from_negative s c g h k = record {
+pub IsMean-from_quotients : (sum : ℤ) (c g : ℕ) → 0 < c → IsGcd (unsigned_abs sum) c g → IsMean c sum (signed_as_of sum (unsigned_abs sum / g)) (c / g)
+IsMean-from_quotients (pos s) c g h k = record {
+  exact = pos-*ℤ-pos (s / g) c ∙ ap pos (crossed s c g k.0 k.1) ∙ sym (pos-*ℤ-pos s (c / g));
+  lowest = lowest_terms s c g h k;
+  positive = quotient_pos c g h k.1;
+}
+IsMean-from_quotients (negsuc s) c g h k = record {
   exact = times_neg (suc s / g) c ∙ ap (λ n. neg_ℤ (pos n)) (crossed (suc s) c g k.0 k.1) ∙ sym (negsuc-*ℤ-pos s (c / g));
   lowest = rw abs_neg (lowest_terms (suc s) c g h k);
   positive = quotient_pos c g h k.1;
 }
-
-pub IsMean-from_quotients : (sum : ℤ) (c g : ℕ) → 0 < c → IsGcd (unsigned_abs sum) c g → IsMean c sum (signed_as_of sum (unsigned_abs sum / g)) (c / g)
-IsMean-from_quotients (pos s) c g h k = IsMean-from_natural s c g h k
-IsMean-from_quotients (negsuc s) c g h k = IsMean-from_negative s c g h k
 
 -- the same at the names of a function's steps
 pub IsMean-given : (sum n : ℤ) (m c g : ℕ) → 0 < c → IsGcd m c g → m ≡ unsigned_abs sum → n ≡ signed_as_of sum (m / g) → IsMean c sum n (c / g)
@@ -105,3 +102,19 @@ only_mean count sum n m d e some f g =
     let q : e ∣ d = is_aligned e e (omega arith) y d g.lowest (subst (λ z. e ∣ z) cross (dvd-mul_left e x)) in
     let same : d ≡ e = dvd_antisymm p q in
     (times_cancel n m count some (f.exact ∙ ap (λ z. sum *ℤ pos z) same ∙ sym g.exact), same)
+
+-- ---- the computed mean: the sum over the count, in lowest terms
+
+divisor_within-is : (n a b : ℕ) → b ≤ n → IsGcd a b (divisor_within n a b)
+divisor_within-is n a zero h = IsGcd-from_zero a 0 refl
+divisor_within-is zero a (suc b) h = absurd (omega arith)
+divisor_within-is (suc n) a (suc b) h = IsGcd-from_mod a (suc b) _ (divisor_within-is n (suc b) (a % suc b) (let l = mod-lt a {m = suc b} (omega arith) in omega arith))
+
+pub mean_of-is : (a : Aggregate) → 0 < a.count → IsMean a.count a.sum (mean_of a).numerator (mean_of a).denominator
+mean_of-is a h = IsMean-from_quotients a.sum a.count (common_divisor (unsigned_abs a.sum) a.count) h (divisor_within-is a.count (unsigned_abs a.sum) a.count (omega arith))
+
+-- no other fraction is
+pub mean_of-only : (a : Aggregate) (f : Frac) → 0 < a.count → IsMean a.count a.sum f.numerator f.denominator → f ≡ mean_of a
+mean_of-only a f h m =
+    let e = only_mean a.count a.sum f.numerator (mean_of a).numerator f.denominator (mean_of a).denominator h m (mean_of-is a h) in
+    λ i. record { numerator = e.0 i; denominator = e.1 i }

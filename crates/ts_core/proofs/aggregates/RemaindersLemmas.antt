@@ -95,13 +95,10 @@ module _ (whole part : Aggregate) (w p : Extremes) (n : ℕ) (s : ℤ)
   pub beyond_from : LiesInside part whole → AreBeyond w p
   beyond_from l = subst (λ x. BothAreBeyond (Some w) x) is_part (subst (λ x. BothAreBeyond x part.extremes) is_whole l.beyond)
 
-  at_rest : IsSound (inner_rest whole part) → IsSpread n s w
-  at_rest h =
-      subst (λ k. IsSpread k s w) (sym is_count) (subst (λ z. IsSpread (whole.count - part.count) z w) (sym is_sum)
-      (subst (λ x. MatchOption x (record { count = whole.count - part.count; sum = whole.sum -ℤ part.sum; extremes = x } ≡ empty_aggregate) (IsSpread (whole.count - part.count) (whole.sum -ℤ part.sum))) is_whole h))
-
   pub spread_from : LiesInside part whole → IsSpread n s w
-  spread_from l = at_rest l.possible
+  spread_from l =
+      subst (λ k. IsSpread k s w) (sym is_count) (subst (λ z. IsSpread (whole.count - part.count) z w) (sym is_sum)
+      (subst (λ x. MatchOption x (record { count = whole.count - part.count; sum = whole.sum -ℤ part.sum; extremes = x } ≡ empty_aggregate) (IsSpread (whole.count - part.count) (whole.sum -ℤ part.sum))) is_whole l.possible))
 
   pub LiesInside_from : AreBeyond w p → IsSpread n s w → LiesInside part whole
   LiesInside_from b h = record {

@@ -29,6 +29,7 @@ use Rattle.ts_core.proofs.store.Cuts.{one_fact, aggregate_where, filter-agree, a
 use Rattle.ts_core.proofs.store.StateLemmas.{le_trans}
 use Rattle.ts_core.proofs.queries.Boundaries.{within_parts}
 use Rattle.ts_core.proofs.queries.CellsInRows.{same_row, in_row-matches}
+use Rattle.ts_core.proofs.plans.Covered.{within_below, within_above}
 use Rattle.ts_core.proofs.plans.PieceCells.{same_cell-eq, same_cell-refl, Serving, serving, index_of-high, start_of-high, is_rolled-matches}
 use Rattle.ts_core.proofs.queries.AnswersLaws.{filter_both}
 
@@ -89,9 +90,6 @@ part_right : (x : Bool) → Part false x x
 part_right true = tt
 part_right false = tt
 
-part_at : (x y z x' y' z' : Bool) → x ≡ x' → y ≡ y' → z ≡ z' → Part x' y' z' → Part x y z
-part_at x y z x' y' z' e f g p = subst (λ u. Part u y z) (sym e) (subst (λ u. Part x' u z) (sym f) (subst (λ u. Part x' y' u) (sym g) p))
-
 pub within-part : (a c b t : ℤ) → a ≤ℤ c → c ≤ℤ b → Part (is_within a c t) (is_within c b t) (is_within a b t)
 within-part a c b t l m =
     by_lt_z t c
@@ -99,12 +97,12 @@ within-part a c b t l m =
     let p : is_within a c t ≡ int_le a t = grind (arith, ints) in
     let o : is_within c b t ≡ false = grind (arith, ints) in
     let n : is_within a b t ≡ int_le a t = grind (arith, ints) in
-    part_at (is_within a c t) (is_within c b t) (is_within a b t) (int_le a t) false (int_le a t) p o n (part_left (int_le a t)))
+    rw (p, o, n) (part_left (int_le a t)))
     (λ after.
     let p : is_within a c t ≡ false = grind (arith, ints) in
     let o : is_within c b t ≡ int_lt t b = grind (arith, ints) in
     let n : is_within a b t ≡ int_lt t b = grind (arith, ints) in
-    part_at (is_within a c t) (is_within c b t) (is_within a b t) false (int_lt t b) (int_lt t b) p o n (part_right (int_lt t b)))
+    rw (p, o, n) (part_right (int_lt t b)))
 
 pub part_under : (y x z w : Bool) → Part x z w → Part (y && x) (y && z) (y && w)
 part_under true x z w p = p
@@ -112,9 +110,7 @@ part_under false x z w p = tt
 
 -- no time is within an empty range
 pub never_within : (a t : ℤ) → is_within a a t ≡ false
-never_within a t = by_lt_z t a
-    (λ l. let e : int_le a t ≡ false = grind (arith, ints) in ap (λ x. x && int_lt t a) e)
-    (λ n. let e : int_lt t a ≡ false = grind (arith, ints) in and_right (int_le a t) _ e)
+never_within a t = by_lt_z t a (within_below a a t) (within_above a a t)
 
 and_again : (s w t : Bool) → ((s && w) && t) && w ≡ (s && w) && t
 and_again true true true = refl

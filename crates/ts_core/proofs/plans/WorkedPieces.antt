@@ -98,7 +98,7 @@ before_the_run = refl
 
 -- ---- raw points for a minute, and a rule that keeps for two; a run at 10 min
 
-abbrev one_minute : Settings
+abbrev pub one_minute : Settings
 one_minute = record { raw_duration = 60000000000; rules = by_minute x [] 120000000000 ∷ [] }
 
 other_marks : marks_of one_minute (Begin (pos 600000000000) ∷ []) ≡ record { raw = pos 540000000000; lows = pos 8 ∷ [] }

@@ -1,15 +1,19 @@
 -- Worked examples of plans: each is the plan, and so the only one.
-use Rattle.std.proofs.Common.{◌≡◌, ℕ, zero, suc, pos, ◌+◌, ◌*◌, List, [], ◌∷◌, refl, arith}
+use Rattle.std.proofs.Common.{◌≡◌, ℕ, zero, suc, pos, ◌+◌, ◌*◌, List, [], ◌∷◌, refl, arith, true, None}
 use Rattle.std.proofs.lemmas.Int.{ints}
 use Rattle.ts_core.specs.settings.Settings.{Rule, Settings}
+use Rattle.ts_core.specs.settings.SettingsFaults.{settings_fault}
 use Rattle.ts_core.specs.store.Marks.{Marks, marks_of}
 use Rattle.ts_core.specs.store.History.{Begin}
-use Rattle.ts_core.specs.queries.Queries.{Query}
+use Rattle.ts_core.specs.queries.Queries.{Query, IsQuery}
 use Rattle.ts_core.specs.plans.Pieces.{Piece, query_context}
-use Rattle.ts_core.specs.plans.Plans.{IsPlan, whole_buckets}
-use Rattle.ts_core.proofs.settings.Intervals.{IsWide, asked_wide}
-use Rattle.ts_core.proofs.plans.WalkChecks.{is_walk-IsWalk}
+use Rattle.ts_core.specs.plans.Plans.{IsPlan, joined, whole_buckets}
+use Rattle.ts_core.proofs.settings.Intervals.{asked_wide}
+use Rattle.ts_core.proofs.plans.WalkChecks.{is_walk, is_walk-IsWalk}
 use Rattle.ts_core.proofs.plans.WorkedPieces.{cpu, m1, asks, raw, rollup, by_minute, minute, two_minutes, at_200s}
+
+planned : (s : Settings) (m : Marks) (q : Query) → settings_fault s ≡ None → IsQuery q → (bs : List Piece) → is_walk (query_context s m q) q.from bs ≡ true → IsPlan s m q (joined (query_context s m q) bs)
+planned s m q well is bs walk = (bs, is_walk-IsWalk (query_context s m q) q.from bs (asked_wide s m q well is) walk, refl)
 
 -- ---- below the raw mark the rule's buckets, and then raw points
 
@@ -18,9 +22,8 @@ three_minutes = asks cpu [] 0 180000000000 minute
 
 three_minutes_plan : IsPlan two_minutes at_200s three_minutes (rollup m1 0 120000000000 ∷ raw 120000000000 180000000000 ∷ [])
 three_minutes_plan =
-    let h : IsWide (query_context two_minutes at_200s three_minutes) = asked_wide two_minutes at_200s three_minutes refl (record { interval = omega (arith, ints); range = omega (arith, ints) }) in
-    let bs : List Piece = rollup m1 0 60000000000 ∷ rollup m1 60000000000 120000000000 ∷ raw 120000000000 180000000000 ∷ [] in
-    (bs, is_walk-IsWalk (query_context two_minutes at_200s three_minutes) (pos 0) bs h refl, refl)
+    planned two_minutes at_200s three_minutes refl (record { interval = omega (arith, ints); range = omega (arith, ints) })
+    (rollup m1 0 60000000000 ∷ rollup m1 60000000000 120000000000 ∷ raw 120000000000 180000000000 ∷ []) refl
 
 -- ---- two pieces of one rule, since 180 s is a boundary of the query alone
 
@@ -32,9 +35,8 @@ by_90s = asks cpu [] 120000000000 240000000000 90000000000
 
 by_90s_plan : IsPlan two_minutes at_10m by_90s (rollup m1 120000000000 180000000000 ∷ rollup m1 180000000000 240000000000 ∷ [])
 by_90s_plan =
-    let h : IsWide (query_context two_minutes at_10m by_90s) = asked_wide two_minutes at_10m by_90s refl (record { interval = omega (arith, ints); range = omega (arith, ints) }) in
-    let bs : List Piece = rollup m1 120000000000 180000000000 ∷ rollup m1 180000000000 240000000000 ∷ [] in
-    (bs, is_walk-IsWalk (query_context two_minutes at_10m by_90s) (pos 120000000000) bs h refl, refl)
+    planned two_minutes at_10m by_90s refl (record { interval = omega (arith, ints); range = omega (arith, ints) })
+    (rollup m1 120000000000 180000000000 ∷ rollup m1 180000000000 240000000000 ∷ []) refl
 
 -- ---- a rule by hour before a rule by minute: minutes up to the first whole hour
 
@@ -58,9 +60,8 @@ minutes_from k (suc n) more = rollup m1 (k * 60000000000) ((k + 1) * 60000000000
 half_past_plan : IsPlan hours_and_minutes at_3h from_half_past (rollup m1 1800000000000 3600000000000 ∷ rollup (104 ∷ 49 ∷ []) 3600000000000 10800000000000 ∷ [])
 unfolding minutes_from
 half_past_plan =
-    let h : IsWide (query_context hours_and_minutes at_3h from_half_past) = asked_wide hours_and_minutes at_3h from_half_past refl (record { interval = omega (arith, ints); range = omega (arith, ints) }) in
-    let bs : List Piece = minutes_from 30 30 (rollup (104 ∷ 49 ∷ []) 3600000000000 7200000000000 ∷ rollup (104 ∷ 49 ∷ []) 7200000000000 10800000000000 ∷ []) in
-    (bs, is_walk-IsWalk (query_context hours_and_minutes at_3h from_half_past) (pos 1800000000000) bs h refl, refl)
+    planned hours_and_minutes at_3h from_half_past refl (record { interval = omega (arith, ints); range = omega (arith, ints) })
+    (minutes_from 30 30 (rollup (104 ∷ 49 ∷ []) 3600000000000 7200000000000 ∷ rollup (104 ∷ 49 ∷ []) 7200000000000 10800000000000 ∷ [])) refl
 
 -- ---- the limit: a rule by second has 1,000,001 whole buckets in 1,000,001 s, and 1,000,000 in one second less
 

@@ -21,19 +21,14 @@ numbers_there : (k j : ℤ) (n : ℕ) → k ≤ℤ j → j <ℤ (k +ℤ pos n) �
 numbers_there k j zero l u = absurd (omega (arith, ints))
 numbers_there k j (suc n) l u = by_lt_z k j (λ m. inr (numbers_there (k +ℤ pos 1) j n (omega (arith, ints)) (omega (arith, ints)))) (λ m. inl (omega (arith, ints)))
 
-numbers_low : (k j : ℤ) (n : ℕ) → Among j (numbers_from k n) → k ≤ℤ j
-numbers_low k j zero h = absurd h
-numbers_low k j (suc n) (inl e) = omega (arith, ints)
-numbers_low k j (suc n) (inr h) = let r = numbers_low (k +ℤ pos 1) j n h in omega (arith, ints)
-
-numbers_high : (k j : ℤ) (n : ℕ) → Among j (numbers_from k n) → j <ℤ (k +ℤ pos n)
-numbers_high k j zero h = absurd h
-numbers_high k j (suc n) (inl e) = omega (arith, ints)
-numbers_high k j (suc n) (inr h) = let r = numbers_high (k +ℤ pos 1) j n h in omega (arith, ints)
+numbers_between : (k j : ℤ) (n : ℕ) → Among j (numbers_from k n) → (k ≤ℤ j) × (j <ℤ (k +ℤ pos n))
+numbers_between k j zero h = absurd h
+numbers_between k j (suc n) (inl e) = (omega (arith, ints), omega (arith, ints))
+numbers_between k j (suc n) (inr h) = let r = numbers_between (k +ℤ pos 1) j n h in let low = r.0 in let high = r.1 in (omega (arith, ints), omega (arith, ints))
 
 numbers_rise : (k : ℤ) (n : ℕ) → AreRising (numbers_from k n)
 numbers_rise k zero = tt
-numbers_rise k (suc n) = (λ j h. let r = numbers_low (k +ℤ pos 1) j n h in omega (arith, ints), numbers_rise (k +ℤ pos 1) n)
+numbers_rise k (suc n) = (λ j h. let r = (numbers_between (k +ℤ pos 1) j n h).0 in omega (arith, ints), numbers_rise (k +ℤ pos 1) n)
 
 pub at_least_none-is : (z : ℤ) → pos 0 ≤ℤ z → pos (at_least_none z) ≡ z
 at_least_none-is (pos n) h = refl
@@ -73,8 +68,8 @@ meets_from q k h =
       | true ↦ λ e a.
           let l = lt_from q.from q.to e in
           let n : ℕ = at_least_none ((bucket_in q (q.to -ℤ pos 1) -ℤ bucket_in q q.from) +ℤ pos 1) in
-          let low = numbers_low (bucket_in q q.from) k n a in
-          let high = numbers_high (bucket_in q q.from) k n a in
+          let low = (numbers_between (bucket_in q q.from) k n a).0 in
+          let high = (numbers_between (bucket_in q q.from) k n a).1 in
           let e2 = number_is q h l in
           let up : k <ℤ (bucket_in q (q.to -ℤ pos 1) +ℤ pos 1) = subst (λ z. k <ℤ z) e2 high in
           some_moment q k h l low (omega (arith, ints))

@@ -11,7 +11,7 @@ use Rattle.ts_core.specs.facts.Tags.{value_among, tag_value, tag_values}
 use Rattle.ts_core.specs.queries.Queries.{Condition, Query, meets, is_selected, matches, group_of}
 use Rattle.ts_core.specs.plans.Pieces.{MarkedRule, RuleServes}
 use Rattle.ts_core.specs.store.Cells.{cell_of, is_rolled}
-use Rattle.ts_core.specs.queries.Answers.{same_group, is_in_row, bucket_in}
+use Rattle.ts_core.specs.queries.Answers.{same_group, is_in_row}
 use Rattle.ts_core.specs.plans.Assembly.{representative, in_part}
 use Rattle.ts_core.proofs.facts.Ids.{same_text-eq}
 use Rattle.ts_core.proofs.lists.Comparisons.{le_true, lt_true, same_text-refl}
@@ -50,16 +50,9 @@ all_parts P (x ∷ xs) ys a = let r = all_parts P xs ys a.1 in ((a.0, r.0), r.1)
 -- ---- tests
 
 -- in a range, tests that agree there
-in_range : (sel sel' wq wq' grp grp' bkt bkt' w w' : Bool) → sel ≡ sel' → grp ≡ grp' → w ≡ w' → (w ≡ true → wq ≡ wq') → (w ≡ true → bkt ≡ bkt')
-    → ((sel && wq) && (grp && bkt)) && w ≡ ((sel' && wq') && (grp' && bkt')) && w'
-in_range sel sel' wq wq' grp grp' bkt bkt' true w' a b c d e =
-    ap₂ (λ x y. x && y) (ap₂ (λ x y. x && y) (ap₂ (λ x y. x && y) a (d refl)) (ap₂ (λ x y. x && y) b (e refl))) c
-in_range sel sel' wq wq' grp grp' bkt bkt' false w' a b c d e =
-    and_right ((sel && wq) && (grp && bkt)) false refl ∙ sym (and_right ((sel' && wq') && (grp' && bkt')) _ (sym c))
-
-match_in_range : (sel sel' wq wq' w w' : Bool) → sel ≡ sel' → w ≡ w' → (w ≡ true → wq ≡ wq') → (sel && wq) && w ≡ (sel' && wq') && w'
-match_in_range sel sel' wq wq' true w' a c d = ap₂ (λ x y. x && y) (ap₂ (λ x y. x && y) a (d refl)) c
-match_in_range sel sel' wq wq' false w' a c d = and_right (sel && wq) false refl ∙ sym (and_right (sel' && wq') _ (sym c))
+in_range : (x x' w w' : Bool) → w ≡ w' → (w ≡ true → x ≡ x') → x && w ≡ x' && w'
+in_range x x' true w' c d = ap₂ (λ y z. y && z) (d refl) c
+in_range x x' false w' c d = and_right x false refl ∙ sym (and_right x' _ (sym c))
 
 pub wider : (a b c d t : ℤ) → c ≤ℤ a → b ≤ℤ d → is_within a b t ≡ true → is_within c d t ≡ true
 wider a b c d t h k w =
@@ -97,17 +90,14 @@ module _ (q : Query) (r : MarkedRule) (a b : ℤ) (v : pos 1 ≤ℤ q.interval) 
 
   -- they match alike
   pub same_match : in_part (matches q) a b f ≡ in_part (matches q) a b (representative r.rule (cell_of r.rule f))
-  same_match =
-      match_in_range (is_selected q f.column) (is_selected q cell_column) (is_within q.from q.to f.time) (is_within q.from q.to u) (is_within a b f.time) (is_within a b u) selected range in_query
+  same_match = in_range (matches q f) (is_selected q cell_column && is_within q.from q.to u) (is_within a b f.time) (is_within a b u) range (λ e. ap₂ (λ x y. x && y) selected (in_query e))
 
   -- they are in the same rows
   pub same_row : (g : List Text) (k : ℤ) → in_part (is_in_row q g k) a b f ≡ in_part (is_in_row q g k) a b (representative r.rule (cell_of r.rule f))
   same_row g k =
-      in_range (is_selected q f.column) (is_selected q cell_column) (is_within q.from q.to f.time) (is_within q.from q.to u)
-      (same_group (group_of q f) g) (same_group (tag_values q.group_tags (kept_series r.rule f)) g)
-      (int_eq (bucket_in q f.time) k) (int_eq (bucket_in q u) k) (is_within a b f.time) (is_within a b u)
-      selected (ap (λ z. same_group z g) same_group_of) range in_query
-      (λ e. let p = within_parts a b f.time e in ap (λ z. int_eq z k) (one_bucket r.rule q a b f.time w v s.starts s.fits p.0 p.1))
+      in_range (is_in_row q g k f) (is_in_row q g k (representative r.rule (cell_of r.rule f))) (is_within a b f.time) (is_within a b u) range
+      (λ e. let p = within_parts a b f.time e in
+      ap₂ (λ x y. x && y) (ap₂ (λ x y. x && y) selected (in_query e)) (ap₂ (λ x y. x && y) (ap (λ z. same_group z g) same_group_of) (ap (λ z. int_eq z k) (one_bucket r.rule q a b f.time w v s.starts s.fits p.0 p.1))))
 
 -- a matching fact is of the query's measurement
 pub matches-measurement : (q : Query) (f : Fact) → matches q f ≡ true → same_text f.column.series.measurement q.measurement ≡ true

@@ -2,7 +2,7 @@
 use Rattle.std.proofs.Common.{◌≡◌, ℕ, zero, suc, ◌+◌, ◌*◌, ℤ, pos, negsuc, true, false, List, [], ◌∷◌, length, refl, Some, None}
 use Rattle.ts_core.specs.facts.Times.{greatest_time}
 use Rattle.ts_core.specs.facts.Facts.{Text, Column}
-use Rattle.ts_core.specs.settings.Settings.{Rule, Settings}
+use Rattle.ts_core.specs.settings.Settings.{Rule}
 use Rattle.ts_core.specs.store.History.{Event, History, Line, Begin, Step, AddRule, DropRule, settings_of}
 use Rattle.ts_core.specs.facts.Latest.{latest_of}
 use Rattle.ts_core.specs.aggregates.Buckets.{bucket_of}
@@ -18,9 +18,10 @@ use Rattle.ts_core.specs.moves.Runs.{steps_left}
 use Rattle.ts_core.specs.store.Views.{ViewState}
 use Rattle.ts_core.specs.queries.Queries.{Query}
 use Rattle.ts_core.specs.queries.Answers.{Row, Group}
-use Rattle.ts_core.specs.plans.Pieces.{Raw, Rollup, Piece}
+use Rattle.ts_core.specs.plans.Pieces.{Piece}
 use Rattle.ts_core.specs.plans.Faults.{BelowMark, first_fault}
 use Rattle.ts_core.specs.plans.Assembly.{assembled_answer}
+use Rattle.ts_core.proofs.plans.WorkedPieces.{cpu, host, m1, x, by_minute, raw, rollup, two_minutes, one_minute}
 
 -- ---- buckets
 
@@ -44,12 +45,6 @@ bucket_of_greatest = refl
 
 -- ---- raw points for 2 minutes, and minutes of cpu by host for ever
 
-abbrev cpu : Text
-cpu = 99 ∷ 112 ∷ 117 ∷ []
-
-abbrev host : Text
-host = 104 ∷ 111 ∷ 115 ∷ 116 ∷ []
-
 abbrev v : Text
 v = 118 ∷ []
 
@@ -60,10 +55,7 @@ abbrev b : Text
 b = 98 ∷ []
 
 abbrev by_host : Rule
-by_host = record { name = 109 ∷ 49 ∷ []; measurement = cpu; interval = pos 60000000000; offset = pos 0; kept_tags = host ∷ []; duration = 0 }
-
-abbrev two_minutes : Settings
-two_minutes = record { raw_duration = 120000000000; rules = by_host ∷ [] }
+by_host = by_minute m1 (host ∷ []) 0
 
 abbrev column : Text → Column
 column h = record { series = record { measurement = cpu; tags = (host, h) ∷ [] }; field = v }
@@ -87,12 +79,6 @@ raw_after_run : raw_of two_minutes three_points [] (column a) ≡ []
 raw_after_run = refl
 
 -- ---- raw points for a minute, and minutes of cpu for 2 minutes
-
-abbrev by_minute : Rule
-by_minute = record { name = 120 ∷ []; measurement = cpu; interval = pos 60000000000; offset = pos 0; kept_tags = []; duration = 120000000000 }
-
-abbrev one_minute : Settings
-one_minute = record { raw_duration = 60000000000; rules = by_minute ∷ [] }
 
 marks_at_ten : marks_of one_minute (Step true ∷ at_second 600 ∷ []) ≡ record { raw = pos 540000000000; lows = pos 8 ∷ [] }
 marks_at_ten = refl
@@ -118,7 +104,7 @@ open_run waiting n = record {
   series = [];
   columns = [];
   accepted = 300;
-  rules = record { rule = by_minute; low = pos 398; cells = minutes n; parts = λ k. record { frozen = empty_aggregate; live = empty_aggregate } } ∷ [];
+  rules = record { rule = by_minute x [] 120000000000; low = pos 398; cells = minutes n; parts = λ k. record { frozen = empty_aggregate; live = empty_aggregate } } ∷ [];
 }
 
 four_steps : steps_left (open_run (column a ∷ []) 300) ≡ 4
@@ -210,10 +196,7 @@ abbrev three_minutes : List Text → Query
 three_minutes group_tags = record { measurement = cpu; field = v; conditions = []; from = pos 0; to = pos 180000000000; interval = pos 60000000000; offset = pos 0; group_tags = group_tags }
 
 abbrev two_and_one : List Piece
-two_and_one =
-    record { source = Rollup by_host.name; from = pos 0; to = pos 120000000000 }
-    ∷ record { source = Raw; from = pos 120000000000; to = pos 180000000000 }
-    ∷ []
+two_and_one = rollup m1 0 120000000000 ∷ raw 120000000000 180000000000 ∷ []
 
 -- of each row its start, its count and its sum
 abbrev counts_of : List Row → List (ℤ × ℕ × ℤ)
@@ -238,17 +221,14 @@ by_hosts = refl
 no_fault : first_fault two_minutes (marks_of two_minutes three_points) (three_minutes []) two_and_one ≡ None
 no_fault = refl
 
-below_mark : first_fault two_minutes (marks_of two_minutes three_points) (three_minutes []) (record { source = Raw; from = pos 0; to = pos 180000000000 } ∷ []) ≡ Some (BelowMark, 0)
+below_mark : first_fault two_minutes (marks_of two_minutes three_points) (three_minutes []) (raw 0 180000000000 ∷ []) ≡ Some (BelowMark, 0)
 below_mark = refl
 
 -- ---- rules that come and go
 
-abbrev m1 : Text
-m1 = 109 ∷ 49 ∷ []
-
 -- minutes of all of cpu, for ever
 abbrev all_cpu : Rule
-all_cpu = record { name = 103 ∷ []; measurement = cpu; interval = pos 60000000000; offset = pos 0; kept_tags = []; duration = 0 }
+all_cpu = by_minute (103 ∷ []) [] 0
 
 -- the raw mark is at 80 s: the first bucket is the minute from 120 s on
 abbrev g_added : History

@@ -1,6 +1,6 @@
 use Rattle.std.proofs.Common.{rules, ◌<◌, SFits, to_z-of_z}
 use Rattle.std.specs.Int.{w128}
-use Rattle.ts_core.proofs.aggregates.RatiosLemmas.{mean_of-only}
+use Rattle.ts_core.proofs.aggregates.MeansLemmas.{mean_of-only}
 use Rattle.ts_core.proofs.aggregates.means.mean.Goals as goal
 
 pub returns-else-count-eq0-clause-ratio : goal.returns-else-count-eq0-clause-ratio
