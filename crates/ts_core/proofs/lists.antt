@@ -11,7 +11,6 @@ pub mod ListSteps
 pub mod Remaining
 pub mod Indices
 pub mod Permutations
-pub mod Takes
 pub mod Places
 pub mod Sorted
 pub mod Windows

@@ -7,7 +7,6 @@ pub mod RulesCome
 pub mod RunSteps
 pub mod Writes
 pub mod Lines
-pub mod NewStates
 pub mod StateLemmas
 pub mod ColumnFacts
 pub mod Cuts

@@ -11,7 +11,7 @@ use Rattle.ts_core.specs.lists.Members.{Among, AllDistinct}
 use Rattle.ts_core.proofs.lists.Places.{both_of, less_of}
 use Rattle.ts_core.proofs.facts.Ids.{equal_of}
 
-not_itself : {K : Type 0} {R : K → K → Ordering} (o : IsTotalOrder R) (x : K) → R x x ≡ Less → ⊥
+pub not_itself : {K : Type 0} {R : K → K → Ordering} (o : IsTotalOrder R) (x : K) → R x x ≡ Less → ⊥
 not_itself o x h = true≢false (sym (ap is_lt h) ∙ ap is_lt (tied_itself o x))
 
 module _ {K X : Type 0} {R : K → K → Ordering} (o : IsTotalOrder R) where

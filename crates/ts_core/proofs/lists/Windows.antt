@@ -2,6 +2,7 @@
 use Rattle.std.proofs.Common.{◌≡◌, ℕ, ℤ, suc, zero, ◌<◌, ◌≤◌, ◌-◌, ◌+◌, Bool, true, false, cond, T, List, [], ◌∷◌, length, take, drop, filter, get_or, refl, sym, ◌∙◌, ap, arith, slice_index_or, int_lt, ⊎_elim, Less}
 use Rattle.std.proofs.lemmas.Int.{ints}
 use Rattle.std.proofs.lemmas.Bool.{cases_lt}
+use Rattle.std.proofs.lemmas.List.{take_rest}
 use Rattle.std.specs.Ordering.{int_cmp}
 use Rattle.std.specs.Cmp.{int_cmp_total}
 use Rattle.std.specs.FinMap.{is_sorted}
@@ -34,14 +35,8 @@ module _ {X : Type 0} (q : X → Bool) where
 
   -- a filter that refuses a front and passes the rest
   pub filter-rest : (xs : List X) (i : ℕ) → AllWithin (λ x. q x ≡ false) xs 0 i → AllWithin (λ x. q x ≡ true) xs i (length xs) → i ≤ length xs → filter q xs ≡ drop i xs
-  filter-rest (x ∷ xs) zero before after h =
-      ap (λ b. cond b (x ∷ filter q xs) (filter q xs)) (after 0 x (omega arith) (omega arith))
-      ∙ ap (λ zs. x ∷ zs) (filter-rest xs zero (λ k d l m. absurd (omega arith)) (λ k d l m. after (suc k) d (omega arith) (omega arith)) (omega arith))
-  filter-rest (x ∷ xs) (suc i) before after h =
-      ap (λ b. cond b (x ∷ filter q xs) (filter q xs)) (before 0 x (omega arith) (omega arith))
-      ∙ filter-rest xs i (λ k d l m. before (suc k) d (omega arith) (omega arith)) (λ k d l m. after (suc k) d (omega arith) (omega arith)) (omega arith)
-  filter-rest [] zero before after h = refl
-  filter-rest [] (suc i) before after h = refl
+  filter-rest xs i before after h =
+      filter-window xs i (length xs - i) before (λ k d l m. after k d l (omega arith)) (λ k d l m. absurd (omega arith)) (omega arith) ∙ take_rest xs i
 
 in_range : (a b t : ℤ) → int_lt t a ≡ false → int_lt t b ≡ true → is_within a b t ≡ true
 in_range a b t p r = grind (arith, ints)

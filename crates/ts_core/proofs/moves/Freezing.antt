@@ -74,6 +74,11 @@ keys_changed m q f =
       | Some x ↦ λ e. ap (map (λ (y : Cell × CellParts). y.0)) (entries-insert cells_total m q (f x)) ∙ put_keys q (f x) (finmap.entries m) x (sym (get-entries m q) ∙ e) (finmap.entries_sorted m)
     ] refl
 
+-- what a choice of maps has, if both have it
+pub cond_as : {X : Type 0} (read : CellMap → X) (b : Bool) (n m : CellMap) → read n ≡ read m → read (cond b n m) ≡ read m
+cond_as read true n m e = e
+cond_as read false n m e = refl
+
 -- ---- points
 
 abbrev pub in_points : Rule → Column → Cell → ℤ × ℤ → Bool

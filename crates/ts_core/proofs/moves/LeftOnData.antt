@@ -1,6 +1,7 @@
 -- The number of steps left of a run, on a store's content: a step lowers it by one, and writes leave it.
 use Rattle.std.proofs.Common.{◌≡◌, ℕ, ℤ, ◌+◌, ◌≤◌, ◌<ℤ◌, Bool, true, false, cond, List, [], ◌∷◌, length, filter, map, refl, sym, ◌∙◌, ap, ap₂, arith, int_lt}
 use Rattle.std.proofs.lemmas.List.{length-map, nil_from_length}
+use Rattle.std.specs.List.{AllZip}
 use Rattle.std.specs.FinMap as finmap
 use Rattle.ts_core.specs.lists.Members.{Among}
 use Rattle.ts_core.specs.facts.Facts.{Column, Fact, Series}
@@ -14,7 +15,6 @@ use Rattle.ts_core.proofs.lists.MembersLemmas.{AllDistinct-filter, Among-filter_
 use Rattle.ts_core.proofs.aggregates.Folds.{length-same}
 use Rattle.ts_core.proofs.lists.Comparisons.{lt_from}
 use Rattle.ts_core.proofs.moves.StepStands.{keys_column}
-use Rattle.ts_core.proofs.moves.StepsLeft.{batches_left-same}
 use Rattle.ts_core.proofs.moves.MovesStand.{keys_once, key_there, key_not, put_cell-keys, GainsOf}
 use Rattle.ts_core.proofs.moves.EachRule.{rules_changed}
 use Rattle.ts_core.proofs.store.StateLemmas.{AllZip-map}
@@ -24,6 +24,11 @@ use Rattle.ts_core.proofs.store.StateLemmas.{AllZip-map}
 -- a rule has as many cells below its low index
 abbrev pub BelowSame : ℤ → CellMap → CellMap → Type 0
 BelowSame low m n = length (filter (λ (k : Cell). int_lt k.index low) (finmap.keys n)) ≡ length (filter (λ (k : Cell). int_lt k.index low) (finmap.keys m))
+
+batches_left-same : (rs after : List RuleCells) → AllZip (λ (r y : RuleCells). expired_count y ≡ expired_count r) rs after → batches_left after ≡ batches_left rs
+batches_left-same [] [] t = refl
+batches_left-same (r ∷ rs) (y ∷ ys) t = ap₂ (λ m n. batches_of m + n) t.0 (batches_left-same rs ys t.1)
+batches_left-same _ _ t = absurd t
 
 -- each rule keeps its keys
 pub turns_in : (f : Rule → CellMap → CellMap) → ((r : Rule) (m : CellMap) → finmap.keys (f r m) ≡ finmap.keys m) → (rs : List RuleData) → batches_left (map rule_cells (map (in_cells f) rs)) ≡ batches_left (map rule_cells rs)

@@ -1,10 +1,9 @@
 -- The other transitions, on a store's content.
 use Rattle.std.proofs.lemmas.Bool.{not-true, false_from_ne_true, and_parts}
-use Rattle.std.proofs.Common.{◌≡◌, ℤ, ◌≤ℤ◌, true, false, cond, not, ◌&&◌, List, [], ◌∷◌, filter, map, refl, sym, ◌∙◌, ap, subst, inl, inr, ◌⊎◌, ⊎_elim, true≢false, Some, None, is_eq, T}
+use Rattle.std.proofs.Common.{◌≡◌, ℤ, ◌≤ℤ◌, true, false, cond, not, ◌&&◌, List, [], ◌∷◌, filter, map, refl, sym, ◌∙◌, ap, subst, inl, inr, ◌⊎◌, ⊎_elim, true≢false, Some, None, T}
 use Rattle.std.specs.List.{AllByRecursion, AllZip}
 use Rattle.std.specs.FinMap as finmap
-use Rattle.std.specs.FinMap.{find, is_sorted, get-entries, entries_sorted}
-use Rattle.std.specs.FinMap.Entries.{below_all}
+use Rattle.std.specs.FinMap.{is_sorted, get-entries, entries_sorted}
 use Rattle.ts_core.specs.lists.Members.{Among, AllDistinct}
 use Rattle.ts_core.specs.facts.Facts.{Series, Column, Fact, Id, id_of, same_id}
 use Rattle.ts_core.specs.settings.Settings.{Rule, Settings}
@@ -16,13 +15,14 @@ use Rattle.ts_core.specs.store.RawFacts.{kept_from}
 use Rattle.ts_core.specs.store.Cells.{Cell, cell_cmp, same_cell, cell_of, is_rolled, is_in_cell, total_of}
 use Rattle.ts_core.specs.store.StoreStates.{ColumnPoints, CellParts, StandsFor, HasCells, column_of, rule_of, lowest_of, facts_of}
 use Rattle.ts_core.proofs.aggregates.Folds.{fold-same}
-use Rattle.ts_core.proofs.lists.MembersLemmas.{AllDistinct-filter, Among-filter_was, Among-filter_passes, Among-filter_stays}
-use Rattle.ts_core.proofs.plans.PieceCells.{same_cell-eq, same_cell-refl}
+use Rattle.ts_core.proofs.lists.MembersLemmas.{Among-map, map_back, AllDistinct-filter, Among-filter_was, Among-filter_passes, Among-filter_stays}
+use Rattle.ts_core.proofs.plans.PieceCells.{cells_total, exact_cells, same_cell-eq, same_cell-refl}
 use Rattle.ts_core.proofs.facts.Ids.{same_id-eq}
-use Rattle.ts_core.proofs.lists.Places.{both_of, less_of}
+use Rattle.ts_core.proofs.lists.Places.{both_of}
+use Rattle.ts_core.proofs.lists.Sorted.{not_itself, later_greater, among_found}
 use Rattle.ts_core.proofs.store.Cuts.{one_fact}
 use Rattle.ts_core.proofs.store.Moves.{IsRaised, IsExpired, IsWritten, FactsToo}
-use Rattle.ts_core.proofs.store.StateLemmas.{AllZip-map, all_map, all_of_map}
+use Rattle.ts_core.proofs.store.StateLemmas.{AllZip-map, AllZip-mapped, all_map, all_of_map}
 use Rattle.ts_core.proofs.store.Begins.{begin_stands}
 use Rattle.ts_core.proofs.store.RunSteps.{expire_stands, close_stands}
 use Rattle.ts_core.proofs.store.Writes.{is_other}
@@ -30,9 +30,10 @@ use Rattle.ts_core.specs.store.TwoParts.{with_live}
 use Rattle.ts_core.specs.lists.Changes.{or_else}
 use Rattle.ts_core.specs.store.StoreData.{CellMap, no_parts, RuleData, StoreData, rule_cells, state_of}
 use Rattle.ts_core.specs.moves.StoreMoves.{in_cells, raised_rule, run_begun, KeepsFrom, Expired, with_rules, run_ended, GainsEmptyCells, GainEmptyCells, grown, refolded, put_cell, put_cells, PutsFact}
-use Rattle.ts_core.proofs.moves.Freezing.{frozen_in, live_in, changed_as, changed_here, changed_else, keys_changed}
+use Rattle.ts_core.proofs.moves.Freezing.{cond_as, frozen_in, live_in, changed_as, changed_here, changed_else, keys_changed}
 use Rattle.ts_core.proofs.moves.EachRule.{rules_changed, rules_keep, rules_gain, settings_same, marks_same, stands_changed}
-use Rattle.ts_core.proofs.moves.StepStands.{find_among, same_flip}
+pub use Rattle.ts_core.proofs.moves.StepStands.{key_not}
+use Rattle.ts_core.proofs.moves.StepStands.{same_flip}
 
 -- ---- begin
 
@@ -52,32 +53,23 @@ run_begins opening h k now st e =
 
 -- ---- keys
 
-below_not : (k : Cell) (es : List (Cell × CellParts)) → T (below_all cell_cmp k es) → Among k (map (λ (e : Cell × CellParts). e.0) es) → ⊥
-below_not k [] b a = a
-below_not k (e ∷ es) b a =
-    let p = both_of _ _ b in
-    ⊎_elim {C = ⊥} (λ s. true≢false (sym (same_cell-refl k) ∙ ap (same_cell k) s ∙ ap is_eq (less_of _ p.0))) (λ r. below_not k es p.1 r) a
-
 sorted_once : (es : List (Cell × CellParts)) → T (is_sorted cell_cmp es) → AllDistinct (map (λ (e : Cell × CellParts). e.0) es)
 sorted_once [] s = tt
-sorted_once (e ∷ es) s = let p = both_of _ _ s in (below_not e.0 es p.0, sorted_once es p.1)
+sorted_once (e ∷ es) s =
+    let p = both_of _ _ s in
+    let apart = λ (a : Among e.0 (map (λ (x : Cell × CellParts). x.0) es)). let r = map_back (λ (x : Cell × CellParts). x.0) es e.0 a in
+    not_itself cells_total e.0 (ap (cell_cmp e.0) (sym r.2) ∙ later_greater cells_total e.0 es p.0 r.0 r.1) in
+    (apart, sorted_once es p.1)
 
 pub keys_once : (m : CellMap) → AllDistinct (finmap.keys m)
 keys_once m = sorted_once (finmap.entries m) (entries_sorted m)
 
-find_some : (k : Cell) (es : List (Cell × CellParts)) → (find cell_cmp k es ≡ None → ⊥) → Among k (map (λ (e : Cell × CellParts). e.0) es)
-find_some k [] h = h refl
-find_some k (e ∷ es) h =
-    elim (same_cell k e.0) as (λ b. same_cell k e.0 ≡ b → (cond b (Some e.1) (find cell_cmp k es) ≡ None → ⊥) → Among k (map (λ (x : Cell × CellParts). x.0) (e ∷ es))) [
-      | true ↦ λ q n. inl (same_cell-eq k e.0 q)
-      | false ↦ λ q n. inr (find_some k es n)
-    ] refl h
-
 pub key_there : (m : CellMap) (k : Cell) → (finmap.get m k ≡ None → ⊥) → Among k (finmap.keys m)
-key_there m k h = find_some k (finmap.entries m) (λ e. h (get-entries m k ∙ e))
-
-pub key_not : (m : CellMap) (k : Cell) → Among k (finmap.keys m) → finmap.get m k ≡ None → ⊥
-key_not m k a e = find_among k (finmap.entries m) a (sym (get-entries m k) ∙ e)
+key_there m k h =
+    elim (finmap.get m k) as (λ o. finmap.get m k ≡ o → Among k (finmap.keys m)) [
+      | None ↦ λ e. absurd (h e)
+      | Some p ↦ λ e. Among-map (λ (x : Cell × CellParts). x.0) (k, p) (finmap.entries m) (among_found exact_cells (finmap.entries m) k p (sym (get-entries m k) ∙ e))
+    ] refl
 
 -- ---- expiry
 
@@ -175,11 +167,7 @@ pub room_cells : (facts : List Fact) (rs ss : List RuleData) → GainEmptyCells 
 room_cells facts = rules_gain (GainsOf facts) (λ (a : RuleData). HasCellsOf a.rule a.low facts a.cells) (λ a n g. record { there = g.there })
 
 pub put_cell-keys : (r : Rule) (f : Fact) (facts : List Fact) (m : CellMap) → finmap.keys (put_cell r f facts m) ≡ finmap.keys m
-put_cell-keys r f facts m =
-    elim (is_rolled r f) as (λ b. finmap.keys (cond b (refolded r (cell_of r f) facts m) m) ≡ finmap.keys m) [
-      | true ↦ keys_changed m (cell_of r f) (with_live (total_of r (cell_of r f) facts))
-      | false ↦ refl
-    ]
+put_cell-keys r f facts m = cond_as finmap.keys (is_rolled r f) (refolded r (cell_of r f) facts m) m (keys_changed m (cell_of r f) (with_live (total_of r (cell_of r f) facts)))
 
 pub cells_stay : (f : Fact) (left facts : List Fact) (rs : List RuleData) → HaveCellsOf facts rs → HaveCellsOf facts (put_cells f left rs)
 cells_stay f left facts rs e =
@@ -190,10 +178,7 @@ cells_stay f left facts rs e =
 -- the frozen parts stay, and each live part but that of the fact's own cell
 pub put_frozen : (r : Rule) (f : Fact) (facts : List Fact) (m : CellMap) (k : Cell) → frozen_in (finmap.get (put_cell r f facts m) k) ≡ frozen_in (finmap.get m k)
 put_frozen r f facts m k =
-    elim (is_rolled r f) as (λ b. frozen_in (finmap.get (cond b (refolded r (cell_of r f) facts m) m) k) ≡ frozen_in (finmap.get m k)) [
-      | true ↦ changed_as frozen_in (with_live (total_of r (cell_of r f) facts)) (λ a. refl) m (cell_of r f) k
-      | false ↦ refl
-    ]
+    cond_as (λ n. frozen_in (finmap.get n k)) (is_rolled r f) (refolded r (cell_of r f) facts m) m (changed_as frozen_in (with_live (total_of r (cell_of r f) facts)) (λ a. refl) m (cell_of r f) k)
 
 pub put_here : (r : Rule) (f : Fact) (facts : List Fact) (m : CellMap) (k : Cell) → (finmap.get m (cell_of r f) ≡ None → ⊥) → is_in_cell r k f ≡ true → live_in (finmap.get (put_cell r f facts m) k) ≡ total_of r k facts
 put_here r f facts m k there t =
@@ -215,23 +200,20 @@ put_else r f facts m k t =
     ] t
 
 pub written_rules : (after : List ColumnPoints) (f : Fact) (facts : List Fact) → Among f facts → (rs : List RuleData) → HaveCellsOf facts rs → AllZip (IsWritten f after) (map rule_cells rs) (map rule_cells (put_cells f (facts_of after) rs))
-written_rules after f facts a [] e = tt
-written_rules after f facts a (x ∷ rs) e =
+written_rules after f facts a =
+    AllZip-mapped (λ (x : RuleData). HasCellsOf x.rule x.low facts x.cells) (IsWritten f after) rule_cells (in_cells (λ (r : Rule). put_cell r f (facts_of after))) (λ x e.
     let left : List Fact = facts_of after in
     let r : Rule = x.rule in
     let m : CellMap = x.cells in
-    let keys : finmap.keys m ≡ finmap.keys (put_cell r f left m) = sym (put_cell-keys r f left m) in (
-      record {
-        rule = refl;
-        low = refl;
-        once = keys_once (put_cell r f left m);
-        new = λ t l. subst (Among (cell_of r f)) keys (key_there m (cell_of r f) (e.0.there f a t l));
-        stays = λ k b. subst (Among k) keys b;
-        frozen = λ k l. put_frozen r f left m k;
-        live_here = λ k l t.
-            let p = and_parts (is_rolled r f) (same_cell (cell_of r f) k) t in
-            put_here r f left m k (e.0.there f a p.0 (subst (λ (c : Cell). x.low ≤ℤ c.index) (sym (same_cell-eq (cell_of r f) k p.1)) l)) t;
-        live_elsewhere = λ k l t. ap live_in (put_else r f left m k t);
-      },
-      written_rules after f facts a rs e.1,
-    )
+    let keys : finmap.keys m ≡ finmap.keys (put_cell r f left m) = sym (put_cell-keys r f left m) in record {
+      rule = refl;
+      low = refl;
+      once = keys_once (put_cell r f left m);
+      new = λ t l. subst (Among (cell_of r f)) keys (key_there m (cell_of r f) (e.there f a t l));
+      stays = λ k b. subst (Among k) keys b;
+      frozen = λ k l. put_frozen r f left m k;
+      live_here = λ k l t.
+          let p = and_parts (is_rolled r f) (same_cell (cell_of r f) k) t in
+          put_here r f left m k (e.there f a p.0 (subst (λ (c : Cell). x.low ≤ℤ c.index) (sym (same_cell-eq (cell_of r f) k p.1)) l)) t;
+      live_elsewhere = λ k l t. ap live_in (put_else r f left m k t);
+    })

@@ -2,10 +2,9 @@
 use Rattle.ts_core.proofs.queries.AnswersLaws.{filter_both}
 use Rattle.ts_core.proofs.settings.FoundLemmas.{none_of}
 use Rattle.std.proofs.lemmas.Bool.{and_left, and_right, and_parts, and_from, or_parts, not_from_false, true_from_ne_false}
-use Rattle.std.proofs.Common.{◌≡◌, ℤ, ◌+◌, ◌≤◌, ◌^◌, Bool, true, false, cond, not, ◌&&◌, ◌||◌, List, [], ◌∷◌, length, filter, map, refl, sym, ◌∙◌, ap, subst, inl, inr, ⊎_elim, true≢false, int_lt, arith, Some, None, ◌≤ℤ◌, is_some}
-use Rattle.std.specs.List.{AllByRecursion, AllZip}
+use Rattle.std.proofs.Common.{◌≡◌, ℤ, ◌+◌, ◌≤◌, ◌^◌, Bool, true, false, cond, not, ◌&&◌, ◌||◌, List, [], ◌∷◌, length, filter, map, refl, sym, ◌∙◌, ap, subst, inl, inr, true≢false, int_lt, arith, Some, None, ◌≤ℤ◌, is_some}
 use Rattle.std.specs.FinMap as finmap
-use Rattle.std.specs.FinMap.{find, get-entries}
+use Rattle.std.specs.FinMap.{get-entries}
 use Rattle.std.proofs.lemmas.Option.{none-some}
 use Rattle.ts_core.specs.lists.Members.{Among, AllDistinct}
 use Rattle.ts_core.specs.facts.Facts.{Column, Fact, same_text}
@@ -15,23 +14,24 @@ use Rattle.ts_core.specs.facts.Latest.{latest, latest_of, others}
 use Rattle.ts_core.specs.aggregates.Aggregates.{Aggregate, empty_aggregate, merged, aggregate_of_one, aggregate_of, aggregate_of_points}
 use Rattle.ts_core.specs.aggregates.MergeLaws.{aggregate_laws}
 use Rattle.ts_core.specs.store.RawFacts.{kept_from}
-use Rattle.ts_core.specs.store.Cells.{Cell, cell_cmp, same_cell, cell_of, is_in_cell, total_of, frozen_of, live_of}
+use Rattle.ts_core.specs.store.Cells.{Cell, same_cell, cell_of, is_in_cell, total_of, frozen_of, live_of}
 use Rattle.ts_core.specs.store.StoreStates.{ColumnPoints, CellParts, fact_at, StoreState, StandsFor, HasCells, column_of, facts_at, facts_of}
 use Rattle.ts_core.proofs.aggregates.Folds.{fold-count}
 use Rattle.ts_core.proofs.lists.MembersLemmas.{no_members, map_back, Among-map, filter-none, Among-filter_was, Among-filter_passes, Among-filter_stays}
-use Rattle.ts_core.proofs.plans.PieceCells.{same_cell-eq, same_cell-refl}
+use Rattle.ts_core.proofs.plans.PieceCells.{cells_total, same_cell-eq, same_cell-refl}
 use Rattle.ts_core.proofs.lists.Comparisons.{same_bool}
+use Rattle.ts_core.proofs.lists.Sorted.{found_among}
 use Rattle.ts_core.proofs.facts.Latests.{latest-distinct}
 use Rattle.ts_core.proofs.store.Cuts.{aggregate_where, filter-agree, one_fact, Holds, total_of-parts, live_of-held}
 use Rattle.ts_core.proofs.store.Moves.{IsMoved, is_left, left_points, columns_left}
 use Rattle.ts_core.proofs.store.ColumnFacts.{facts_of-there}
 use Rattle.ts_core.proofs.lists.ListSteps.{length-filter}
-use Rattle.ts_core.proofs.store.StateLemmas.{StandsFor-Holds}
+use Rattle.ts_core.proofs.store.StateLemmas.{AllZip-mapped, all_of_map, StandsFor-Holds}
 use Rattle.ts_core.proofs.store.RunSteps.{facts_of-left, move_stands}
 use Rattle.ts_core.proofs.moves.EachRule.{AnyCells, stands_changed, each_in}
 use Rattle.ts_core.specs.store.StoreData.{CellMap, RuleData, StoreData, rule_cells, state_of}
-use Rattle.ts_core.specs.moves.StoreMoves.{in_cells, frozen_points, refolded_points, moved_cells, all_moved, points_below, column_moved}
-use Rattle.ts_core.proofs.moves.Freezing.{in_points, frozen_in, live_in, any_in, frozen_gives, frozen_none, frozen_live, keys_frozen, refolded_frozen, refolded_live, keys_refolded, frozen_some, gone_held}
+use Rattle.ts_core.specs.moves.StoreMoves.{in_cells, frozen_points, refolded_points, moved_cells, points_below, column_moved}
+use Rattle.ts_core.proofs.moves.Freezing.{cond_as, in_points, frozen_in, live_in, any_in, frozen_gives, frozen_none, frozen_live, keys_frozen, refolded_frozen, refolded_live, keys_refolded, frozen_some, gone_held}
 
 -- ---- counts
 
@@ -162,20 +162,14 @@ module _ (c : Column) (mark : ℤ) (before : List ColumnPoints) (ps : List (ℤ 
         | false ↦ λ t. was ∙ sym (still r k (points_out r k c below t))
       ] refl
 
-pub find_among : (k : Cell) (es : List (Cell × CellParts)) → Among k (map (λ (e : Cell × CellParts). e.0) es) → find cell_cmp k es ≡ None → ⊥
-find_among k [] a h = a
-find_among k (e ∷ es) a h =
-    elim (same_cell k e.0) as (λ b. same_cell k e.0 ≡ b → cond b (Some e.1) (find cell_cmp k es) ≡ None → ⊥) [
-      | true ↦ λ q n. none-some e.1 (sym n)
-      | false ↦ λ q n. ⊎_elim {C = ⊥} (λ s. true≢false (sym (ap (same_cell k) (sym s) ∙ same_cell-refl k) ∙ q)) (λ b. find_among k es b n) a
-    ] refl h
+pub key_not : (m : CellMap) (k : Cell) → Among k (finmap.keys m) → finmap.get m k ≡ None → ⊥
+key_not m k a e =
+    let r = map_back (λ (x : Cell × CellParts). x.0) (finmap.entries m) k a in
+    none-some r.0.1 (sym e ∙ ap (finmap.get m) (sym r.2) ∙ get-entries m r.0.0 ∙ found_among cells_total (finmap.entries m) (finmap.entries_sorted m) r.0 r.1)
 
 pub keys_column : (r : Rule) (c : Column) (ps : List (ℤ × ℤ)) (left : List Fact) (m : CellMap) → finmap.keys (moved_cells r c ps left m) ≡ finmap.keys m
 keys_column r c ps left m =
-    elim (same_text c.series.measurement r.measurement) as (λ b. finmap.keys (cond b (refolded_points r c ps left (frozen_points r c ps m)) m) ≡ finmap.keys m) [
-      | true ↦ keys_refolded r c left ps (frozen_points r c ps m) ∙ keys_frozen r c ps m
-      | false ↦ refl
-    ]
+    cond_as finmap.keys (same_text c.series.measurement r.measurement) (refolded_points r c ps left (frozen_points r c ps m)) m (keys_refolded r c left ps (frozen_points r c ps m) ∙ keys_frozen r c ps m)
 
 rule_moved : (opening : Settings) (h : History) → IsLawful opening h → (cut : Column → ℤ) (c : Column) (mark : ℤ) (before : List ColumnPoints) (ps : List (ℤ × ℤ)) → AllDistinct (map column_of before) → Among (record { column = c; points = ps }) before
     → Holds cut (latest_of h) (facts_of before) → (x : RuleData) → HasCells cut (latest_of h) (rule_cells x)
@@ -193,7 +187,7 @@ rule_moved opening h lawful cut c mark before ps once there held x has =
     let key : k ≡ cell_of r f = same_cell-eq k (cell_of r f) i in
     let shown : Among f (facts_of before) = facts_of-there before (record { column = c; points = ps }) f there (Among-map (fact_at c) p ps (Among-filter_was (λ (x : ℤ × ℤ). int_lt x.0 mark) p ps q)) in
     let cell : Among (cell_of r f) (finmap.keys m) = has.there f (held.only f shown).0 t (subst (λ (x : Cell). low ≤ℤ x.index) key l) in
-    find_among (cell_of r f) (finmap.entries m) cell (sym (get-entries m (cell_of r f)) ∙ ap (finmap.get m) (sym key) ∙ n) in
+    key_not m (cell_of r f) cell (ap (finmap.get m) (sym key) ∙ n) in
     record {
       rule = refl;
       low = refl;
@@ -214,18 +208,15 @@ rule_moved opening h lawful cut c mark before ps once there held x has =
       live = λ k l. live_moved c mark before ps once there r k m (has.live k l ∙ live_of-held cut fs (facts_of before) held (latest-distinct (accepted h)) r k) (spare k l);
     }
 
-rules_moved : (opening : Settings) (h : History) → IsLawful opening h → (cut : Column → ℤ) (c : Column) (mark : ℤ) (before : List ColumnPoints) (ps : List (ℤ × ℤ)) → AllDistinct (map column_of before) → Among (record { column = c; points = ps }) before
-    → Holds cut (latest_of h) (facts_of before) → (rs : List RuleData) → AllByRecursion (HasCells cut (latest_of h)) (map rule_cells rs)
-    → AllZip (IsMoved c mark before (map (left_points c mark) before)) (map rule_cells rs) (map rule_cells (all_moved c (points_below mark ps) (facts_of (map (left_points c mark) before)) rs))
-rules_moved opening h lawful cut c mark before ps once there held [] a = tt
-rules_moved opening h lawful cut c mark before ps once there held (x ∷ rs) a = (rule_moved opening h lawful cut c mark before ps once there held x a.0, rules_moved opening h lawful cut c mark before ps once there held rs a.1)
-
 -- a step that moves the first of the waiting columns, on what the store keeps
 pub step_stands : (opening : Settings) (h : History) (k : StoreData) (c : Column) (ps : List (ℤ × ℤ)) (rest : List Column) → StandsFor opening h (state_of k) → k.waiting ≡ c ∷ rest → Among (record { column = c; points = ps }) k.columns
     → StandsFor opening (Step false ∷ h) (state_of (column_moved c ps rest k))
 step_stands opening h k c ps rest st w there =
     let s : StoreState = state_of k in
     let new : StoreData = column_moved c ps rest k in
+    let cut : Column → ℤ = kept_from opening h k.waiting in
     stands_changed AnyCells opening (Step false ∷ h) new k.rules (each_in AnyCells (λ (r : Rule). moved_cells r c (points_below k.raw_mark ps) (facts_of (columns_left c s))) (λ a. tt) k.rules)
     (move_stands opening h s c rest (map rule_cells new.rules) st w
-    (rules_moved opening h st.lawful (kept_from opening h k.waiting) c k.raw_mark k.columns ps st.columns_once there (StandsFor-Holds opening h s st) k.rules st.rolled))
+    (AllZip-mapped (λ x. HasCells cut (latest_of h) (rule_cells x)) (IsMoved c k.raw_mark k.columns (columns_left c s)) rule_cells (in_cells (λ (r : Rule). moved_cells r c (points_below k.raw_mark ps) (facts_of (columns_left c s))))
+    (rule_moved opening h st.lawful cut c k.raw_mark k.columns ps st.columns_once there (StandsFor-Holds opening h s st)) k.rules
+    (all_of_map (λ x. HasCells cut (latest_of h) (rule_cells x)) (HasCells cut (latest_of h)) rule_cells (λ x b. b) k.rules st.rolled)))

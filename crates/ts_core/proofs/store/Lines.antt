@@ -1,5 +1,5 @@
 -- A line of several facts, inserted one by one.
-use Rattle.std.proofs.Common.{◌≡◌, ℤ, List, [], ◌∷◌, ◌++◌, length, map, refl, sym, ◌∙◌, ap, subst, ◌≤◌, ◌^◌}
+use Rattle.std.proofs.Common.{◌≡◌, List, [], ◌∷◌, ◌++◌, length, map, refl, sym, subst, ◌≤◌, ◌^◌}
 use Rattle.std.specs.List.{AllByRecursion, AllZip}
 use Rattle.ts_core.specs.lists.Members.{Among}
 use Rattle.ts_core.specs.facts.Facts.{Series, Column, Fact}

@@ -125,13 +125,10 @@ not_zero n h = grind arith
 pub kept_since-is : (n : ℕ) (now : ℤ) → 0 < n → kept_since n now ≡ now -ℤ pos n
 kept_since-is n now h = ap (λ b. cond b least_time (now -ℤ pos n)) (not_zero n h)
 
-pub further : (long short : ℕ) (now : ℤ) → short ≤ long → (now -ℤ pos long) ≤ℤ (now -ℤ pos short)
-further long short now h = omega (arith, ints)
-
 pub kept_since-le : (long short : ℕ) (now : ℤ) → 0 < short → short ≤ long → kept_since long now ≤ℤ kept_since short now
 kept_since-le long short now h k =
     subst (λ x. x ≤ℤ kept_since short now) (sym (kept_since-is long now (omega arith)))
-    (subst (λ x. (now -ℤ pos long) ≤ℤ x) (sym (kept_since-is short now h)) (further long short now k))
+    (subst (λ x. (now -ℤ pos long) ≤ℤ x) (sym (kept_since-is short now h)) (let e : (now -ℤ pos long) ≤ℤ (now -ℤ pos short) = omega (arith, ints) in e))
 
 int_max-le : (a b c d : ℤ) → a ≤ℤ c → b ≤ℤ d → int_max a b ≤ℤ int_max c d
 int_max-le a b c d h k = omega (arith, ints, clamps)

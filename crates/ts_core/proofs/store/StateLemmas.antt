@@ -35,6 +35,10 @@ AllZip-map R f g [] [] t = tt
 AllZip-map R f g (x ∷ xs) (y ∷ ys) t = (t.0, AllZip-map R f g xs ys t.1)
 AllZip-map R f g _ _ t = absurd t
 
+pub AllZip-mapped : {X Y : Type 0} (P : X → Type 0) (R : Y → Y → Type 0) (f : X → Y) (g : X → X) → ((x : X) → P x → R (f x) (f (g x))) → (xs : List X) → AllByRecursion P xs → AllZip R (map f xs) (map f (map g xs))
+AllZip-mapped P R f g h [] a = tt
+AllZip-mapped P R f g h (x ∷ xs) a = (h x a.0, AllZip-mapped P R f g h xs a.1)
+
 pub all_map : {X Y : Type 0} (P : X → Type 0) (Q : Y → Type 0) (f : X → Y) → ((x : X) → P x → Q (f x)) → (xs : List X) → AllByRecursion P xs → AllByRecursion Q (map f xs)
 all_map P Q f h [] a = tt
 all_map P Q f h (x ∷ xs) a = (h x a.0, all_map P Q f h xs a.1)
@@ -43,26 +47,14 @@ pub all_of_map : {X Y : Type 0} (P : X → Type 0) (Q : Y → Type 0) (f : X →
 all_of_map P Q f h [] a = tt
 all_of_map P Q f h (x ∷ xs) a = (h x a.0, all_of_map P Q f h xs a.1)
 
-abbrev head_or : {X : Type 0} → X → List X → X
-head_or d [] = d
-head_or d (x ∷ xs) = x
-
-abbrev rest_of : {X : Type 0} → List X → List X
-rest_of [] = []
-rest_of (x ∷ xs) = xs
-
 pub same_head : {X : Type 0} (x y : X) (xs ys : List X) → x ∷ xs ≡ y ∷ ys → x ≡ y
-same_head x y xs ys e = ap (head_or x) e
+same_head x y xs ys e = cc
 
 pub same_rest : {X : Type 0} (x y : X) (xs ys : List X) → x ∷ xs ≡ y ∷ ys → xs ≡ ys
-same_rest x y xs ys e = ap rest_of e
-
-abbrev is_list_with : {X : Type 0} → List X → Type 0
-is_list_with [] = ⊥
-is_list_with (x ∷ xs) = Unit {0}
+same_rest x y xs ys e = cc
 
 pub cons_not : {X : Type 0} {x : X} {xs : List X} → x ∷ xs ≡ [] → ⊥
-cons_not e = subst is_list_with e tt
+cons_not e = cc
 
 -- ---- columns
 

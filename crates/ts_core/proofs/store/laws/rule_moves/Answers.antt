@@ -7,31 +7,19 @@ use Rattle.ts_core.specs.store.StoreData.{RuleData, IsLive}
 use Rattle.ts_core.proofs.lists.ListSteps.{all_push, all_filter}
 use Rattle.ts_core.proofs.store.laws.rule_moves.Goals as goal
 
-pub returns-clause-faultless : goal.returns-clause-faultless
-returns-clause-faultless c = settings_faultless
-
-pub returns-clause-starts : goal.returns-clause-starts
-returns-clause-starts c = first_from-is
-
-pub returns-clause-lows : goal.returns-clause-lows
-returns-clause-lows c = low_of-is
-
-pub returns-clause-added : goal.returns-clause-added
-returns-clause-added c = λ k r m well fresh opening h st. rule_comes opening h k r m st well fresh
-
-pub returns-clause-dropped : goal.returns-clause-dropped
-returns-clause-dropped c = λ k name named opening h st. rule_goes opening h k name st named
-
-pub returns-clause-keep : goal.returns-clause-keep
-returns-clause-keep c = record {
-  added_live = λ k r low m fresh a. all_push (λ (x : RuleData). IsLive k.columns x.rule x.cells) k.rules (record { rule = r; low = low; cells = m }) a fresh.live;
-  dropped_live = λ k name a. all_filter (λ (x : RuleData). IsLive k.columns x.rule x.cells) (stays_without name) k.rules a;
-  added_left = left_added;
-  dropped_left = left_dropped;
+pub returns : goal.returns
+returns c = record {
+  faultless = settings_faultless;
+  starts = first_from-is;
+  lows = low_of-is;
+  added = λ k r m well fresh opening h st. rule_comes opening h k r m st well fresh;
+  dropped = λ k name named opening h st. rule_goes opening h k name st named;
+  keep = record {
+    added_live = λ k r low m fresh a. all_push (λ (x : RuleData). IsLive k.columns x.rule x.cells) k.rules (record { rule = r; low = low; cells = m }) a fresh.live;
+    dropped_live = λ k name a. all_filter (λ (x : RuleData). IsLive k.columns x.rule x.cells) (stays_without name) k.rules a;
+    added_left = left_added;
+    dropped_left = left_dropped;
+  };
+  near = low_of-near;
+  fit = indices_fit;
 }
-
-pub returns-clause-near : goal.returns-clause-near
-returns-clause-near c = low_of-near
-
-pub returns-clause-fit : goal.returns-clause-fit
-returns-clause-fit c = indices_fit

@@ -1,11 +1,16 @@
-use Rattle.std.proofs.Common.{rules, ◌≡◌, ℕ, zero, suc, ◌+◌, ◌-◌, ◌≤◌, List, [], ◌∷◌, ◌++◌, length, take, drop, slice_range, Option, None, Some, sym, ap, ◌∙◌, subst, arith, append_assoc, length-drop}
+use Rattle.std.proofs.Common.{rules, ◌≡◌, ℕ, zero, suc, ◌+◌, ◌-◌, ◌≤◌, List, [], ◌∷◌, ◌++◌, length, take, drop, slice_range, Option, None, Some, sym, ap, ◌∙◌, subst, arith, append_assoc, length-drop, refl}
 use Rattle.std.proofs.lemmas.List.{drop-drop, drop-take, take-append-drop}
 use Rattle.std.proofs.Math.ListN.{length-take}
 use Rattle.std.proofs.Math.Seq.{take-add}
 use Rattle.std.specs.Io.KnownBytes.{Consumes, IsAtEnd, prepend_known}
 use Rattle.ts_core.specs.io.ReadingAhead.{Ahead, pending, weight}
-use Rattle.ts_core.proofs.lists.Takes.{shorter}
 use Rattle.ts_core.proofs.io.read_ahead.ReadAhead.consume.Goals as goal
+
+-- the beginning of a beginning
+shorter : (k n : ℕ) (items : List ℕ) → k ≤ n → take k (take n items) ≡ take k items
+shorter (suc k) zero items le = absurd (omega (arith, le))
+shorter (suc k) (suc n) (x ∷ items) le = ap (λ (xs : List ℕ). x ∷ xs) (shorter k n items (omega (arith, le)))
+shorter _ n items le = refl
 
 -- a part of a list without its first k
 later : (items : List ℕ) (at end k : ℕ) (part : List ℕ) → slice_range items at end ≡ part → k ≤ length part → slice_range items (at + k) end ≡ drop k part
