@@ -1,7 +1,3 @@
--- PointsRead
-pub mod RawReads
-pub mod ColumnsReads
-pub mod CellsReads
--- ViewResults, LiveCells: the results of a view
+-- ViewResults, LiveCells, CellsRead, FrozenLeft: the results of a view
 pub mod ShownCells
 pub mod ColumnRefLemmas

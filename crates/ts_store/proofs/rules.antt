@@ -4,5 +4,4 @@ pub mod RuleStates
 pub mod RuleTextLemmas
 -- RulesChanged: adding and dropping rules
 pub mod RuleRollupLemmas
-pub mod RulesAdded
-pub mod RulesDropped
+pub mod RulesMoved

@@ -2,16 +2,11 @@
 pub mod Stands
 -- Inventories: columns and cells that exist
 pub mod InventoriesKept
--- SizedStores
+-- RuleLists
 pub mod RuleListLemmas
-pub mod SizesKept
--- PossibleCells
-pub mod PossibleCellsKept
--- ColumnStates
+-- ColumnStates, BlocksHeld
 pub mod ColumnsLemmas
--- BlocksHeld
-pub mod BlocksLemmas
--- CellCounts
+-- CellCounts, PossibleCells, SizedStores
 pub mod CountsKept
 -- WholeStates
 pub mod WholeStatesKept

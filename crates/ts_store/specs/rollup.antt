@@ -3,5 +3,6 @@
 pub mod ColumnLists
 pub mod Rollups
 pub mod LivePoints
+pub mod PointsFilled
 pub mod ChangedLists
 pub mod BucketsTaken

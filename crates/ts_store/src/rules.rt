@@ -7,6 +7,7 @@ ghost use Rattle.ts_core.specs.settings.SettingsFaults.{added_fault};
 ghost use Rattle.ts_core.specs.facts.Times.{IsTime};
 ghost use Rattle.ts_store.specs.rules.RulesChanged.{AddsRule, RuleComes, DropsRule};
 
+use crate::read::View as _;
 use crate::store::Store;
 use std::alloc::{AllocError, Allocator};
 use ts_core::{Marks, Rule, Settings, SettingsError, UnknownRule, first_index};
@@ -50,7 +51,7 @@ impl<A: Allocator + Copy> Store<A> {
     pub fn add_rule(&mut self, rule: Rule<A>) -> Result<i64, SettingsError>
         ensures { AddsRule self.old self.new rule result }
     {
-        if let Some(fault) = self.settings.check_rule(&rule) {
+        if let Some(fault) = self.settings().check_rule(&rule) {
             return Err(SettingsError::Fault(fault));
         }
         let low = self.start_of(&rule);

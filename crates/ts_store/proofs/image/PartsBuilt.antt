@@ -19,13 +19,12 @@ use Rattle.ts_core.proofs.aggregates.AggregatesLemmas.{merged_within-fits}
 use Rattle.ts_core.proofs.plans.PieceCells.{cells_total, exact_cells, same_cell-refl}
 use Rattle.ts_cells.specs.CellChanges.{inserted_if_absent}
 use Rattle.ts_cells.proofs.GridMoves.{get-changed, get-inserted_if_absent}
-use Rattle.ts_raw.specs.Columns.{PointMap, ColumnState}
+use Rattle.ts_raw.specs.Columns.{ColumnState}
 use Rattle.ts_store.specs.image.BuildingParts.{IsIdle, AreIdle}
 use Rattle.ts_raw.specs.Indexed.{Indexed, IsSoundIndex, no_series, column_in}
-use Rattle.ts_raw.specs.Registering.{IsRegistered}
 use Rattle.ts_store.specs.store.ColumnStates.{no_column, with_points, point_maps, columns_in, content_of, StoreContent, IsSoundContent, IsColumnFor}
 use Rattle.ts_store.specs.rollup.Rollups.{RollupState, AreRollups, Extends, cells_of, with_grid_cells}
-use Rattle.ts_store.proofs.store.ColumnsLemmas.{names_held}
+use Rattle.ts_store.proofs.store.ColumnsLemmas.{names_held, with_points-push}
 use Rattle.ts_store.proofs.rollup.RollupsGrow.{rollups_kept, made_behind}
 
 -- ---- a cell that was missing
@@ -51,47 +50,28 @@ cell_made m q part few none =
 
 -- ---- the cells of one rule
 
-pub cells-set : (ss : List RollupState) (n : ℕ) (s : RollupState) → cells_of (set ss n s) ≡ set (cells_of ss) n s.grid.cells
-cells-set [] n s = refl
-cells-set (x ∷ ss) zero s = refl
-cells-set (x ∷ ss) (suc n) s = ap (λ ms. x.grid.cells ∷ ms) (cells-set ss n s)
-
 pub cells-at : (ss : List RollupState) (n : ℕ) (s : RollupState) → n < length ss → s ≡ get_or ss n s → get_or (cells_of ss) n finmap.empty ≡ s.grid.cells
 cells-at [] n s l e = absurd (omega arith)
 cells-at (x ∷ ss) zero s l e = ap (λ (z : RollupState). z.grid.cells) (sym e)
 cells-at (x ∷ ss) (suc n) s l e = cells-at ss n s (omega arith) e
 
--- with the same cells as before
-pub cells-stay : (ss : List RollupState) (n : ℕ) (s t : RollupState) → s ≡ get_or ss n s → t.grid.cells ≡ s.grid.cells → cells_of (set ss n t) ≡ cells_of ss
-cells-stay [] n s t e f = refl
-cells-stay (x ∷ ss) zero s t e f = ap (λ m. m ∷ cells_of ss) (f ∙ ap (λ (z : RollupState). z.grid.cells) e)
-cells-stay (x ∷ ss) (suc n) s t e f = ap (λ ms. x.grid.cells ∷ ms) (cells-stay ss n s t e f)
-
 -- more rollup series in one rollup
 pub rollups-set : (rs : List Rule) (cs : List Column) (ss : List RollupState) (n : ℕ) (s t : RollupState) → s ≡ get_or ss n s → Extends s.grid.rollup_series t.grid.rollup_series → t.series_of_column ≡ s.series_of_column → AreRollups rs cs ss → AreRollups rs cs (set ss n t)
 rollups-set [] cs [] n s t e more same h = tt
-rollups-set [] cs (x ∷ ss) n s t e more same h = absurd h
-rollups-set (r ∷ rs) cs [] n s t e more same h = absurd h
 rollups-set (r ∷ rs) cs (x ∷ ss) zero s t e more same h =
     let one : AreRollups (r ∷ []) cs (with_grid_cells s.grid.cells t ∷ []) =
     rollups_kept (r ∷ []) cs (s ∷ []) (with_grid_cells s.grid.cells t ∷ []) (subst (λ (z : RollupState). AreRollups (r ∷ []) cs (z ∷ [])) (sym e) (h.0, tt)) (record { made = more; cells = refl; kept = same }, tt) in
     (one.0, h.1)
 rollups-set (r ∷ rs) cs (x ∷ ss) (suc n) s t e more same h = (h.0, rollups-set rs cs ss n s t e more same h.1)
+rollups-set _ cs _ n s t e more same h = absurd h
 
 -- ---- a column after the others
-
-pub with_points-push : (cs : List Column) (ms : List PointMap) (c : Column) (m : PointMap) → length ms ≡ length cs → with_points (cs ++ c ∷ []) (ms ++ m ∷ []) ≡ with_points cs ms ++ record { column = c; points = finmap.entries m } ∷ []
-with_points-push [] [] c m l = refl
-with_points-push [] (x ∷ ms) c m l = absurd (omega (arith, l))
-with_points-push (d ∷ cs) [] c m l = absurd (omega (arith, l))
-with_points-push (d ∷ cs) (x ∷ ms) c m l = ap (λ xs. record { column = d; points = finmap.entries x } ∷ xs) (with_points-push cs ms c m (omega (arith, l)))
 
 -- the last one gets its points
 pub set-last : (ss : List ColumnState) (n : ℕ) (s t : ColumnState) → n ≡ length ss → set (ss ++ s ∷ []) n t ≡ ss ++ t ∷ []
 set-last [] zero s t e = refl
-set-last [] (suc n) s t e = absurd (omega (arith, e))
-set-last (x ∷ ss) zero s t e = absurd (omega (arith, e))
 set-last (x ∷ ss) (suc n) s t e = ap (λ xs. x ∷ xs) (set-last ss n s t (omega (arith, e)))
+set-last _ _ s t e = absurd (omega (arith, e))
 
 -- ---- live parts stay empty
 
@@ -121,10 +101,8 @@ idle-at (x ∷ ms) (suc n) h = idle-at ms n h.1
 pub series_held : (index after : Indexed) (ss : List ColumnState) → IsSoundIndex after → after.columns ≡ index.columns → IsSoundContent index ss → IsSoundContent after ss
 series_held index after ss sound same held = record { sound = sound; each = held.each ∙ sym (ap length same) }
 
-pub series_added : {E : Type 0} (index after : Indexed) (ss : List ColumnState) (us : List RollupState) (result : Result ℕ E) (s : Series) (n : ℕ) → result ≡ Ok n → (Among s index.series → ⊥) → IsRegistered index.series after.series result s → after.columns ≡ index.columns
-    → content_of after ss us ≡ record { series = index.series ++ s ∷ []; columns = columns_in index ss; rollups = us }
-series_added index after ss us result s n ok absent h same =
-    let gains : Gains index.series after.series s = subst (λ r. OnOk r (Gains index.series after.series s)) ok h.gains in
+pub series_added : (index after : Indexed) (ss : List ColumnState) (us : List RollupState) (s : Series) → (Among s index.series → ⊥) → Gains index.series after.series s → after.columns ≡ index.columns → content_of after ss us ≡ record { series = index.series ++ s ∷ []; columns = columns_in index ss; rollups = us }
+series_added index after ss us s absent gains same =
     let series : after.series ≡ index.series ++ s ∷ [] = ⊎_elim {C = after.series ≡ index.series ++ s ∷ []} (λ old. absurd (absent old.0)) (λ new. new.1) gains in
     λ i. record { series = series i; columns = with_points (same i) (point_maps ss); rollups = us }
 
@@ -189,6 +167,3 @@ its_absent index ss us held series field kept is within absent among =
 -- no column is created
 pub column_refused : (index after : Indexed) (ss ss' : List ColumnState) → IsSoundContent index ss → (after.columns ≡ index.columns) × (ss' ≡ ss) → IsSoundIndex after → IsSoundContent after ss'
 column_refused index after ss ss' held same sound = record { sound = sound; each = ap length same.1 ∙ held.each ∙ sym (ap length same.0) }
-
-pub columns_refused : (index after : Indexed) (ss ss' : List ColumnState) → (after.columns ≡ index.columns) × (ss' ≡ ss) → columns_in after ss' ≡ columns_in index ss
-columns_refused index after ss ss' same = λ i. with_points (same.0 i) (point_maps (same.1 i))

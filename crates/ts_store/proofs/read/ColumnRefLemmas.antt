@@ -3,18 +3,20 @@ use Rattle.std.proofs.Common.{◌≡◌, ℕ, zero, suc, ◌+◌, ◌<◌, Bool,
 use Rattle.std.specs.List.{AllByRecursion}
 use Rattle.std.specs.FinMap as finmap
 use Rattle.std.proofs.lemmas.Bool.{and_parts}
-use Rattle.std.proofs.lemmas.List.{length-map, length-replicate}
+use Rattle.std.proofs.lemmas.List.{length-replicate}
 use Rattle.ts_core.specs.lists.Members.{Among}
 use Rattle.ts_core.specs.facts.Facts.{Text, same_text, Column, is_of}
 use Rattle.ts_core.proofs.facts.Ids.{same_text-eq}
+use Rattle.ts_raw.specs.Indexed.{Indexed}
 use Rattle.ts_raw.specs.Tagged.{has_tag, is_tagged}
 use Rattle.ts_raw.proofs.RisingLemmas.{numbered_from}
 use Rattle.ts_core.specs.store.StoreStates.{ColumnPoints}
 use Rattle.ts_raw.specs.Columns.{PointMap, ColumnState}
 use Rattle.ts_core.specs.lists.Numbered.{IsAt, numbers_where_from, numbers_where}
-use Rattle.ts_store.specs.store.ColumnStates.{with_points, point_maps}
+use Rattle.ts_store.specs.store.ColumnStates.{StoreContent, IsSoundContent, content_of, with_points, point_maps}
 use Rattle.ts_store.specs.read.ViewResults.{ColumnRef, no_points, column_refs_from, column_refs_where, column_ref_in, column_ref_has, IsNamed, AreAllNamed}
-use Rattle.ts_store.proofs.read.ColumnsReads.{with_points-length}
+use Rattle.ts_store.specs.rollup.Rollups.{RollupState}
+use Rattle.ts_store.proofs.store.ColumnsLemmas.{its_columns}
 
 -- ---- which columns
 
@@ -106,18 +108,14 @@ tagged_column_refs cs ids found n m f tag value whole among names is =
 
 -- ---- which points
 
-pub shown-length : (cs : List Column) (ss : List ColumnState) (shown : List ColumnPoints) → with_points cs (point_maps ss) ≡ shown → length ss ≡ length cs → length shown ≡ length ss
-shown-length cs ss shown is each = ap length (sym is) ∙ with_points-length cs (point_maps ss) (length-map ss (λ (s : ColumnState). s.points) ∙ each) ∙ sym each
-
 points_there : (cs : List Column) (ss : List ColumnState) (n : ℕ) (s : ColumnState) → length ss ≡ length cs → n < length ss → s ≡ get_or ss n s → finmap.entries s.points ≡ (get_or (with_points cs (point_maps ss)) n no_points).points
-points_there cs [] n s l there at = absurd (omega (arith, there))
-points_there [] (t ∷ ss) n s l there at = absurd (omega (arith, l))
 points_there (c ∷ cs) (t ∷ ss) zero s l there at = ap (λ (x : ColumnState). finmap.entries x.points) at
 points_there (c ∷ cs) (t ∷ ss) (suc n) s l there at = points_there cs ss n s (omega (arith, l)) (omega (arith, there)) at
+points_there _ _ n s l there at = absurd (omega (arith, l, there))
 
 -- a column's points are those that are shown
-pub points_shown : (cs : List Column) (ss : List ColumnState) (shown : List ColumnPoints) (n : ℕ) (s : ColumnState) → with_points cs (point_maps ss) ≡ shown → length ss ≡ length cs → n < length shown → s ≡ get_or ss n s
-    → finmap.entries s.points ≡ (get_or shown n no_points).points
-points_shown cs ss shown n s is each there at =
-    let many = shown-length cs ss shown is each in
-    points_there cs ss n s each (omega (arith, there, many)) at ∙ ap (λ (all : List ColumnPoints). (get_or all n no_points).points) is
+pub points_shown : (index : Indexed) (ss : List ColumnState) (us : List RollupState) (k : StoreContent) (n : ℕ) (s : ColumnState) → IsSoundContent index ss → content_of index ss us ≡ k → n < length k.columns → s ≡ get_or ss n s
+    → finmap.entries s.points ≡ (get_or k.columns n no_points).points
+points_shown index ss us k n s held view there at =
+    let many = its_columns index ss us k held view in
+    points_there index.columns ss n s held.each (omega (arith, there, many)) at ∙ ap (λ (h : StoreContent). (get_or h.columns n no_points).points) view

@@ -77,8 +77,6 @@ turn_taken low m n l =
     ⊎_elim {C = batches_of (below_count low m) ≡ batches_of (below_count low n) + 1} (λ e. omega (arith, e, fewer)) (λ h. let none : below_count low n ≡ 0 = none_below low n (l.below.all h) in omega (arith, h, fewer, none)) (eq-or-lt_of_le l.below.few)
 
 pub batches_left-loses : (rs ss : List RuleData) → FirstLoses rs ss → batches_left (map rule_cells rs) ≡ batches_left (map rule_cells ss) + 1
-batches_left-loses [] ss l = absurd l
-batches_left-loses (a ∷ rs) [] l = absurd l
 batches_left-loses (a ∷ rs) (b ∷ ss) l =
     ⊎_elim {C = batches_left (map rule_cells (a ∷ rs)) ≡ batches_left (map rule_cells (b ∷ ss)) + 1}
     (λ p.
@@ -91,6 +89,7 @@ batches_left-loses (a ∷ rs) (b ∷ ss) l =
     let same : batches_of (expired_count (rule_cells b)) ≡ batches_of (expired_count (rule_cells a)) = ap (λ (x : RuleData). batches_of (expired_count (rule_cells x))) p.1 in
     let others = batches_left-loses rs ss p.2 in
     omega (arith, same, others)) l
+batches_left-loses _ _ l = absurd l
 
 -- ---- what is removed
 
@@ -105,12 +104,11 @@ removes_above low (suc n) m after r k l =
 
 -- what holds of the cells of a rule that loses some, and of cells that stay, holds of each rule
 each_loses : (R : Rule → ℤ → CellMap → CellMap → Type 0) → ((r : Rule) (low : ℤ) (m : CellMap) → R r low m m) → ((r : Rule) (low : ℤ) (m n : CellMap) → LosesCells low m n → R r low m n) → (rs ss : List RuleData) → FirstLoses rs ss → OfEachRule R rs ss
-each_loses R same loses [] ss l = absurd l
-each_loses R same loses (a ∷ rs) [] l = absurd l
 each_loses R same loses (a ∷ rs) (b ∷ ss) l =
     ⊎_elim {C = OfEachRule R (a ∷ rs) (b ∷ ss)}
     (λ p. ((ap (λ (x : RuleData). x.rule) p.0.1, ap (λ (x : RuleData). x.low) p.0.1, loses a.rule a.low a.cells b.cells p.0.0), subst (OfEachRule R rs) (sym p.1) (each_same R same rs)))
     (λ p. ((ap (λ (x : RuleData). x.rule) p.1, ap (λ (x : RuleData). x.low) p.1, subst (λ (x : RuleData). R a.rule a.low a.cells x.cells) (sym p.1) (same a.rule a.low a.cells)), each_loses R same loses rs ss p.2)) l
+each_loses R same loses _ _ l = absurd l
 
 pub expired-loses : (rs ss : List RuleData) → FirstLoses rs ss → Expired rs ss
 expired-loses = each_loses (λ r. KeepsFrom) (λ r low m k l. refl) (λ r low m n l. removes_above low l.count m n l.below.removed)

@@ -1,5 +1,5 @@
 -- The effect of moving a column: on rollups, and on columns with their points.
-use Rattle.std.proofs.Common.{◌≡◌, ℕ, zero, suc, ℤ, ◌<◌, ◌≤◌, true, false, cond, List, [], ◌∷◌, ◌++◌, length, filter, map, set, get_or, refl, sym, ◌∙◌, ap, ap₂, subst, inl, inr, arith, Some, None, is_some, true≢false, int_le, Equal}
+use Rattle.std.proofs.Common.{rules, ◌≡◌, ℕ, zero, suc, ℤ, ◌<◌, true, false, cond, List, [], ◌∷◌, ◌++◌, length, filter, map, set, get_or, refl, sym, ◌∙◌, ap, ap₂, subst, inl, inr, arith, Some, None, is_some, true≢false, int_le, Equal}
 use Rattle.std.specs.Ordering.{int_cmp}
 use Rattle.std.specs.List.{slice_get}
 use Rattle.std.specs.Cmp.{int_cmp_total}
@@ -8,7 +8,6 @@ use Rattle.std.specs.FinMap.{entries, entries_sorted, get-entries, get-retain_ke
 use Rattle.std.specs.FinMap.Entries.{same_entries, is_sorted-where_key, find-where_key, where_key}
 use Rattle.std.proofs.lemmas.Option.{none-some, same_Some}
 use Rattle.std.proofs.lemmas.List.{length-map, map-set, get_or_default}
-use Rattle.std.proofs.lemmas.List.Sums.{sum_by-cons}
 use Rattle.ts_core.specs.lists.Members.{Among, AllDistinct}
 use Rattle.ts_core.specs.facts.Facts.{Column, Fact}
 use Rattle.ts_core.specs.settings.Settings.{Rule}
@@ -22,30 +21,27 @@ use Rattle.ts_raw.specs.Columns.{PointMap, ColumnState, points_from}
 use Rattle.ts_raw.specs.Indexed.{Indexed}
 use Rattle.ts_core.proofs.lists.NumberedLemmas.{at_among}
 use Rattle.ts_store.specs.store.ColumnStates.{point_maps, with_points, columns_in, no_column, content_of, IsSoundContent}
-use Rattle.ts_store.specs.read.PointsRead.{number_of_points}
 use Rattle.ts_store.specs.rollup.Rollups.{RollupState, IsRollupSeriesOf, AreRollups, rollup_series_at, with_grid_cells, cells_of}
 use Rattle.ts_store.specs.retain.RollupSteps.{with_all_grid_cells, cells_moved, FreezeFit, facts_left, content_moved}
 use Rattle.ts_store.specs.retain.PointMoves.{MovesPoints}
+use Rattle.ts_store.specs.write.PointPuts.{AreLiveOver}
 use Rattle.ts_store.proofs.store.ColumnsLemmas.{names_held}
 use Rattle.ts_store.proofs.write.StagedColumns.{points_at}
 use Rattle.ts_store.specs.rollup.ChangedLists.{ChangesBeside}
-use Rattle.ts_store.proofs.retain.RollupExpiry.{grids_kept}
-use Rattle.ts_store.proofs.write.LiveOver.{first_over, others_over}
+use Rattle.ts_store.proofs.rollup.ChangedListsLemmas.{grids_kept}
 
 -- ---- other cells under the same rollup series
 
 pub cells_with : (ms : List CellMap) (ss : List RollupState) → length ms ≡ length ss → cells_of (with_all_grid_cells ms ss) ≡ ms
 cells_with [] [] l = refl
-cells_with (m ∷ ms) [] l = absurd (omega arith)
-cells_with [] (s ∷ ss) l = absurd (omega arith)
 cells_with (m ∷ ms) (s ∷ ss) l = ap (λ ns. m ∷ ns) (cells_with ms ss (omega arith))
+cells_with _ _ l = absurd (omega arith)
 
 pub rollups_with : (rs : List Rule) (cs : List Column) (ms : List CellMap) (ss : List RollupState) → AreRollups rs cs ss → AreRollups rs cs (with_all_grid_cells ms ss)
 rollups_with rs cs [] ss a = a
-rollups_with [] cs (m ∷ ms) [] a = tt
-rollups_with [] cs (m ∷ ms) (s ∷ ss) a = absurd a
-rollups_with (r ∷ rs) cs (m ∷ ms) [] a = absurd a
+rollups_with rs cs (m ∷ ms) [] a = a
 rollups_with (r ∷ rs) cs (m ∷ ms) (s ∷ ss) a = (a.0, rollups_with rs cs ms ss a.1)
+rollups_with _ cs _ _ a = absurd a
 
 -- ---- a column is moved under a rule
 
@@ -67,18 +63,15 @@ entries_from m mark =
     (λ q. sym (get-entries (points_from m mark) q) ∙ get-retain_keys m (int_le mark) q (alike q) ∙ ap (λ o. cond (int_le mark q) o None) (get-entries m q) ∙ sym (find-where_key int_cmp (int_le mark) q (alike q) (entries m)))
 
 others_kept : (c : Column) (mark : ℤ) (cs : List Column) (ms : List PointMap) → (Among c cs → ⊥) → map (kept_points c mark) (with_points cs ms) ≡ with_points cs ms
-others_kept c mark [] ms a = refl
-others_kept c mark (d ∷ cs) [] a = refl
 others_kept c mark (d ∷ cs) (m ∷ ms) a =
     let apart : same_column d c ≡ false = elim (same_column d c) as (λ b. same_column d c ≡ b → b ≡ false) [ true ↦ λ e. absurd (a (inl (sym (same_column-eq d c e)))) | false ↦ λ e. refl ] refl in
     let s : ColumnPoints = record { column = d; points = entries m } in
     ap₂ (λ (x : ColumnPoints) xs. x ∷ xs) (ap (λ b. cond b (record { column = d; points = filter (λ (p : ℤ × ℤ). int_le mark p.0) (entries m) }) s) apart) (others_kept c mark cs ms (λ k. a (inr k)))
+others_kept c mark _ _ a = refl
 
 -- of the column of a number only the points from the mark on are kept
 pub columns_left : (c : Column) (mark : ℤ) (cs : List Column) (ms : List PointMap) (n : ℕ) → AllDistinct cs → length ms ≡ length cs → slice_get cs n ≡ Some c
     → with_points cs (set ms n (points_from (get_or ms n finmap.empty) mark)) ≡ map (kept_points c mark) (with_points cs ms)
-columns_left c mark [] ms n d l e = absurd (none-some c e)
-columns_left c mark (b ∷ cs) [] n d l e = absurd (omega arith)
 columns_left c mark (b ∷ cs) (m ∷ ms) zero d l e =
     let same : b ≡ c = same_Some b c e in
     let is : same_column b c ≡ true = ap (λ x. same_column x c) same ∙ same_column-refl c in
@@ -91,8 +84,16 @@ columns_left c mark (b ∷ cs) (m ∷ ms) (suc n) d l e =
     elim (same_column b c) as (λ v. same_column b c ≡ v → v ≡ false) [ true ↦ λ k. absurd (d.0 (subst (λ (x : Column). Among x cs) (sym (same_column-eq b c k)) (at_among cs n c e))) | false ↦ λ k. refl ] refl in
     let s : ColumnPoints = record { column = b; points = entries m } in
     ap₂ (λ (x : ColumnPoints) xs. x ∷ xs) (sym (ap (λ v. cond v (record { column = b; points = filter (λ (p : ℤ × ℤ). int_le mark p.0) (entries m) }) s) apart)) (columns_left c mark cs ms n d.1 (omega (arith, l)) e)
+columns_left c mark _ _ n d l e = search rules
 
 -- ---- under all rules
+
+-- of the first rule, and of the others
+pub first_over : (r : Rule) (rs : List Rule) (cs : List Column) (states : List ColumnState) (before : List ColumnPoints) (s : RollupState) (ss : List RollupState) → AreLiveOver (r ∷ rs) cs states before (s ∷ ss) → AreLiveOver (r ∷ []) cs states before (s ∷ [])
+first_over r rs cs states before s ss over = record { each = over.each; once = over.once; rollups = (over.rollups.0, tt); live = (over.live.0, tt) }
+
+pub others_over : (r : Rule) (rs : List Rule) (cs : List Column) (states : List ColumnState) (before : List ColumnPoints) (s : RollupState) (ss : List RollupState) → AreLiveOver (r ∷ rs) cs states before (s ∷ ss) → AreLiveOver rs cs states before ss
+others_over r rs cs states before s ss over = record { each = over.each; once = over.once; rollups = over.rollups.1; live = over.live.1 }
 
 -- its points are moved under a rule
 abbrev pub MovesUnder : List ColumnState → ℕ → ℤ → Rule → RollupState → RollupState → Type 0
@@ -109,17 +110,11 @@ all_moved_under states n mark (r ∷ rs) (s ∷ ss) (t ∷ ts) h = λ cs c may.
 
 -- ---- a column of the content
 
-pub one_of-points : (ss : List ColumnState) (n : ℕ) (d : ColumnState) → n < length ss → finmap.len (get_or ss n d).points ≤ number_of_points ss
-one_of-points [] n d l = absurd (omega arith)
-one_of-points (s ∷ ss) zero d l = let e = sum_by-cons (λ (t : ColumnState). finmap.len t.points) s ss in omega arith
-one_of-points (s ∷ ss) (suc n) d l = let e = sum_by-cons (λ (t : ColumnState). finmap.len t.points) s ss in let h = one_of-points ss n d (omega arith) in omega arith
-
 -- the column of a number, with its points
 with_points-at : (cs : List Column) (ms : List PointMap) (n : ℕ) (s : ColumnPoints) → slice_get (with_points cs ms) n ≡ Some s → (slice_get cs n ≡ Some s.column) × (s.points ≡ entries (get_or ms n finmap.empty))
-with_points-at [] ms n s e = absurd (none-some s e)
-with_points-at (c ∷ cs) [] n s e = absurd (none-some s e)
 with_points-at (c ∷ cs) (m ∷ ms) zero s e = let is = same_Some (record { column = c; points = entries m }) s e in (ap (λ (x : ColumnPoints). Some x.column) is, sym (ap (λ (x : ColumnPoints). x.points) is))
 with_points-at (c ∷ cs) (m ∷ ms) (suc n) s e = with_points-at cs ms n s e
+with_points-at _ _ n s e = absurd (none-some s e)
 
 pub held_moves : (index : Indexed) (ss : List ColumnState) (us vs : List RollupState) (rs : List Rule) (mark : ℤ) (n : ℕ) (x y : ColumnState) → IsSoundContent index ss → n < length ss → x ≡ get_or ss n x → y.points ≡ points_from x.points mark
     → AreRollups rs (map column_of (columns_in index ss)) us → OfEach (IsLive (columns_in index ss)) rs (cells_of us)

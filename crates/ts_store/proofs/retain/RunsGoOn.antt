@@ -1,18 +1,19 @@
 -- A begin and the steps of a run, on a store's content: it still represents its history, and has its invariant.
-use Rattle.std.proofs.Common.{◌≡◌, ◌⊎◌, ℕ, ℤ, ◌+◌, ◌≤◌, ◌^◌, true, false, true≢false, List, [], ◌∷◌, length, map, refl, sym, ◌∙◌, ap, ap₂, subst, inl, inr, ⊎_elim, arith, Option, Some, None, cond, filter, int_le, get_or}
+use Rattle.std.proofs.Common.{◌≡◌, ◌⊎◌, ℕ, ℤ, ◌+◌, ◌≤◌, ◌^◌, true, false, true≢false, List, [], ◌∷◌, length, map, refl, sym, ◌∙◌, ap, ap₂, subst, inl, inr, ⊎_elim, arith, Option, Some, None, cond, filter, int_le, get_or, Bool, not, ◌&&◌}
 use Rattle.std.specs.Int.{int_max}
 use Rattle.std.specs.List.{AllByRecursion}
 use Rattle.std.proofs.lemmas.List.{length-map, append-nil}
 use Rattle.std.proofs.lemmas.Option.{slice_get-get_or}
-use Rattle.ts_core.specs.facts.Facts.{Column, Fact}
+use Rattle.ts_core.specs.lists.Members.{Among, AllDistinct}
+use Rattle.ts_core.specs.facts.Facts.{Column, Fact, same_text}
 use Rattle.ts_core.specs.settings.Settings.{Rule, Settings}
 use Rattle.ts_core.specs.store.Marks.{Marks}
 use Rattle.ts_core.specs.store.History.{Step, kept_since}
 use Rattle.ts_core.specs.store.RawFacts.{same_column}
-use Rattle.ts_core.specs.store.StoreStates.{ColumnPoints, StandsFor, column_of, facts_of}
+use Rattle.ts_core.specs.store.StoreStates.{ColumnPoints, StandsFor, column_of, facts_of, fact_at, facts_at}
 use Rattle.ts_core.specs.store.StoreData.{CellMap, RuleData, StoreData, store_settings, store_marks, state_of, IsLive, AreLive, GoesOn}
 use Rattle.ts_core.proofs.moves.LivesKept.{lives_go, lives_left}
-use Rattle.ts_core.specs.moves.StoreMoves.{all_moved, points_below, kept_points, column_moved, raised_low, raised, raised_rule, run_begun, KeepsFrom, with_rules, run_ended, moved_cells}
+use Rattle.ts_core.specs.moves.StoreMoves.{all_moved, points_below, kept_points, column_moved, raised_low, raised, raised_rule, run_begun, KeepsFrom, with_rules, run_ended, moved_cells, in_cells, frozen_points, refolded_points}
 use Rattle.ts_core.specs.moves.Runs.{steps_left}
 use Rattle.ts_core.proofs.moves.StepStands.{step_stands}
 use Rattle.ts_core.proofs.moves.EachRule.{AnyCells, settings_same, marks_same, each_in}
@@ -21,8 +22,8 @@ use Rattle.ts_core.proofs.moves.MovesStand.{cells_go, run_ends}
 use Rattle.ts_core.specs.lists.Numbered.{IsAt}
 use Rattle.ts_core.proofs.lists.NumberedLemmas.{at_among}
 use Rattle.ts_core.proofs.moves.LeftOnData.{left-moves}
-use Rattle.ts_core.proofs.lists.BesideLemmas.{length-beside}
-use Rattle.ts_store.specs.store.CellCounts.{HoldsFew, HoldFew}
+use Rattle.ts_core.proofs.lists.BesideLemmas.{length-beside, OfEach-weaker}
+use Rattle.ts_store.specs.store.CellCounts.{HoldsFew, HoldFew, frozen_count, live_count}
 use Rattle.ts_store.specs.store.ColumnStates.{StoreContent}
 use Rattle.std.specs.Option.{is_some}
 use Rattle.ts_store.specs.retain.OpenRuns.{Run, run_over, waiting_in, IsWithin, TakesFirst, data_of_parts}
@@ -33,16 +34,95 @@ use Rattle.ts_store.specs.read.ViewResults.{no_points}
 use Rattle.ts_store.specs.store.SizedStores.{IsSized}
 use Rattle.ts_store.specs.store.PossibleCells.{HasPossibleCells, HavePossibleCells}
 use Rattle.ts_store.specs.store.RuleLists.{rules_with}
-use Rattle.ts_store.specs.retain.RollupSteps.{content_with_cells, cells_moved, FreezeFit, content_moved}
-use Rattle.ts_store.proofs.retain.CountsMoved.{counts-fit, counts-moved}
+use Rattle.ts_store.specs.retain.RollupSteps.{content_with_cells, cells_moved, FreezeFit, content_moved, points_in_cell, FreezesFit}
 use Rattle.ts_store.proofs.retain.RollupMoves.{cells_with, rollups_with}
 use Rattle.ts_store.proofs.store.RuleListLemmas.{with_changed, with_raised, with_first, each_with}
-use Rattle.ts_store.proofs.store.PossibleCellsKept.{possible_moved, possible_gone}
-use Rattle.ts_store.proofs.store.SizesKept.{sized_begun, sized_moved, sized_gone, sized_ended}
+use Rattle.ts_store.proofs.store.CountsKept.{possible_moved, possible_gone, sized_begun, sized_moved, sized_gone, sized_ended}
 use Rattle.ts_store.specs.retain.WholeRuns.{AreAbove, LosesCells, FirstLoses, MovesFirst, RemovesCells}
 use Rattle.ts_store.specs.rollup.ChangedLists.{FirstChanges}
 use Rattle.ts_cells.specs.Expiry.{IsAbove}
 use Rattle.ts_store.proofs.retain.BatchesLeft.{batches_left-loses, of-loses, expired-loses, counts-removed, batches_left-above}
+use Rattle.ts_core.specs.aggregates.Aggregates.{Aggregate, aggregate_of_one, merged_within}
+use Rattle.ts_core.specs.store.Cells.{Cell, same_cell, cell_of, is_in_cell}
+use Rattle.ts_core.specs.lists.Changes.{changed}
+use Rattle.ts_core.specs.store.TwoParts.{in_frozen}
+use Rattle.ts_core.proofs.moves.Freezing.{gone_held, refolded_frozen}
+use Rattle.ts_core.proofs.store.Moves.{is_left}
+use Rattle.ts_core.proofs.store.RunSteps.{facts_of-left}
+use Rattle.ts_core.specs.lists.Beside.{OfEach}
+use Rattle.ts_store.proofs.retain.PointsFrozen.{frozen_most, first_in}
+
+-- ---- counts when points are frozen: they go from the live to the frozen part, so counts fit
+
+-- ---- the frozen part
+
+points_most : (r : Rule) (c : Column) (ps : List (ℤ × ℤ)) (m : CellMap) (k : Cell) → same_text c.series.measurement r.measurement ≡ true → frozen_count (frozen_points r c ps m) k ≤ frozen_count m k + points_in_cell r c k ps
+points_most r c [] m k t = omega arith
+points_most r c (p ∷ ps) m k t =
+    let q : Cell = cell_of r (fact_at c p) in
+    let n : CellMap = changed m q (in_frozen (merged_within (aggregate_of_one p.0 p.1))) in
+    let rest : frozen_count (frozen_points r c ps n) k ≤ frozen_count n k + points_in_cell r c k ps = points_most r c ps n k t in
+    let one : frozen_count n k ≤ frozen_count m k + cond {A = ℕ} (same_cell k q) 1 0 = frozen_most m q (aggregate_of_one p.0 p.1) k in
+    let first : points_in_cell r c k (p ∷ ps) ≡ cond {A = ℕ} (same_cell k q) 1 0 + points_in_cell r c k ps = first_in r c k p ps t in
+    omega arith
+
+column_most : (r : Rule) (c : Column) (ps : List (ℤ × ℤ)) (facts : List Fact) (m : CellMap) (k : Cell) → frozen_count (moved_cells r c ps facts m) k ≤ frozen_count m k + points_in_cell r c k ps
+column_most r c ps facts m k =
+    elim (same_text c.series.measurement r.measurement) as (λ b. same_text c.series.measurement r.measurement ≡ b → frozen_count (cond b (refolded_points r c ps facts (frozen_points r c ps m)) m) k ≤ frozen_count m k + points_in_cell r c k ps) [
+      | true ↦ λ t.
+          let same : frozen_count (refolded_points r c ps facts (frozen_points r c ps m)) k ≡ frozen_count (frozen_points r c ps m) k = ap (λ (a : Aggregate). a.count) (refolded_frozen r c k facts ps (frozen_points r c ps m)) in
+          let most = points_most r c ps m k t in
+          omega (arith, same, most)
+      | false ↦ λ t. omega arith
+    ] refl
+
+-- ---- the live part
+
+by_parts : (p q : Fact → Bool) (fs : List Fact) → length (filter p (filter q fs)) + length (filter (λ (f : Fact). p f && not (q f)) fs) ≡ length (filter p fs)
+by_parts p q [] = refl
+by_parts p q (f ∷ fs) =
+    let rest : length (filter p (filter q fs)) + length (filter (λ (g : Fact). p g && not (q g)) fs) ≡ length (filter p fs) = by_parts p q fs in
+    elim (q f) as (λ b. length (filter p (cond b (f ∷ filter q fs) (filter q fs))) + length (cond (p f && not b) (f ∷ filter (λ (g : Fact). p g && not (q g)) fs) (filter (λ (g : Fact). p g && not (q g)) fs)) ≡ length (cond (p f) (f ∷ filter p fs) (filter p fs))) [
+      | true ↦ elim (p f) as (λ a. length (cond a (f ∷ filter p (filter q fs)) (filter p (filter q fs))) + length (cond (a && false) (f ∷ filter (λ (g : Fact). p g && not (q g)) fs) (filter (λ (g : Fact). p g && not (q g)) fs)) ≡ length (cond a (f ∷ filter p fs) (filter p fs))) [ true ↦ omega arith | false ↦ omega arith ]
+      | false ↦ elim (p f) as (λ a. length (filter p (filter q fs)) + length (cond (a && true) (f ∷ filter (λ (g : Fact). p g && not (q g)) fs) (filter (λ (g : Fact). p g && not (q g)) fs)) ≡ length (cond a (f ∷ filter p fs) (filter p fs))) [ true ↦ omega arith | false ↦ omega arith ]
+    ]
+
+facts_in-cell : (r : Rule) (k : Cell) (c : Column) (ps : List (ℤ × ℤ)) → length (filter (is_in_cell r k) (facts_at c ps)) ≡ points_in_cell r c k ps
+facts_in-cell r k c [] = refl
+facts_in-cell r k c (p ∷ ps) =
+    let rest : length (filter (is_in_cell r k) (facts_at c ps)) ≡ points_in_cell r c k ps = facts_in-cell r k c ps in
+    elim (is_in_cell r k (fact_at c p)) as (λ b. length (cond b (fact_at c p ∷ filter (is_in_cell r k) (facts_at c ps)) (filter (is_in_cell r k) (facts_at c ps))) ≡ length (cond b (p ∷ filter (λ (x : ℤ × ℤ). is_in_cell r k (fact_at c x)) ps) (filter (λ (x : ℤ × ℤ). is_in_cell r k (fact_at c x)) ps))) [
+      | true ↦ omega arith
+      | false ↦ rest
+    ]
+
+live_moved : (r : Rule) (k : Cell) (mark : ℤ) (s : ColumnPoints) (cs : List ColumnPoints) → AllDistinct (map column_of cs) → Among s cs
+    → live_count r k (map (kept_points s.column mark) cs) + points_in_cell r s.column k (points_below mark s.points) ≡ live_count r k cs
+live_moved r k mark s cs once there =
+    let p : Fact → Bool = is_in_cell r k in
+    let q : Fact → Bool = is_left s.column mark in
+    let left : live_count r k (map (kept_points s.column mark) cs) ≡ length (filter p (filter q (facts_of cs))) = ap (λ (fs : List Fact). length (filter p fs)) (facts_of-left s.column mark cs) in
+    let gone : length (filter (λ (f : Fact). p f && not (q f)) (facts_of cs)) ≡ points_in_cell r s.column k (points_below mark s.points) =
+    ap length (gone_held s.column mark p cs s.points once there) ∙ facts_in-cell r k s.column (points_below mark s.points) in
+    let parts : length (filter p (filter q (facts_of cs))) + length (filter (λ (f : Fact). p f && not (q f)) (facts_of cs)) ≡ length (filter p (facts_of cs)) = by_parts p q (facts_of cs) in
+    omega arith
+
+-- ---- under each rule
+
+module _ (n : ℕ) (mark : ℤ) (s : ColumnPoints) (cs : List ColumnPoints) (once : AllDistinct (map column_of cs)) (there : Among s cs) where
+  pub counts-fit : n ≤ 2 ^ 62 → (rs : List Rule) (ms : List CellMap) → OfEach (HoldsFew n cs) rs ms → FreezeFit rs s.column (points_below mark s.points) ms
+  counts-fit most rs ms few =
+      OfEach-weaker (HoldsFew n cs) (λ (r : Rule). FreezesFit r s.column (points_below mark s.points)) (λ r m all k. let moved = live_moved r k mark s cs once there in let count = all k in omega arith) rs ms few
+
+  pub counts-moved : (rs : List RuleData) → HoldFew n cs rs → HoldFew n (map (kept_points s.column mark) cs) (all_moved s.column (points_below mark s.points) (facts_of (map (kept_points s.column mark) cs)) rs)
+  counts-moved =
+      let left : List Fact = facts_of (map (kept_points s.column mark) cs) in
+      all_map (λ (x : RuleData). HoldsFew n cs x.rule x.cells) (λ (x : RuleData). HoldsFew n (map (kept_points s.column mark) cs) x.rule x.cells) (in_cells (λ (r : Rule). moved_cells r s.column (points_below mark s.points) left))
+      (λ x all k.
+      let moved = live_moved x.rule k mark s cs once there in
+      let frozen = column_most x.rule s.column (points_below mark s.points) left x.cells k in
+      let count = all k in
+      omega arith)
 
 -- ---- a column keeps its name
 
@@ -52,6 +132,14 @@ kept-names c mark (s ∷ cs) =
     ap₂ (λ (x : Column) xs. x ∷ xs) (elim (same_column s.column c) as (λ b. (cond b (record { column = s.column; points = filter (λ (p : ℤ × ℤ). int_le mark p.0) s.points }) s).column ≡ s.column) [ true ↦ refl | false ↦ refl ]) (kept-names c mark cs)
 
 -- ---- what a store of these parts keeps
+
+-- the store goes on with one step fewer left, and is kept
+pub record IsStep (settings : Settings) (marks : Marks) (n : ℕ) (before : StoreData) (held : StoreContent) (run : Option Run) : Type 0 where
+  pub goes : GoesOn before (Step false) (data_of_parts settings marks n held run)
+  pub fewer : steps_left (state_of before) ≡ steps_left (state_of (data_of_parts settings marks n held run)) + 1
+  pub moves : MovesFirst before (data_of_parts settings marks n held run) ⊎ RemovesCells before (data_of_parts settings marks n held run)
+  pub series : held.series ≡ before.series
+  pub kept : IsSoundStore settings marks n held run
 
 module _ (settings : Settings) (marks : Marks) (n : ℕ) where
   -- no count overflows
@@ -113,29 +201,26 @@ module _ (settings : Settings) (marks : Marks) (n : ℕ) where
           accepted = n;
         }
 
-    pub moves-first : MovesFirst before moved
+    pub moved_step : IsStep settings marks n before after (Some left)
     unfolding rest
-    moves-first = record { column = s.column; points = s.points; others = rest; waits = waits; there = at_among held.columns number s at; moved = sym is_moved }
-
-    pub moved-stands : GoesOn before (Step false) moved
-    moved-stands = λ opening h st.
-        subst (λ (k : StoreData). StandsFor opening (Step false ∷ h) (state_of k)) is_moved (step_stands opening h before s.column s.points rest st waits (at_among held.columns number s at))
-
-    pub moved-steps : steps_left (state_of before) ≡ steps_left (state_of moved) + 1
-    unfolding rest
-    moved-steps = left-moves before s.column s.points rest refl waits ∙ ap (λ (k : StoreData). steps_left (state_of k) + 1) is_moved
-
-    pub moved-kept : IsSoundStore settings marks n after (Some left)
-    moved-kept = record {
-      rollups = subst (λ (cs : List Column). AreRollups settings.rules cs after.rollups) (sym (kept-names s.column marks.raw held.columns))
-          (rollups_with settings.rules (map column_of held.columns) (cells_moved settings.rules s.column below left_facts (cells_of held.rollups)) held.rollups kept.rollups);
-      lows = kept.lows;
-      few = within_more (Some left) held.columns after.columns [] (kept-names s.column marks.raw held.columns ∙ sym (append-nil (map column_of held.columns))) within;
-      counts = subst (HoldFew n after.columns) its_rules (counts-moved n marks.raw s held.columns kept.sized.columns (at_among held.columns number s at) before.rules kept.counts);
-      live = subst (AreLive after.columns) its_rules (lives_left s.column marks.raw held.columns s.points kept.sized.columns (at_among held.columns number s at) before.rules kept.live);
-      possible = subst HavePossibleCells its_rules (possible_moved s.column below left_facts before.rules kept.possible);
-      sized = subst IsSized is_moved (sized_moved before s.column s.points rest kept.sized);
-    }
+    moved_step =
+        let there : Among s held.columns = at_among held.columns number s at in
+        record {
+          goes = λ opening h st. subst (λ (k : StoreData). StandsFor opening (Step false ∷ h) (state_of k)) is_moved (step_stands opening h before s.column s.points rest st waits there);
+          fewer = left-moves before s.column s.points rest refl waits ∙ ap (λ (k : StoreData). steps_left (state_of k) + 1) is_moved;
+          moves = inl (record { column = s.column; points = s.points; others = rest; waits = waits; there = there; moved = sym is_moved });
+          series = refl;
+          kept = record {
+            rollups = subst (λ (cs : List Column). AreRollups settings.rules cs after.rollups) (sym (kept-names s.column marks.raw held.columns))
+                (rollups_with settings.rules (map column_of held.columns) (cells_moved settings.rules s.column below left_facts (cells_of held.rollups)) held.rollups kept.rollups);
+            lows = kept.lows;
+            few = within_more (Some left) held.columns after.columns [] (kept-names s.column marks.raw held.columns ∙ sym (append-nil (map column_of held.columns))) within;
+            counts = subst (HoldFew n after.columns) its_rules (counts-moved n marks.raw s held.columns kept.sized.columns there before.rules kept.counts);
+            live = subst (AreLive after.columns) its_rules (lives_left s.column marks.raw held.columns s.points kept.sized.columns there before.rules kept.live);
+            possible = subst HavePossibleCells its_rules (possible_moved s.column below left_facts before.rules kept.possible);
+            sized = subst IsSized is_moved (sized_moved before s.column s.points rest kept.sized);
+          };
+        }
 
   -- ---- cells are removed
 
@@ -154,30 +239,25 @@ module _ (settings : Settings) (marks : Marks) (n : ℕ) where
         let h : StoreContent = sym is i in
         record { raw_duration = settings.raw_duration; raw_mark = marks.raw; rules = less.rules; running = true; waiting = waiting_in (Some run) h.columns; series = h.series; columns = h.columns; accepted = n }
 
-    pub removes-cells : waiting_in (Some run) held.columns ≡ [] → RemovesCells full less
-    removes-cells none = record { waits = none; loses = first_loses; others = sym is_removed }
-
-    pub removed-stands : GoesOn full (Step false) less
-    removed-stands = λ opening h st.
-        subst (λ (k : StoreData). StandsFor opening (Step false ∷ h) (state_of k)) is_removed (cells_go opening h full less.rules st (expired-loses full.rules less.rules first_loses))
-
-    pub removed-steps : steps_left (state_of full) ≡ steps_left (state_of less) + 1
-    removed-steps =
-        let batches = batches_left-loses full.rules less.rules first_loses in
-        let same = ap (λ (k : StoreData). steps_left (state_of k)) is_removed in
-        omega arith
-
-    pub removed-kept : IsSoundStore settings marks n left (Some run)
-    removed-kept =
+    pub removed_step : waiting_in (Some run) held.columns ≡ [] → IsStep settings marks n full left (Some run)
+    removed_step none =
         let columns : left.columns ≡ held.columns = ap (λ (h : StoreContent). h.columns) is in
+        let expired = expired-loses full.rules less.rules first_loses in
+        let loss = of-loses full.rules less.rules first_loses in
         record {
-          rollups = subst (λ (h : StoreContent). AreRollups settings.rules (map column_of h.columns) h.rollups) (sym is) (rollups_with settings.rules (map column_of held.columns) (cells_of left.rollups) held.rollups kept.rollups);
-          lows = kept.lows;
-          few = (kept.few.0, subst (λ (cs : List ColumnPoints). run.end ≤ length cs) (sym columns) kept.few.1);
-          counts = subst (λ (cs : List ColumnPoints). HoldFew n cs less.rules) (sym columns) (counts-removed n held.columns full.rules less.rules first_loses kept.counts);
-          live = subst (λ (cs : List ColumnPoints). AreLive cs less.rules) (sym columns) (lives_go held.columns full.rules less.rules (of-loses full.rules less.rules first_loses) kept.live);
-          possible = possible_gone full.rules less.rules (of-loses full.rules less.rules first_loses) kept.possible;
-          sized = subst IsSized is_removed (sized_gone full less.rules (expired-loses full.rules less.rules first_loses) kept.sized);
+          goes = λ opening h st. subst (λ (k : StoreData). StandsFor opening (Step false ∷ h) (state_of k)) is_removed (cells_go opening h full less.rules st expired);
+          fewer = let batches = batches_left-loses full.rules less.rules first_loses in let same = ap (λ (k : StoreData). steps_left (state_of k)) is_removed in omega arith;
+          moves = inr (record { waits = none; loses = first_loses; others = sym is_removed });
+          series = ap (λ (h : StoreContent). h.series) is;
+          kept = record {
+            rollups = subst (λ (h : StoreContent). AreRollups settings.rules (map column_of h.columns) h.rollups) (sym is) (rollups_with settings.rules (map column_of held.columns) (cells_of left.rollups) held.rollups kept.rollups);
+            lows = kept.lows;
+            few = (kept.few.0, subst (λ (cs : List ColumnPoints). run.end ≤ length cs) (sym columns) kept.few.1);
+            counts = subst (λ (cs : List ColumnPoints). HoldFew n cs less.rules) (sym columns) (counts-removed n held.columns full.rules less.rules first_loses kept.counts);
+            live = subst (λ (cs : List ColumnPoints). AreLive cs less.rules) (sym columns) (lives_go held.columns full.rules less.rules loss kept.live);
+            possible = possible_gone full.rules less.rules loss kept.possible;
+            sized = subst IsSized is_removed (sized_gone full less.rules expired kept.sized);
+          };
         }
 
   -- ---- the run ends
@@ -189,19 +269,12 @@ module _ (settings : Settings) (marks : Marks) (n : ℕ) where
     is_ended : run_ended open_run ≡ data_of_parts settings marks n held None
     is_ended = λ i. record open_run { running = false; waiting = none i }
 
-    ended-stands : GoesOn open_run (Step true) (data_of_parts settings marks n held None)
-    ended-stands = λ opening h st. subst (λ (k : StoreData). StandsFor opening (Step true ∷ h) (state_of k)) is_ended (run_ends opening h open_run st none)
-
-    ended-kept : IsSoundStore settings marks n held None
-    ended-kept = record {
-      rollups = kept.rollups;
-      lows = kept.lows;
-      few = tt;
-      counts = kept.counts;
-      live = kept.live;
-      possible = kept.possible;
-      sized = subst IsSized is_ended (sized_ended open_run kept.sized);
-    }
+    ended : (data_of_parts settings marks n held None ≡ run_ended open_run) × GoesOn open_run (Step true) (data_of_parts settings marks n held None) × IsSoundStore settings marks n held None
+    ended = (
+      sym is_ended,
+      λ opening h st. subst (λ (k : StoreData). StandsFor opening (Step true ∷ h) (state_of k)) is_ended (run_ends opening h open_run st none),
+      record { rollups = kept.rollups; lows = kept.lows; few = tt; counts = kept.counts; live = kept.live; possible = kept.possible; sized = subst IsSized is_ended (sized_ended open_run kept.sized) },
+    )
 
   -- ---- a run begins
 
@@ -255,14 +328,6 @@ moves_same old new m =
     let each = expired-loses old.rules new.rules p.loses in
     (ap store_settings p.others ∙ settings_same (λ r. KeepsFrom) (with_rules new.rules old) old.rules each, ap store_marks p.others ∙ marks_same (λ r. KeepsFrom) (with_rules new.rules old) old.rules each)) m
 
--- the store goes on with one step fewer left, and is kept
-pub record IsStep (settings : Settings) (marks : Marks) (n : ℕ) (before : StoreData) (held : StoreContent) (run : Option Run) : Type 0 where
-  pub goes : GoesOn before (Step false) (data_of_parts settings marks n held run)
-  pub fewer : steps_left (state_of before) ≡ steps_left (state_of (data_of_parts settings marks n held run)) + 1
-  pub moves : MovesFirst before (data_of_parts settings marks n held run) ⊎ RemovesCells before (data_of_parts settings marks n held run)
-  pub series : held.series ≡ before.series
-  pub kept : IsSoundStore settings marks n held run
-
 module _ (settings : Settings) (marks : Marks) (n : ℕ) (held after : StoreContent) (before : StoreData) where
   -- the first waiting column is taken off the run, and moved
   pub move_steps : (run left : Option Run) (number : ℕ) (rs : List Rule) (mark : ℤ) → data_of_parts settings marks n held run ≡ before → IsSoundStore settings marks n held run → is_some run ≡ true → TakesFirst run left (Some number)
@@ -281,13 +346,7 @@ module _ (settings : Settings) (marks : Marks) (n : ℕ) (held after : StoreCont
       ∙ ap₂ (λ (us : List Rule) m. content_moved us s m held) same raw in
       let step : IsStep settings marks n (data_of_parts settings marks n held (Some run)) after (Some left) =
       subst (λ (h : StoreContent). IsStep settings marks n (data_of_parts settings marks n held (Some run)) h (Some left)) (sym is)
-      (record {
-        goes = moved-stands settings marks n held run left number s first within.0 at kept;
-        fewer = moved-steps settings marks n held run left number s first within.0 at kept;
-        moves = inl (moves-first settings marks n held run left number s first within.0 at kept);
-        series = refl;
-        kept = moved-kept settings marks n held run left number s first within.0 at kept;
-      }) in
+      (moved_step settings marks n held run left number s first within.0 at kept) in
       subst (λ (k : StoreData). IsStep settings marks n k after (Some left)) shown step
 
   -- the store with what is left of a run of which no column waits
@@ -322,25 +381,15 @@ module _ (settings : Settings) (marks : Marks) (n : ℕ) (held after : StoreCont
   removal_steps None lows all same is loses = absurd (true≢false (sym all.running))
   removal_steps (Some r) lows all same is loses =
       let some : FirstChanges IsAbove LosesCells marks.lows (cells_of held.rollups) (cells_of after.rollups) = subst (λ (ls : List ℤ). FirstChanges IsAbove LosesCells ls (cells_of held.rollups) (cells_of after.rollups)) same loses in
-      let step : IsStep settings marks n (data_of_parts settings marks n held (Some r)) after (Some r) = record {
-        goes = removed-stands settings marks n held after r is some all.kept;
-        fewer = removed-steps settings marks n held after r is some all.kept;
-        moves = inr (removes-cells settings marks n held after r is some all.kept all.none);
-        series = ap (λ (h : StoreContent). h.series) is;
-        kept = removed-kept settings marks n held after r is some all.kept;
-      } in
-      subst (λ (k : StoreData). IsStep settings marks n k after (Some r)) all.shown step
+      subst (λ (k : StoreData). IsStep settings marks n k after (Some r)) all.shown (removed_step settings marks n held after r is some all.kept all.none)
 
   -- or nothing was left, and the run is over
   pub end_steps : (run : Option Run) → IsThrough run → after ≡ held
       → (data_of_parts settings marks n after None ≡ run_ended before) × GoesOn before (Step true) (data_of_parts settings marks n after None) × IsSoundStore settings marks n after None
   end_steps None all is = absurd (true≢false (sym all.running))
   end_steps (Some r) all is =
-      subst (λ (h : StoreContent). (data_of_parts settings marks n h None ≡ run_ended before) × GoesOn before (Step true) (data_of_parts settings marks n h None) × IsSoundStore settings marks n h None) (sym is) (
-        sym (is_ended settings marks n held r all.none all.kept) ∙ ap run_ended all.shown,
-        subst (λ (k : StoreData). GoesOn k (Step true) (data_of_parts settings marks n held None)) all.shown (ended-stands settings marks n held r all.none all.kept),
-        ended-kept settings marks n held r all.none all.kept,
-      )
+      subst (λ (h : StoreContent). (data_of_parts settings marks n h None ≡ run_ended before) × GoesOn before (Step true) (data_of_parts settings marks n h None) × IsSoundStore settings marks n h None) (sym is)
+      (subst (λ (k : StoreData). (data_of_parts settings marks n held None ≡ run_ended k) × GoesOn k (Step true) (data_of_parts settings marks n held None) × IsSoundStore settings marks n held None) all.shown (ended settings marks n held r all.none all.kept))
 
   -- and this was the last step
   pub end_last : (run : Option Run) → IsThrough run → AreAbove (data_of_parts settings marks n held run).rules → steps_left (state_of before) ≡ 1

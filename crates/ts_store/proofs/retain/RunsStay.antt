@@ -8,7 +8,7 @@ use Rattle.ts_store.specs.store.Inventories.{Inventory, inventory_of, all_waitin
 use Rattle.std.specs.FinMap as finmap
 use Rattle.std.proofs.lemmas.Simd.{map-map}
 use Rattle.ts_core.specs.store.StoreStates.{column_of}
-use Rattle.ts_store.proofs.store.SizesKept.{begun_settings}
+use Rattle.ts_store.proofs.store.CountsKept.{begun_settings}
 use Rattle.ts_store.proofs.retain.RunsGoOn.{moves_same}
 use Rattle.ts_store.specs.retain.WholeRuns.{MovesFirst, RemovesCells}
 use Rattle.ts_store.specs.declared.retain.StepAnswer.{StepAnswer}
@@ -31,14 +31,11 @@ begun_stays now old new e =
     subst (λ (k : StoreData). Stays old k 0) (sym e)
     (record { settings = begun_settings old now; accepted = refl; inventory = subst (λ (x : Inventory). KeptSince (store_marks (run_begun now old)).lows x begun 0) (begun_waiting now old) (none_taken (store_marks (run_begun now old)).lows begun) })
 
-same_accepted : (old new : StoreData) → MovesFirst old new ⊎ RemovesCells old new → new.accepted ≡ old.accepted
-same_accepted old new m = ⊎_elim {C = new.accepted ≡ old.accepted} (λ c. ap (λ (k : StoreData). k.accepted) c.moved) (λ c. ap (λ (k : StoreData). k.accepted) c.others) m
-
 pub step_stays : (old mid new : StoreData) (taken : ℕ) (answer : StepAnswer) → Stays old mid taken → answer ≡ Moved → MovesFirst mid new ⊎ RemovesCells mid new → store_marks new ≡ store_marks mid
     → StepsTo (store_marks mid).lows (inventory_of mid) answer (inventory_of new) → Stays old new (suc taken)
 step_stays old mid new taken answer stays moved moves marks step = record {
   settings = (moves_same mid new moves).0 ∙ stays.settings;
-  accepted = same_accepted mid new moves ∙ stays.accepted;
+  accepted = ⊎_elim {C = new.accepted ≡ mid.accepted} (λ c. ap (λ (k : StoreData). k.accepted) c.moved) (λ c. ap (λ (k : StoreData). k.accepted) c.others) moves ∙ stays.accepted;
   inventory = subst (λ (m : Marks). KeptSince m.lows (all_waiting (inventory_of old)) (inventory_of new) (suc taken)) (sym marks)
       (one_taken (store_marks mid).lows (all_waiting (inventory_of old)) (inventory_of mid) (inventory_of new) taken answer stays.inventory moved step);
 }

@@ -1,11 +1,11 @@
 -- The waiting columns of an open run, and the first of them.
-use Rattle.std.proofs.Common.{◌≡◌, ℕ, zero, suc, ◌+◌, ◌-◌, ◌<◌, ◌≤◌, Bool, true, false, true≢false, List, [], ◌∷◌, ◌++◌, length, map, take, drop, refl, sym, ◌∙◌, ap, arith, Option, Some, None, add-one, get_or, if◌then◌else◌}
+use Rattle.std.proofs.Common.{rules, ◌≡◌, ℕ, zero, suc, ◌+◌, ◌-◌, ◌<◌, ◌≤◌, Bool, true, false, true≢false, List, [], ◌∷◌, ◌++◌, length, map, take, drop, refl, sym, ◌∙◌, ap, arith, Option, Some, None, add-one, get_or, if◌then◌else◌}
 use Rattle.std.specs.List.{slice_get}
 use Rattle.std.specs.Option.{is_some}
 use Rattle.std.proofs.lemmas.List.{length-take, length-map, length-append, drop-map, take-map, take-append-le, take_all}
 use Rattle.std.proofs.Math.ListN.{drop_of_length-le}
 use Rattle.std.proofs.Math.Seq.{drop-nil}
-use Rattle.std.proofs.lemmas.Option.{none-some, same_Some}
+use Rattle.std.proofs.lemmas.Option.{same_Some}
 use Rattle.ts_core.specs.facts.Facts.{Column}
 use Rattle.ts_core.specs.lists.Numbered.{IsAt}
 use Rattle.ts_core.specs.store.StoreStates.{ColumnPoints, column_of}
@@ -19,17 +19,15 @@ unflagged-none (b ∷ bs) = refl
 
 -- the next element is flagged
 flagged_next : {X : Type 0} (n : ℕ) (bs : List Bool) (x : X) (xs : List X) → get_or bs n false ≡ true → unflagged (drop n bs) (x ∷ xs) ≡ unflagged (drop (suc n) bs) xs
-flagged_next zero [] x xs e = absurd (true≢false (sym e))
-flagged_next (suc n) [] x xs e = absurd (true≢false (sym e))
 flagged_next zero (b ∷ bs) x xs e = ap (λ c. if c then unflagged bs xs else x ∷ unflagged bs xs) e
 flagged_next (suc n) (b ∷ bs) x xs e = flagged_next n bs x xs e
+flagged_next _ _ x xs e = absurd (true≢false (sym e))
 
 -- or it isn't
 unflagged_next : {X : Type 0} (n : ℕ) (bs : List Bool) (x : X) (xs : List X) → get_or bs n false ≡ false → unflagged (drop n bs) (x ∷ xs) ≡ x ∷ unflagged (drop (suc n) bs) xs
-unflagged_next zero [] x xs e = refl
-unflagged_next (suc n) [] x xs e = refl
 unflagged_next zero (b ∷ bs) x xs e = ap (λ c. if c then unflagged bs xs else x ∷ unflagged bs xs) e
 unflagged_next (suc n) (b ∷ bs) x xs e = unflagged_next n bs x xs e
+unflagged_next _ _ x xs e = refl
 
 -- all that are left from an index on
 left_from : {X : Type 0} → List Bool → List X → ℕ → List X
@@ -54,10 +52,9 @@ flagged_steps (suc d) from bs xs all =
 -- ---- the columns of a run
 
 first_left : {X : Type 0} (n e : ℕ) (xs : List X) (x : X) → n < e → slice_get xs n ≡ Some x → drop n (take e xs) ≡ x ∷ drop (suc n) (take e xs)
-first_left n zero xs x l at = absurd (omega arith)
-first_left n (suc e) [] x l at = absurd (none-some x at)
 first_left zero (suc e) (y ∷ xs) x l at = ap (λ z. z ∷ take e xs) (same_Some y x at)
 first_left (suc n) (suc e) (y ∷ xs) x l at = first_left n e xs x (omega arith) at
+first_left _ _ _ x l at = search rules
 
 abbrev run_at : ℕ → ℕ → List Bool → Run
 run_at next end passed = record { next = next; end = end; passed = passed }

@@ -28,9 +28,8 @@ members_within (m ∷ ms) (suc l) n a = let w = members_within ms l n a in omega
 -- a list without members changes none
 list_made : {X : Type 0} (ms : List (List X)) (l : ℕ) → get_or (ms ++ [] ∷ []) l [] ≡ get_or ms l []
 list_made [] zero = refl
-list_made [] (suc l) = refl
-list_made (m ∷ ms) zero = refl
 list_made (m ∷ ms) (suc l) = list_made ms l
+list_made _ _ = refl
 
 -- a number is added after those of a list
 grown_list : (ms : List (List ℕ)) (n k : ℕ) → n < length ms → (l : ℕ) (b : Bool) → (n == l) ≡ b → get_or (set ms n (get_or ms n [] ++ k ∷ [])) l [] ≡ get_or ms l [] ++ cond b (k ∷ []) []
@@ -93,16 +92,12 @@ pub map_map : {X Y Z : Type 0} (f : X → Y) (h : Y → Z) (xs : List X) → map
 map_map f h [] = refl
 map_map f h (x ∷ xs) = ap (λ ys. h (f x) ∷ ys) (map_map f h xs)
 
-pub gains-length : {X : Type 0} (before after : List X) (x : X) → Gains before after x → length after ≤ length before + 1
+pub gains-length : {X : Type 0} (before after : List X) (x : X) → Gains before after x → (length before ≤ length after) × (length after ≤ length before + 1)
 gains-length before after x h =
-    ⊎_elim {C = length after ≤ length before + 1} (λ a. let e = ap length a.1 in omega (arith, e)) (λ b. let e = ap length b.1 ∙ length_push before x in omega (arith, e)) h
+    ⊎_elim {C = (length before ≤ length after) × (length after ≤ length before + 1)} (λ a. let e = ap length a.1 in (omega (arith, e), omega (arith, e))) (λ b. let e = ap length b.1 ∙ length_push before x in (omega (arith, e), omega (arith, e))) h
 
 pub gains-extends : (before after : List RollupSeries) (series : RollupSeries) → Gains before after series → Extends before after
 gains-extends before after series h = ⊎_elim {C = Extends before after} (λ a. ([], a.1 ∙ sym (append-nil before))) (λ b. (series ∷ [], b.1)) h
-
-pub gains-least : {X : Type 0} (before after : List X) (x : X) → Gains before after x → length before ≤ length after
-gains-least before after x h =
-    ⊎_elim {C = length before ≤ length after} (λ a. let e = ap length a.1 in omega (arith, e)) (λ b. let e = ap length b.1 ∙ length_push before x in omega (arith, e)) h
 
 pub gains-distinct : {X : Type 0} (before after : List X) (x : X) → Gains before after x → AllDistinct before → AllDistinct after
 gains-distinct before after x h d =
@@ -142,36 +137,21 @@ module _ (rollup_series : List RollupSeries) (os : List (Option ℕ)) (ms : List
     capacity = subst (λ (o : Option (Option ℕ)). HasSpares o spare' spares') (sym none) tt;
   }
 
--- ---- no column is prepared
+-- ---- a column is prepared, or none is
 
-pub columns_kept : (ls : List RollupSeries) (os os' : List (Option ℕ)) (ms : List (List ℕ)) (next : Option (Option ℕ)) (spare spare' : Bool) (spares spares' : List Bool) → IsRollup ls os ms next spare spares → os' ≡ os → IsRollup ls os' ms None spare' spares'
-columns_kept ls os os' ms next spare spare' spares spares' r e = record { once = r.once; each = r.each; grouped = λ l. r.grouped l ∙ ap (numbers_where (is_of_rollup_series l)) (sym e); capacity = tt }
+pub columns_kept : (ls : List RollupSeries) (os os' : List (Option ℕ)) (ms : List (List ℕ)) (next next' : Option (Option ℕ)) (spare spare' : Bool) (spares spares' : List Bool) → IsRollup ls os ms next spare spares → os' ≡ os → HasSpares next' spare' spares'
+    → IsRollup ls os' ms next' spare' spares'
+columns_kept ls os os' ms next next' spare spare' spares spares' r e capacity = record { once = r.once; each = r.each; grouped = λ l. r.grouped l ∙ ap (numbers_where (is_of_rollup_series l)) (sym e); capacity = capacity }
 
 -- a rollup series may have been created
-pub lists_kept : (before after : Grid CellParts) (lists lists' : List ColumnList) (os os' : List (Option ℕ)) (next : Option (Option ℕ)) (spare spare' : Bool) (spares : List Bool) → IsRollup before.rollup_series os (lists_in lists) next spare spares → os' ≡ os
-    → KeepsLists before lists after lists' → IsRollup after.rollup_series os' (lists_in lists') None spare' (capacities_in lists')
-lists_kept before after lists lists' os os' next spare spare' spares r e k = record {
+pub lists_kept : (before after : Grid CellParts) (lists lists' : List ColumnList) (os os' : List (Option ℕ)) (next next' : Option (Option ℕ)) (spare spare' : Bool) (spares : List Bool) → IsRollup before.rollup_series os (lists_in lists) next spare spares → os' ≡ os
+    → KeepsLists before lists after lists' → HasSpares next' spare' (capacities_in lists') → IsRollup after.rollup_series os' (lists_in lists') next' spare' (capacities_in lists')
+lists_kept before after lists lists' os os' next next' spare spare' spares r e k capacity = record {
   once = k.once r.once;
   each = length-map lists' (λ (l : ColumnList). l.items) ∙ k.each;
   grouped = λ l. k.columns l ∙ r.grouped l ∙ ap (numbers_where (is_of_rollup_series l)) (sym e);
-  capacity = tt;
+  capacity = capacity;
 }
 
--- ---- a column is prepared
-
-spare_from : (len capacity : ℕ) → len + 1 ≤ capacity → nat_lt len capacity ≡ true
+pub spare_from : (len capacity : ℕ) → len + 1 ≤ capacity → nat_lt len capacity ≡ true
 spare_from len capacity room = grind arith
-
-pub columns_next : (ls : List RollupSeries) (os os' : List (Option ℕ)) (ms : List (List ℕ)) (next : Option (Option ℕ)) (spare : Bool) (len capacity : ℕ) (spares spares' : List Bool) → IsRollup ls os ms next spare spares → os' ≡ os → len + 1 ≤ capacity
-    → IsRollup ls os' ms (Some None) (nat_lt len capacity) spares'
-columns_next ls os os' ms next spare len capacity spares spares' r e room =
-    record { once = r.once; each = r.each; grouped = λ l. r.grouped l ∙ ap (numbers_where (is_of_rollup_series l)) (sym e); capacity = spare_from len capacity room }
-
-pub lists_next : (before after : Grid CellParts) (lists lists' : List ColumnList) (os os' : List (Option ℕ)) (next : Option (Option ℕ)) (spare : Bool) (len capacity n : ℕ) (spares : List Bool) → IsRollup before.rollup_series os (lists_in lists) next spare spares → os' ≡ os
-    → KeepsLists before lists after lists' → len + 1 ≤ capacity → HasCapacityAt lists' n → IsRollup after.rollup_series os' (lists_in lists') (Some (Some n)) (nat_lt len capacity) (capacities_in lists')
-lists_next before after lists lists' os os' next spare len capacity n spares r e k room listed = record {
-  once = k.once r.once;
-  each = length-map lists' (λ (l : ColumnList). l.items) ∙ k.each;
-  grouped = λ l. k.columns l ∙ r.grouped l ∙ ap (numbers_where (is_of_rollup_series l)) (sym e);
-  capacity = (spare_from len capacity room, listed);
-}

@@ -1,50 +1,42 @@
 -- Cells of all rules, filled with raw facts.
-use Rattle.std.proofs.Common.{◌≡◌, ◌≢◌, ◌⊎◌, ◌≤ℤ◌, ◌<◌, ◌≤◌, ◌^◌, ◌&&◌, ℕ, ℤ, true, false, cond, List, [], ◌∷◌, ◌++◌, length, map, filter, Option, Some, None, option_map, refl, sym, ◌∙◌, ap, subst, inl, inr, ⊎_elim, true≢false, arith}
+use Rattle.std.proofs.Common.{rules, ◌≡◌, ◌≢◌, ◌≤◌, ◌^◌, ◌&&◌, ℕ, ℤ, true, false, cond, List, [], ◌∷◌, ◌++◌, length, map, filter, Option, Some, None, option_map, refl, sym, ◌∙◌, ap, subst, inl, inr, ⊎_elim, arith}
 use Rattle.std.specs.FinMap as finmap
-use Rattle.std.specs.List.{AllByRecursion}
 use Rattle.std.proofs.lemmas.List.{length-map}
 use Rattle.std.proofs.lemmas.Option.{none-some, same_Some}
-use Rattle.ts_core.specs.lists.Members.{Among}
 use Rattle.ts_core.specs.lists.Numbered.{IsAt}
 use Rattle.ts_core.specs.facts.Facts.{Column, Fact}
 use Rattle.ts_core.specs.settings.Settings.{Rule}
 use Rattle.ts_core.specs.aggregates.Aggregates.{empty_aggregate, merged, aggregate_of}
 use Rattle.ts_core.specs.aggregates.MergeLaws.{aggregate_laws}
-use Rattle.ts_core.specs.store.Cells.{Cell, cell_of, is_rolled, is_in_cell, same_cell, total_of}
+use Rattle.ts_core.specs.store.Cells.{Cell, cell_of, is_in_cell, same_cell, total_of}
 use Rattle.ts_core.specs.lists.Changes.{or_else}
+use Rattle.ts_core.proofs.moves.Freezing.{frozen_in}
 use Rattle.ts_core.specs.store.StoreStates.{ColumnPoints, CellParts, column_of, facts_at, facts_of}
 use Rattle.ts_core.specs.store.StoreData.{CellMap, RuleData, OfEachRule, no_parts, IsLive}
 use Rattle.ts_core.proofs.moves.MovesStand.{key_there, key_not}
-use Rattle.ts_core.proofs.plans.PieceCells.{same_cell-eq, same_cell-refl}
+use Rattle.ts_core.proofs.plans.PieceCells.{same_cell-refl}
 use Rattle.ts_core.proofs.lists.BesideLemmas.{OfEach-weaker, AllZip-same, AllZip-then}
 use Rattle.ts_core.specs.lists.Beside.{OfEach}
 use Rattle.ts_core.proofs.moves.EachRule.{rules_gain, rules_keep}
 use Rattle.ts_store.specs.store.RuleLists.{rules_with}
 use Rattle.ts_store.proofs.store.RuleListLemmas.{with_each, with_zip}
-use Rattle.ts_store.specs.image.Building.{HasCellsOf, HaveCells}
+use Rattle.ts_store.specs.image.Building.{HasCellsOf}
 use Rattle.ts_store.specs.image.BuildingParts.{IsIdle, AreIdle, MakesCells, FillsCells, KeepsFrozen, KeepFrozen, IsFilledBut, AreFilledBut}
 use Rattle.ts_raw.specs.Columns.{ColumnState}
 use Rattle.ts_raw.specs.Indexed.{Indexed}
-use Rattle.ts_store.specs.store.PossibleCells.{HasPossibleCells, HavePossibleCells}
+use Rattle.ts_store.specs.store.PossibleCells.{HasPossibleCells}
 use Rattle.ts_store.specs.store.ColumnStates.{IsSoundContent, content_of, columns_in, with_points, point_maps}
-use Rattle.ts_store.specs.write.LinesPut.{IsOfFacts, PutsCells}
-use Rattle.ts_store.specs.rollup.Rollups.{RollupState, AreRollups, HaveRollupSeries, IsRollupSeriesOf, rollup_series_at, with_grid_cells, cells_of}
+use Rattle.ts_store.specs.write.LinesPut.{IsOfFacts, PutsCells, GainsCells}
+use Rattle.ts_store.specs.rollup.Rollups.{RollupState, AreRollups, rollup_series_at, cells_of}
 use Rattle.ts_store.specs.rollup.ChangedLists.{ChangesBeside}
+use Rattle.ts_store.specs.rollup.PointsFilled.{AddsPoints}
 use Rattle.ts_store.specs.retain.RollupSteps.{with_all_grid_cells}
 use Rattle.ts_store.proofs.store.ColumnsLemmas.{known_of, names_held, facts-distinct}
 use Rattle.ts_store.proofs.write.PointsPut.{grids_kept_then}
 use Rattle.ts_store.proofs.retain.RollupMoves.{rollups_with}
 use Rattle.ts_store.proofs.rollup.RollupsGrow.{rollups-length}
+use Rattle.ts_store.proofs.write.RollupsPut.{gained, puts_cells}
 use Rattle.ts_store.proofs.write.CellsCreatedLemmas.{rollup_series_known}
-
--- ---- each rollup has its columns
-
-pub rollup_series_first : (r : Rule) (cs : List Column) (n : ℕ) (c : Column) (s : RollupState) → HaveRollupSeries r s.grid.rollup_series cs s.series_of_column → IsAt cs n c → IsRollupSeriesOf r c s.grid.rollup_series (rollup_series_at s n)
-rollup_series_first r cs n c s h at = rollup_series_known r s.grid.rollup_series cs s.series_of_column n c h at
-
-pub wide_first : (n : ℕ) (ss : List RollupState) (m : ℕ) → m < n → AllByRecursion (λ (s : RollupState). length s.series_of_column ≡ n) ss → AllByRecursion (λ (s : RollupState). m < length s.series_of_column) ss
-wide_first n [] m l h = tt
-wide_first n (s ∷ ss) m l h = (subst (λ k. m < k) (sym h.0) l, wide_first n ss m l h.1)
 
 -- ---- frozen parts stay
 
@@ -58,9 +50,8 @@ frozen-both ms ns os a b = AllZip-then KeepsFrozen KeepsFrozen KeepsFrozen (λ m
 
 -- nothing is added yet
 pub filled-idle : (all : List Fact) (rs : List Rule) (ms : List CellMap) → AreIdle ms → AreFilledBut all all rs ms
-filled-idle all [] ms h = tt
-filled-idle all (r ∷ rs) [] h = tt
 filled-idle all (r ∷ rs) (m ∷ ms) h = (λ k p e. ap (λ a. merged a (total_of r k all)) (h.0 k p e) ∙ aggregate_laws.unit (total_of r k all), filled-idle all rs ms h.1)
+filled-idle all _ _ h = tt
 
 -- nothing is left
 pub filled-live : (columns : List ColumnPoints) (rs : List Rule) (ms : List CellMap) → AreFilledBut [] (facts_of columns) rs ms → OfEach (IsLive columns) rs ms
@@ -70,26 +61,20 @@ filled-live columns rs ms h =
 -- ---- points are added
 
 -- the effect of adding points of the column with this index under a rule
-pub record AddsUnder (number : ℕ) (ps : List (ℤ × ℤ)) (r : Rule) (s t : RollupState) : Type 0 where
-  pub kept : t ≡ with_grid_cells t.grid.cells s
-  pub frozen : KeepsFrozen s.grid.cells t.grid.cells
-  pub live : (c : Column) (left all : List Fact) → IsRollupSeriesOf r c s.grid.rollup_series (rollup_series_at s number) → length all ≤ 2 ^ 62
-      → IsFilledBut (facts_at c ps ++ left) all r s.grid.cells → IsFilledBut left all r t.grid.cells
+abbrev pub AddsUnder : ℕ → List (ℤ × ℤ) → Rule → RollupState → RollupState → Type 0
+AddsUnder number ps r s = AddsPoints r (rollup_series_at s number) ps s
 
 module _ (number : ℕ) (ps : List (ℤ × ℤ)) where
   pub all_frozen : (rs : List Rule) (ss ts : List RollupState) → ChangesBeside (AddsUnder number ps) rs ss ts → KeepFrozen (cells_of ss) (cells_of ts)
-  all_frozen [] ss ts h = subst (λ (us : List RollupState). KeepFrozen (cells_of ss) (cells_of us)) (sym h) (frozen-same (cells_of ss))
-  all_frozen (r ∷ rs) [] ts h = subst (λ (us : List RollupState). KeepFrozen [] (cells_of us)) (sym h) tt
   all_frozen (r ∷ rs) (s ∷ ss) [] h = absurd h
   all_frozen (r ∷ rs) (s ∷ ss) (t ∷ ts) h = (h.0.frozen, all_frozen rs ss ts h.1)
+  all_frozen _ ss ts h = subst (λ (us : List RollupState). KeepFrozen (cells_of ss) (cells_of us)) (sym h) (frozen-same (cells_of ss))
 
   pub all_added : (cs : List Column) (c : Column) (left all : List Fact) (rs : List Rule) (ss ts : List RollupState) → IsAt cs number c → AreRollups rs cs ss → length all ≤ 2 ^ 62 → ChangesBeside (AddsUnder number ps) rs ss ts
       → AreFilledBut (facts_at c ps ++ left) all rs (cells_of ss) → AreFilledBut left all rs (cells_of ts)
-  all_added cs c left all [] ss ts at over few h filled = tt
-  all_added cs c left all (r ∷ rs) [] ts at over few h filled = absurd over
-  all_added cs c left all (r ∷ rs) (s ∷ ss) [] at over few h filled = absurd h
   all_added cs c left all (r ∷ rs) (s ∷ ss) (t ∷ ts) at over few h filled =
-      (h.0.live c left all (rollup_series_first r cs number c s over.0 at) few filled.0, all_added cs c left all rs ss ts at over.1 few h.1 filled.1)
+      (h.0.live c left all (rollup_series_known r s.grid.rollup_series cs s.series_of_column number c over.0 at) few filled.0, all_added cs c left all rs ss ts at over.1 few h.1 filled.1)
+  all_added cs c left all _ _ _ at over few h filled = search rules
 
 -- ---- cells with their parts
 
@@ -101,141 +86,50 @@ total-nothing r k (f ∷ fs) apart =
       | false ↦ λ e. total-nothing r k fs (λ h. apart (h.0, inr h.1, h.2))
     ] refl
 
-module _ (columns : List ColumnPoints) (r : Rule) (low : ℤ) (m o n : CellMap) (made : MakesCells (facts_of columns) r low m o) (keeps : KeepsFrozen o n) (live : IsLive columns r n) (idle : IsIdle m) where
-  abbrev facts : List Fact
-  facts = facts_of columns
+-- a part that stays is there still
+still : (a b : Option CellParts) → option_map (λ (p : CellParts). p.frozen) a ≡ option_map (λ (p : CellParts). p.frozen) b → b ≢ None → a ≢ None
+still a None e some none = some refl
+still a (Some p) e some none = none-some p.frozen (sym (ap (option_map (λ (y : CellParts). y.frozen)) none) ∙ e)
 
-  there-still : (k : Cell) → finmap.get o k ≢ None → finmap.get n k ≢ None
-  there-still k some none =
-      elim (finmap.get o k) as (λ x. finmap.get o k ≡ x → ⊥) [
-        | None ↦ λ e. some e
-        | Some p ↦ λ e. none-some p.frozen (ap (option_map (λ (y : CellParts). y.frozen)) (sym none) ∙ keeps k ∙ ap (option_map (λ (y : CellParts). y.frozen)) e)
-      ] refl
+same_parts : (a b : Option CellParts) → option_map (λ (p : CellParts). p.frozen) a ≡ option_map (λ (p : CellParts). p.frozen) b → ((p q : CellParts) → a ≡ Some p → b ≡ Some q → p.live ≡ q.live) → a ≡ b
+same_parts None None e h = refl
+same_parts (Some p) (Some q) e h =
+    let frozen : p.frozen ≡ q.frozen = same_Some p.frozen q.frozen e in
+    let alive : p.live ≡ q.live = h p q refl refl in
+    λ i. Some (record { frozen = frozen i; live = alive i })
+same_parts _ _ e h = cc
 
-  there-before : (k : Cell) → finmap.get n k ≢ None → finmap.get o k ≢ None
-  there-before k some none =
-      elim (finmap.get n k) as (λ x. finmap.get n k ≡ x → ⊥) [
-        | None ↦ λ e. some e
-        | Some p ↦ λ e. none-some p.frozen (ap (option_map (λ (y : CellParts). y.frozen)) (sym none) ∙ sym (keeps k) ∙ ap (option_map (λ (y : CellParts). y.frozen)) e)
-      ] refl
+or_frozen : (x : Option CellParts) → frozen_in x ≡ or_else empty_aggregate (option_map (λ (p : CellParts). p.frozen) x)
+or_frozen None = refl
+or_frozen (Some p) = refl
 
-  comes-from : (k : Cell) → finmap.get o k ≢ None → (finmap.get m k ≢ None) ⊎ ((low ≤ℤ k.index) × IsOfFacts facts r k)
-  comes-from k some =
-      elim (finmap.get m k) as (λ x. finmap.get m k ≡ x → (finmap.get m k ≢ None) ⊎ ((low ≤ℤ k.index) × IsOfFacts facts r k)) [
-        | Some p ↦ λ e. inl (λ none. none-some p (sym none ∙ e))
-        | None ↦ λ e. elim (finmap.get o k) as (λ x. finmap.get o k ≡ x → (finmap.get m k ≢ None) ⊎ ((low ≤ℤ k.index) × IsOfFacts facts r k)) [
-          | Some q ↦ λ here. let new = made.gains.created k q e here in inr (new.1, new.2)
-          | None ↦ λ none. absurd (some none)
-        ] refl
-      ] refl
+-- created cells have no live part
+idle_made : (facts : List Fact) (r : Rule) (low : ℤ) (m o : CellMap) → GainsCells facts r low m o → IsIdle m → IsIdle o
+idle_made facts r low m o gains idle k p e =
+    ⊎_elim {C = p.live ≡ empty_aggregate} (λ same. idle k p (sym same ∙ e)) (λ new. ap (λ (y : CellParts). y.live) (same_Some p no_parts (sym e ∙ new.1))) (gained facts r low m o gains k)
 
-  stays-there : (k : Cell) → finmap.get m k ≢ None → finmap.get o k ≢ None
-  stays-there k some none =
-      elim (finmap.get m k) as (λ x. finmap.get m k ≡ x → ⊥) [
-        | None ↦ λ e. some e
-        | Some p ↦ λ e. none-some p (sym none ∙ made.gains.stays k p e)
-      ] refl
+fills : (columns : List ColumnPoints) (r : Rule) (low : ℤ) (m o n : CellMap) → MakesCells (facts_of columns) r low m o → KeepsFrozen o n → IsLive columns r n → IsIdle m → PutsCells (facts_of columns) r low m n
+fills columns r low m o n made keeps live idle =
+    puts_cells (facts_of columns) r low m o made.gains n made.there
+    (λ k. (still (finmap.get o k) (finmap.get n k) (sym (keeps k)), still (finmap.get n k) (finmap.get o k) (keeps k)))
+    (λ k. or_frozen (finmap.get n k) ∙ ap (or_else empty_aggregate) (keeps k) ∙ sym (or_frozen (finmap.get o k)))
+    (λ k apart. same_parts (finmap.get n k) (finmap.get o k) (keeps k)
+    (λ p q here there. live k p here ∙ total-nothing r k (facts_of columns) apart ∙ sym (idle_made (facts_of columns) r low m o made.gains idle k q there)))
 
-  needed-there : (k : Cell) → low ≤ℤ k.index → IsOfFacts facts r k → finmap.get o k ≢ None
-  needed-there k above q =
-      elim (is_rolled r q.0) as (λ b. is_rolled r q.0 ≡ b → b && same_cell (cell_of r q.0) k ≡ true → finmap.get o k ≢ None) [
-        | true ↦ λ rolled t.
-            let is : cell_of r q.0 ≡ k = same_cell-eq (cell_of r q.0) k t in
-            λ none. made.there q.0 q.1 rolled (subst (λ (x : Cell). low ≤ℤ x.index) (sym is) above) (ap (finmap.get o) is ∙ none)
-        | false ↦ λ rolled t. absurd (true≢false (sym t))
-      ] refl q.2
-
-  frozen-made : (k : Cell) → (or_else no_parts (finmap.get o k)).frozen ≡ (or_else no_parts (finmap.get m k)).frozen
-  frozen-made k =
-      elim (finmap.get m k) as (λ x. finmap.get m k ≡ x → (or_else no_parts (finmap.get o k)).frozen ≡ (or_else no_parts x).frozen) [
-        | Some p ↦ λ e. ap (λ y. (or_else no_parts y).frozen) (made.gains.stays k p e)
-        | None ↦ λ e. elim (finmap.get o k) as (λ x. finmap.get o k ≡ x → (or_else no_parts x).frozen ≡ empty_aggregate) [
-          | Some q ↦ λ here. ap (λ (y : CellParts). y.frozen) (made.gains.created k q e here).0
-          | None ↦ λ none. refl
-        ] refl
-      ] refl
-
-  or_frozen : (x : Option CellParts) → (or_else no_parts x).frozen ≡ or_else empty_aggregate (option_map (λ (y : CellParts). y.frozen) x)
-  or_frozen None = refl
-  or_frozen (Some p) = refl
-
-  frozen-kept : (k : Cell) → (or_else no_parts (finmap.get n k)).frozen ≡ (or_else no_parts (finmap.get m k)).frozen
-  frozen-kept k = or_frozen (finmap.get n k) ∙ ap (or_else empty_aggregate) (keeps k) ∙ sym (or_frozen (finmap.get o k)) ∙ frozen-made k
-
-  others-kept : (k : Cell) → (IsOfFacts facts r k → ⊥) → finmap.get n k ≡ finmap.get m k
-  others-kept k apart =
-      elim (finmap.get m k) as (λ x. finmap.get m k ≡ x → finmap.get n k ≡ x) [
-        | Some p ↦ λ e. elim (finmap.get n k) as (λ x. finmap.get n k ≡ x → x ≡ Some p) [
-          | None ↦ λ none. absurd (there-still k (λ z. none-some p (sym z ∙ made.gains.stays k p e)) none)
-          | Some q ↦ λ here.
-              let frozen : q.frozen ≡ p.frozen =
-              same_Some q.frozen p.frozen (ap (option_map (λ (y : CellParts). y.frozen)) (sym here) ∙ keeps k ∙ ap (option_map (λ (y : CellParts). y.frozen)) (made.gains.stays k p e)) in
-              let alive : q.live ≡ p.live = live k q here ∙ total-nothing r k facts apart ∙ sym (idle k p e) in
-              λ i. Some (record { frozen = frozen i; live = alive i })
-        ] refl
-        | None ↦ λ e. elim (finmap.get n k) as (λ x. finmap.get n k ≡ x → x ≡ None) [
-          | None ↦ λ none. refl
-          | Some q ↦ λ here. absurd (⊎_elim {C = ⊥} (λ z. z e) (λ z. apart z.1) (comes-from k (there-before k (λ none. none-some q (sym none ∙ here)))))
-        ] refl
-      ] refl
-
-  pub fills : PutsCells facts r low m n
-  fills = record {
-    there = λ k. (λ some. comes-from k (there-before k some), λ s. there-still k (⊎_elim {C = finmap.get o k ≢ None} (stays-there k) (λ q. needed-there k q.0 q.1) s));
-    frozen = frozen-kept;
-    others = others-kept;
-  }
-
-pub all-filled : (columns : List ColumnPoints) (rs : List Rule) (lows : List ℤ) (ms os ns : List CellMap) → OfEachRule (MakesCells (facts_of columns)) (rules_with rs lows ms) (rules_with rs lows os) → KeepFrozen os ns → OfEach (IsLive columns) rs ns → AreIdle ms
+all-filled : (columns : List ColumnPoints) (rs : List Rule) (lows : List ℤ) (ms os ns : List CellMap) → OfEachRule (MakesCells (facts_of columns)) (rules_with rs lows ms) (rules_with rs lows os) → KeepFrozen os ns → OfEach (IsLive columns) rs ns → AreIdle ms
     → OfEachRule (PutsCells (facts_of columns)) (rules_with rs lows ms) (rules_with rs lows ns)
-all-filled columns [] lows ms os ns made keeps live idle = tt
-all-filled columns (r ∷ rs) [] ms os ns made keeps live idle = tt
 all-filled columns (r ∷ rs) (low ∷ lows) [] [] [] made keeps live idle = tt
 all-filled columns (r ∷ rs) (low ∷ lows) (m ∷ ms) (o ∷ os) (n ∷ ns) made keeps live idle = ((refl, refl, fills columns r low m o n made.0.2 keeps.0 live.0 idle.0), all-filled columns rs lows ms os ns made.1 keeps.1 live.1 idle.1)
-all-filled columns (r ∷ rs) (low ∷ lows) [] (o ∷ os) ns made keeps live idle = absurd made
-all-filled columns (r ∷ rs) (low ∷ lows) (m ∷ ms) [] ns made keeps live idle = absurd made
-all-filled columns (r ∷ rs) (low ∷ lows) ms [] (n ∷ ns) made keeps live idle = absurd keeps
-all-filled columns (r ∷ rs) (low ∷ lows) ms (o ∷ os) [] made keeps live idle = absurd keeps
-
--- ---- what follows
-
-pub has_cells-had : (facts : List Fact) (rs ss : List RuleData) → OfEachRule (PutsCells facts) rs ss → HaveCells facts ss
-has_cells-had facts =
-    rules_gain (PutsCells facts) (λ (x : RuleData). HasCellsOf facts x.rule x.low x.cells)
-    (λ x n puts f a rolled above none. (puts.there (cell_of x.rule f)).1 (inr (above, (f, a, ap (λ b. b && same_cell (cell_of x.rule f) (cell_of x.rule f)) rolled ∙ same_cell-refl (cell_of x.rule f)))) none)
+all-filled columns _ _ _ _ _ made keeps live idle = search rules
 
 -- the cells of a rule are ones that it can have
 abbrev possible_in : RuleData → Type 0
 possible_in x = HasPossibleCells x.rule x.cells
 
-pub possible-had : (facts : List Fact) (rs ss : List RuleData) → OfEachRule (MakesCells facts) rs ss → HavePossibleCells rs → HavePossibleCells ss
-possible-had facts = rules_keep (MakesCells facts) possible_in possible_in (λ x o made. made.possible)
-
-still-keys : (m n : CellMap) → KeepsFrozen m n → (k : Cell) → Among k (finmap.keys n) → Among k (finmap.keys m)
-still-keys m n keeps k a =
-    key_there m k (λ none. elim (finmap.get n k) as (λ x. finmap.get n k ≡ x → ⊥) [
-      | None ↦ λ e. key_not n k a e
-      | Some p ↦ λ e. none-some p.frozen (ap (option_map (λ (y : CellParts). y.frozen)) (sym none) ∙ sym (keeps k) ∙ ap (option_map (λ (y : CellParts). y.frozen)) e)
-    ] refl)
-
-pub possible-kept : (rs ss : List RuleData) → OfEachRule (λ r low. KeepsFrozen) rs ss → HavePossibleCells rs → HavePossibleCells ss
-possible-kept = rules_keep (λ r low. KeepsFrozen) possible_in possible_in (λ x n keep all k a. all k (still-keys x.cells n keep k a))
-
--- created cells have no live part
 idle-made : (facts : List Fact) (rs : List Rule) (lows : List ℤ) (ms os : List CellMap) → length lows ≡ length rs → length os ≡ length rs → OfEachRule (MakesCells facts) (rules_with rs lows ms) (rules_with rs lows os) → AreIdle ms → AreIdle os
 idle-made facts rs lows ms [] l n h idle = tt
-idle-made facts [] lows ms (o ∷ os) l n h idle = absurd (omega (arith, n))
-idle-made facts (r ∷ rs) [] ms (o ∷ os) l n h idle = absurd (omega (arith, l))
-idle-made facts (r ∷ rs) (low ∷ lows) [] (o ∷ os) l n h idle = absurd h
-idle-made facts (r ∷ rs) (low ∷ lows) (m ∷ ms) (o ∷ os) l n h idle = (
-  λ k p e.
-      let made : MakesCells facts r low m o = h.0.2 in
-      elim (finmap.get m k) as (λ x. finmap.get m k ≡ x → p.live ≡ empty_aggregate) [
-        | None ↦ λ none. ap (λ (y : CellParts). y.live) (made.gains.created k p none e).0
-        | Some q ↦ λ some. ap (λ (y : CellParts). y.live) (same_Some p q (sym e ∙ made.gains.stays k q some)) ∙ idle.0 k q some
-      ] refl,
-  idle-made facts rs lows ms os (omega (arith, l)) (omega (arith, n)) h.1 idle.1,
-)
+idle-made facts (r ∷ rs) (low ∷ lows) (m ∷ ms) (o ∷ os) l n h idle = (idle_made facts r low m o h.0.2.gains idle.0, idle-made facts rs lows ms os (omega (arith, l)) (omega (arith, n)) h.1 idle.1)
+idle-made facts _ _ _ _ l n h idle = search rules
 
 -- ---- the whole
 
@@ -265,9 +159,12 @@ module _ (rs : List Rule) (lows : List ℤ) (index : Indexed) (ss : List ColumnS
       record {
         others = ap (content_of index ss) (grids_kept_then us vs ws one two);
         cells = cells;
-        has_cells = has_cells-had facts before after cells;
+        has_cells = rules_gain (PutsCells facts) (λ (x : RuleData). HasCellsOf facts x.rule x.low x.cells)
+            (λ x n puts f a rolled above none. (puts.there (cell_of x.rule f)).1 (inr (above, (f, a, ap (λ b. b && same_cell (cell_of x.rule f) (cell_of x.rule f)) rolled ∙ same_cell-refl (cell_of x.rule f)))) none) before after cells;
         live = with_each (IsLive (columns_in index ss)) rs lows (cells_of ws) live;
-        possible = λ v. possible-kept roomy after (with_zip KeepsFrozen rs lows (cells_of vs) (cells_of ws) frozen) (possible-had facts before roomy made v);
+        possible = λ v. rules_keep (λ r low. KeepsFrozen) possible_in possible_in
+            (λ x n keep all k a. all k (key_there x.cells k (still (finmap.get x.cells k) (finmap.get n k) (sym (keep k)) (key_not n k a)))) roomy after
+            (with_zip KeepsFrozen rs lows (cells_of vs) (cells_of ws) frozen) (rules_keep (MakesCells facts) possible_in possible_in (λ x o made. made.possible) before roomy made v);
         known = known_of index ss ws held;
         once = facts-distinct index.columns (point_maps ss) held.sound.columns_once;
       }

@@ -2,22 +2,17 @@
 use Rattle.std.proofs.Common.{◌≡◌, ◌↔◌, ◌∙◌, ℤ, Bool, true, false, true≢false, List, refl, sym, ap}
 use Rattle.ts_core.specs.lists.Members.{Among}
 use Rattle.ts_core.specs.facts.Facts.{Text, Fact}
-use Rattle.ts_core.specs.settings.Settings.{Rule, Settings}
-use Rattle.ts_core.specs.store.History.{History}
-use Rattle.ts_core.specs.facts.Latest.{latest_of}
+use Rattle.ts_core.specs.settings.Settings.{Rule}
 use Rattle.ts_core.specs.store.Cells.{Cell}
 use Rattle.ts_core.specs.store.Marks.{Marks, first_from}
-use Rattle.ts_core.specs.store.RawFacts.{is_kept, kept_from}
-use Rattle.ts_core.specs.store.StoreStates.{StandsFor, facts_of}
-use Rattle.ts_core.specs.store.StoreData.{StoreData, state_of}
-use Rattle.ts_core.proofs.store.Cuts.{Holds}
-use Rattle.ts_core.proofs.lists.MembersLemmas.{Among-filter_passes, Among-filter_was, Among-filter_stays}
-use Rattle.ts_core.proofs.store.StateLemmas.{StandsFor-Holds}
+use Rattle.ts_core.specs.store.StoreStates.{facts_of}
+use Rattle.ts_core.specs.store.StoreData.{StoreData}
 use Rattle.ts_store.specs.store.Inventories.{AreFilled, inventory_of}
 use Rattle.ts_store.specs.write.LineTexts.{LineState, IsStateOf}
 use Rattle.ts_store.specs.read.PointsRead.{all_raw}
 use Rattle.ts_store.specs.rules.RulesChanged.{GainsRule, RuleComes, RuleGoes}
 use Rattle.ts_store.specs.rules.RuleTexts.{low_in, with_rule_added, with_rule_dropped}
+use Rattle.ts_store.proofs.store.Stands.{raw_facts_are}
 
 pub rule_came : (s : LineState) (old new : StoreData) (r : Rule) (low : ℤ) → IsStateOf s old → RuleComes old new r low → (low ≡ low_in s r) × IsStateOf (with_rule_added r s) new
 rule_came s old new r low i c = (
@@ -43,14 +38,6 @@ same_filled facts others r low cells same x = record {
   );
   once = x.once;
 }
-
-raw_facts_are : (opening : Settings) (h : History) (k : StoreData) → StandsFor opening h (state_of k) → (f : Fact) → Among f (facts_of k.columns) ↔ Among f (all_raw k.waiting opening h)
-raw_facts_are opening h k st f =
-    let p : Fact → Bool = is_kept (kept_from opening h k.waiting) in
-    let held : Holds (kept_from opening h k.waiting) (latest_of h) (facts_of k.columns) = StandsFor-Holds opening h (state_of k) st in (
-      λ a. let q = held.only f a in Among-filter_stays p f (latest_of h) q.0 q.1,
-      λ a. held.all f (Among-filter_was p f (latest_of h) a) (Among-filter_passes p f (latest_of h) a),
-    )
 
 pub rule_gained : (s : LineState) (old new : StoreData) (r : Rule) (low : ℤ) → IsStateOf s old → RuleComes old new r low → GainsRule (all_raw old.waiting s.opening s.history) r low (inventory_of old) (inventory_of new)
 rule_gained s old new r low i c = record {

@@ -49,22 +49,10 @@ added low = Ok low
 abbrev refused_by : SettingsError → Added
 refused_by e = Err e
 
-not_both : (low : ℤ) (e : SettingsError) → added low ≡ refused_by e → ⊥
-not_both low e h = absurd cc
-
-same_error : (e f : SettingsError) → refused_by e ≡ refused_by f → e ≡ f
-same_error e f h = cc
-
-same_fault : (f g : SettingsFault) → errors.Fault f ≡ errors.Fault g → f ≡ g
-same_fault f g h = cc
-
-not_memory : (f : SettingsFault) → errors.Fault f ≡ errors.OutOfMemory → ⊥
-not_memory f h = absurd cc
-
 -- a rule that was added had no fault
 faultless : (v : Option SettingsFault) (old new : StoreData) (r : Rule) (low : ℤ) → added_fault (store_settings old) r ≡ v → AddsRule old new r (Ok low) → added_fault (store_settings old) r ≡ None
 faultless None old new r low is a = is
-faultless (Some fault) old new r low is a = absurd (not_both low (errors.Fault fault) (let P : Option SettingsFault → Type 0 = λ o. IfSome o (λ f. added low ≡ refused_by (errors.Fault f)) in subst P is a.refused))
+faultless (Some fault) old new r low is a = absurd (let P : Option SettingsFault → Type 0 = λ o. IfSome o (λ f. added low ≡ refused_by (errors.Fault f)) in let q : added low ≡ refused_by (errors.Fault fault) = subst P is a.refused in cc)
 
 pub value_came : (old new : StoreData) (d : Data) (r : Rule) (added : AddedRule) → rule_parsed d ≡ Some r → added.name.bytes ≡ r.name → AddsRule old new r (Ok added.low) → ValueComes old new d added
 value_came old new d r added read name a = record {
@@ -81,12 +69,12 @@ name_fits old new r low a = added_short (store_settings old) r (faultless (added
 fault_is : (v : Option SettingsFault) (old new : StoreData) (r : Rule) (fault : SettingsFault) → added_fault (store_settings old) r ≡ v → AddsRule old new r (Err (errors.Fault fault)) → added_fault (store_settings old) r ≡ Some fault
 fault_is None old new r fault is a =
     ⊎_elim {C = added_fault (store_settings old) r ≡ Some fault}
-    (λ ok. absurd (not_both ok.0 (errors.Fault fault) (sym ok.1)))
-    (λ memory. absurd (not_memory fault (same_error (errors.Fault fault) errors.OutOfMemory memory)))
+    (λ ok. absurd (let q : refused_by (errors.Fault fault) ≡ added ok.0 = ok.1 in cc))
+    (λ memory. absurd (let q : refused_by (errors.Fault fault) ≡ refused_by errors.OutOfMemory = memory in cc))
     (a.taken (rw is refl))
 fault_is (Some other) old new r fault is a =
     let told : refused_by (errors.Fault fault) ≡ refused_by (errors.Fault other) = let P : Option SettingsFault → Type 0 = λ o. IfSome o (λ f. refused_by (errors.Fault fault) ≡ refused_by (errors.Fault f)) in subst P is a.refused in
-    is ∙ ap Some (sym (same_fault fault other (same_error (errors.Fault fault) (errors.Fault other) told)))
+    is ∙ (let same : other ≡ fault = cc in ap Some same)
 
 pub rule_refused : (old new : StoreData) (d : Data) (r : Rule) (e : SettingsError) → rule_parsed d ≡ Some r → AddsRule old new r (Err e) → IsErrorOf (rule_of_value (store_settings old) d) e × (new ≡ old)
 rule_refused old new d r errors.OutOfMemory read a = (tt, a.err)

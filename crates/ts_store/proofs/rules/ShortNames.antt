@@ -1,15 +1,14 @@
 -- Lengths of the names of rules, at most 32 bytes.
-use Rattle.std.proofs.Common.{◌≡◌, ◌≤◌, ◌++◌, List, [], ◌∷◌, ℕ, length, Option, Some, None, Bool, true, false, ◌&&◌, nat_le, nat_lt, cond, arith, refl, sym, subst, true≢false, inl, inr}
+use Rattle.std.proofs.Common.{◌≡◌, ◌≤◌, ◌++◌, List, [], ◌∷◌, ℕ, length, Some, None, true, false, ◌&&◌, nat_le, nat_lt, cond, arith, sym, subst, true≢false, inl, inr}
 use Rattle.std.specs.List.{AllByRecursion}
 use Rattle.std.proofs.lemmas.Bool.{and_parts, or_cases}
 use Rattle.std.proofs.lemmas.Bool.Decides.{nat_tests}
 use Rattle.ts_core.specs.facts.Facts.{Text, same_text}
 use Rattle.ts_core.specs.settings.Settings.{Rule, Settings}
-use Rattle.ts_core.specs.settings.SettingsFaults.{unless, or_rule_fault, is_rule_name, is_named, fault_of_rule, rules_fault, settings_fault, added_fault}
-use Rattle.ts_core.specs.declared.settings.settings_fault.RuleFault.{RuleFault}
+use Rattle.ts_core.specs.settings.SettingsFaults.{or_rule_fault, is_rule_name, is_named, fault_of_rule, rules_fault, settings_fault, added_fault}
 use Rattle.ts_core.specs.declared.settings.settings_fault.SettingsFault.TheVariants.{TooManyRules}
 use Rattle.ts_core.proofs.facts.Ids.{same_text-eq}
-use Rattle.ts_core.proofs.settings.SettingsLaws.{or_none}
+use Rattle.ts_core.proofs.settings.SettingsLaws.{well, or_none}
 
 abbrev pub HasShortName : Rule → Type 0
 HasShortName r = length r.name ≤ 32
@@ -17,13 +16,9 @@ HasShortName r = length r.name ≤ 32
 nat_le_from : (a b : ℕ) → nat_le a b ≡ true → a ≤ b
 nat_le_from a b h = grind (arith, nat_tests)
 
-well : (b : Bool) (f : RuleFault) (next : Option RuleFault) → unless b f next ≡ None → b ≡ true
-well true f next h = refl
-well false f next h = absurd (let q : Some f ≡ None = h in cc)
-
 short_name : (raw : ℕ) (earlier : List Rule) (r : Rule) → fault_of_rule raw earlier r ≡ None → HasShortName r
 short_name raw earlier r h =
-    let named = well (is_rule_name r.name) _ _ h in
+    let named = (well (is_rule_name r.name) _ _ h).0 in
     let short = and_parts (nat_le 1 (length r.name) && nat_le (length r.name) 32) _ named in
     nat_le_from (length r.name) 32 (and_parts (nat_le 1 (length r.name)) (nat_le (length r.name) 32) short.0).1
 

@@ -76,11 +76,10 @@ expires low m n l =
     }
 
 first_expires : (rs ss : List RuleData) → FirstLoses rs ss → FirstExpires (map (λ (a : RuleData). a.low) rs) (all_keys rs) (all_keys ss)
-first_expires [] ss l = absurd l
-first_expires (a ∷ rs) [] l = absurd l
 first_expires (a ∷ rs) (b ∷ ss) l =
     ⊎_elim {C = FirstExpires (map (λ (x : RuleData). x.low) (a ∷ rs)) (all_keys (a ∷ rs)) (all_keys (b ∷ ss))} (λ p. inl (expires a.low a.cells b.cells p.0.0, ap all_keys p.1))
     (λ p. inr (none_below a.low a.cells p.0, ap (λ (x : RuleData). finmap.keys x.cells) p.1, first_expires rs ss p.2)) l
+first_expires _ _ l = absurd l
 
 removes_to : (old new : StoreData) → RemovesCells old new → StepsTo (store_marks old).lows (inventory_of old) Moved (inventory_of new)
 removes_to old new m =
@@ -145,12 +144,10 @@ all_kept_then (low ∷ lows) (a ∷ as') (b ∷ bs) (c ∷ cs) x y = (
 )
 
 first_kept : (lows : List ℤ) (old new : List (List Cell)) → FirstExpires lows old new → KeepAll lows old new
-first_kept [] old new e = absurd e
-first_kept (low ∷ lows) [] new e = absurd e
-first_kept (low ∷ lows) (a ∷ old) [] e = absurd e
 first_kept (low ∷ lows) (a ∷ old) (b ∷ new) e =
     ⊎_elim {C = KeepAll (low ∷ lows) (a ∷ old) (b ∷ new)} (λ p. (record { only = p.0.only; stays = p.0.stays }, subst (KeepAll lows old) (sym p.1) (all_kept_same lows old)))
     (λ p. (subst (Keeps low a) (sym p.1) (kept_same low a), first_kept lows old new p.2)) e
+first_kept _ _ _ e = absurd e
 
 turn_taken : (low : ℤ) (a b : List Cell) → Expires low a b → batches_of (expired_in low a) ≡ batches_of (expired_in low b) + 1
 turn_taken low a b e =
@@ -159,15 +156,13 @@ turn_taken low a b e =
     omega (arith, some, fewer)
 
 first_turn : (lows : List ℤ) (old new : List (List Cell)) → FirstExpires lows old new → batches_in lows old ≡ batches_in lows new + 1
-first_turn [] old new e = absurd e
-first_turn (low ∷ lows) [] new e = absurd e
-first_turn (low ∷ lows) (a ∷ old) [] e = absurd e
 first_turn (low ∷ lows) (a ∷ old) (b ∷ new) e =
     let before = batches_first low lows a old in
     let after = batches_first low lows b new in
     ⊎_elim {C = batches_in (low ∷ lows) (a ∷ old) ≡ batches_in (low ∷ lows) (b ∷ new) + 1}
     (λ p. let one = turn_taken low a b p.0 in let others : batches_in lows new ≡ batches_in lows old = ap (batches_in lows) p.1 in omega arith)
     (λ p. let same : batches_of (expired_in low b) ≡ batches_of (expired_in low a) = ap (λ (x : List Cell). batches_of (expired_in low x)) p.1 in let others = first_turn lows old new p.2 in omega arith) e
+first_turn _ _ _ e = absurd e
 
 -- the parts that are unchanged since a run began, and the number of steps that were taken
 pub record KeptSince (lows : List ℤ) (old new : Inventory) (taken : ℕ) : Type 0 where
@@ -221,10 +216,9 @@ recent_at (l ∷ lows) (x ∷ old) (n ∷ ns) keeps none (suc i) low a b at_low 
 
 kept_length : (lows : List ℤ) (old new : List (List Cell)) → KeepAll lows old new → length new ≡ length old
 kept_length lows [] [] k = refl
-kept_length lows [] (b ∷ new) k = absurd k
-kept_length lows (a ∷ old) [] k = absurd k
 kept_length [] (a ∷ old) (b ∷ new) k = ap suc (kept_length [] old new k)
 kept_length (low ∷ lows) (a ∷ old) (b ∷ new) k = ap suc (kept_length lows old new k.1)
+kept_length _ _ _ k = absurd k
 
 -- after the last step
 pub record HasEnded (rules : List Rule) (lows : List ℤ) (old new : Inventory) (taken : ℕ) : Type 0 where

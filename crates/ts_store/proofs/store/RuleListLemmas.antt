@@ -1,5 +1,5 @@
 -- The rules of a store from lists in memory, and what holds of each rule.
-use Rattle.std.proofs.Common.{◌≡◌, ℕ, zero, suc, ◌+◌, ◌<◌, ℤ, pos, List, [], ◌∷◌, ◌++◌, length, map, refl, sym, ◌∙◌, ap, subst, inl, inr, ⊎_elim, arith, Option, Some, None, get_or}
+use Rattle.std.proofs.Common.{◌≡◌, ℕ, zero, suc, ◌<◌, ℤ, pos, List, [], ◌∷◌, ◌++◌, length, map, refl, sym, ◌∙◌, ap, subst, inl, inr, ⊎_elim, arith, Option, Some, None, get_or}
 use Rattle.std.specs.List.{AllByRecursion, AllZip, remove}
 use Rattle.std.proofs.lemmas.List.{length-map}
 use Rattle.ts_core.specs.lists.Beside.{OfEach, changed_beside}
@@ -65,16 +65,12 @@ module _ (settings : Settings) (marks : Marks) (n : ℕ) (held : StoreContent) (
 -- ---- changes of one of the lists
 
 pub with_changed : (f : Rule → CellMap → CellMap) (rs : List Rule) (lows : List ℤ) (ms : List CellMap) → map (in_cells f) (rules_with rs lows ms) ≡ rules_with rs lows (changed_beside f rs ms)
-with_changed f [] lows ms = refl
-with_changed f (r ∷ rs) [] ms = refl
-with_changed f (r ∷ rs) (low ∷ lows) [] = refl
 with_changed f (r ∷ rs) (low ∷ lows) (m ∷ ms) = ap (λ (xs : List RuleData). record { rule = r; low = low; cells = f r m } ∷ xs) (with_changed f rs lows ms)
+with_changed f _ _ _ = refl
 
 pub with_raised : (now : ℤ) (rs : List Rule) (lows : List ℤ) (ms : List CellMap) → map (raised_rule now) (rules_with rs lows ms) ≡ rules_with rs (raised now rs lows) ms
-with_raised now [] lows ms = refl
-with_raised now (r ∷ rs) [] ms = refl
-with_raised now (r ∷ rs) (low ∷ lows) [] = refl
 with_raised now (r ∷ rs) (low ∷ lows) (m ∷ ms) = ap (λ (xs : List RuleData). raised_rule now (record { rule = r; low = low; cells = m }) ∷ xs) (with_raised now rs lows ms)
+with_raised now _ _ _ = refl
 
 pub with_push : (rs : List Rule) (lows : List ℤ) (ms : List CellMap) (r : Rule) (low : ℤ) (m : CellMap) → length lows ≡ length rs → length ms ≡ length rs
     → rules_with (rs ++ r ∷ []) (lows ++ low ∷ []) (ms ++ m ∷ []) ≡ rules_with rs lows ms ++ record { rule = r; low = low; cells = m } ∷ []
@@ -101,36 +97,27 @@ with_at (x ∷ rs) (low ∷ lows) (y ∷ ms) (suc n) r m d at here = with_at rs 
 
 module _ (R : Rule → CellMap → Type 0) where
   pub with_each : (rs : List Rule) (lows : List ℤ) (ms : List CellMap) → OfEach R rs ms → AllByRecursion (λ (a : RuleData). R a.rule a.cells) (rules_with rs lows ms)
-  with_each [] lows ms a = tt
-  with_each (r ∷ rs) [] ms a = tt
-  with_each (r ∷ rs) (low ∷ lows) [] a = tt
   with_each (r ∷ rs) (low ∷ lows) (m ∷ ms) a = (a.0, with_each rs lows ms a.1)
+  with_each _ _ _ a = tt
 
   pub each_with : (rs : List Rule) (lows : List ℤ) (ms : List CellMap) → length lows ≡ length rs → AllByRecursion (λ (a : RuleData). R a.rule a.cells) (rules_with rs lows ms) → OfEach R rs ms
-  each_with [] lows ms d a = tt
-  each_with (r ∷ rs) lows [] d a = tt
-  each_with (r ∷ rs) [] (m ∷ ms) d a = absurd (omega arith)
   each_with (r ∷ rs) (low ∷ lows) (m ∷ ms) d a = (a.0, each_with rs lows ms (omega arith) a.1)
+  each_with (r ∷ rs) [] (m ∷ ms) d a = absurd (omega arith)
+  each_with _ _ _ d a = tt
 
 pub with_zip : (C : CellMap → CellMap → Type 0) (rs : List Rule) (lows : List ℤ) (ms ns : List CellMap) → AllZip C ms ns → OfEachRule (λ r low. C) (rules_with rs lows ms) (rules_with rs lows ns)
-with_zip C [] lows ms ns z = tt
-with_zip C (r ∷ rs) [] ms ns z = tt
-with_zip C (r ∷ rs) (low ∷ lows) [] [] z = tt
 with_zip C (r ∷ rs) (low ∷ lows) [] (n ∷ ns) z = absurd z
 with_zip C (r ∷ rs) (low ∷ lows) (m ∷ ms) [] z = absurd z
 with_zip C (r ∷ rs) (low ∷ lows) (m ∷ ms) (n ∷ ns) z = ((refl, refl, z.0), with_zip C rs lows ms ns z.1)
+with_zip C _ _ _ _ z = tt
 
 pub with_above : (rs : List Rule) (lows : List ℤ) (ms : List CellMap) → OfEach IsAbove lows ms → AreAbove (rules_with rs lows ms)
-with_above [] lows ms a = tt
-with_above (r ∷ rs) [] ms a = tt
-with_above (r ∷ rs) (low ∷ lows) [] a = tt
 with_above (r ∷ rs) (low ∷ lows) (m ∷ ms) a = (a.0, with_above rs lows ms a.1)
+with_above _ _ _ a = tt
 
 pub with_first : (rs : List Rule) (lows : List ℤ) (ms ns : List CellMap) → length lows ≡ length rs → FirstChanges IsAbove LosesCells lows ms ns → FirstLoses (rules_with rs lows ms) (rules_with rs lows ns)
-with_first rs [] ms ns d c = absurd c
-with_first rs (low ∷ lows) [] ns d c = absurd c
-with_first rs (low ∷ lows) (m ∷ ms) [] d c = absurd c
-with_first [] (low ∷ lows) (m ∷ ms) (n ∷ ns) d c = absurd (omega arith)
 with_first (r ∷ rs) (low ∷ lows) (m ∷ ms) (n ∷ ns) d c =
     ⊎_elim {C = FirstLoses (rules_with (r ∷ rs) (low ∷ lows) (m ∷ ms)) (rules_with (r ∷ rs) (low ∷ lows) (n ∷ ns))} (λ p. inl ((p.0, refl), ap (rules_with rs lows) p.1))
     (λ p. inr (p.0, ap (λ (x : CellMap). record { rule = r; low = low; cells = x }) p.1, with_first rs lows ms ns (omega arith) p.2)) c
+with_first [] (low ∷ lows) (m ∷ ms) (n ∷ ns) d c = absurd (omega arith)
+with_first _ _ _ _ d c = absurd c

@@ -1,9 +1,10 @@
 -- The history that a store represents after a call, and results by that history.
-use Rattle.std.proofs.Common.{◌≡◌, ℕ, ℤ, ◌+◌, ◌<◌, ◌≤◌, ◌≤ℤ◌, ◌^◌, Bool, int_le, int_lt, Less, Equal, Greater, true, false, cond, not, ◌&&◌, ◌||◌, nat_le, List, [], ◌∷◌, ◌++◌, length, map, replicate, refl, sym, ◌∙◌, ap, subst, inl, inr, ⊎_elim, arith, true≢false, Option, Some, None, IfSome, IfNone}
+use Rattle.std.proofs.Common.{◌≡◌, ◌↔◌, ℕ, ℤ, ◌+◌, ◌<◌, ◌≤◌, ◌≤ℤ◌, ◌^◌, Bool, int_le, int_lt, Less, Equal, Greater, true, false, cond, not, ◌&&◌, ◌||◌, nat_le, List, [], ◌∷◌, ◌++◌, length, map, replicate, refl, sym, ◌∙◌, ap, subst, inl, inr, ⊎_elim, arith, true≢false, Option, Some, None, IfSome, IfNone}
 use Rattle.std.specs.Option.{is_some}
 use Rattle.std.specs.FinMap as finmap
 use Rattle.std.specs.List.{slice_get, AllByRecursion}
 use Rattle.std.specs.Ordering.{int_cmp, is_lt}
+use Rattle.std.proofs.Math.Bool.{not-not}
 use Rattle.std.proofs.lemmas.Int.{ints}
 use Rattle.std.proofs.lemmas.List.{append-nil, length-map}
 use Rattle.ts_core.specs.lists.Members.{Among, AllDistinct}
@@ -13,8 +14,8 @@ use Rattle.ts_core.specs.facts.Times.{least_time}
 use Rattle.ts_core.specs.store.History.{History, Line, MayBeTaken, accepted, raw_mark}
 use Rattle.ts_core.specs.facts.Latest.{latest_of}
 use Rattle.ts_core.specs.store.Marks.{Marks, index_of, low_of, marks_of}
-use Rattle.ts_core.specs.store.RawFacts.{same_column, raw_facts, is_waiting, kept_from}
-use Rattle.ts_core.specs.store.StoreStates.{ColumnPoints, StandsFor, column_of, fact_at, facts_at, facts_of}
+use Rattle.ts_core.specs.store.RawFacts.{same_column, raw_facts, raw_of, is_waiting, is_kept, kept_from}
+use Rattle.ts_core.specs.store.StoreStates.{ColumnPoints, StandsFor, column_of, fact_at, facts_of}
 use Rattle.ts_core.specs.store.StoreData.{CellMap, RuleData, StoreData, state_of, new_data, AreLive}
 use Rattle.ts_core.specs.moves.StoreMoves.{PutsFacts, GainEmptyCells, grown, put_facts}
 use Rattle.ts_core.proofs.settings.SettingsLaws.{well}
@@ -37,9 +38,8 @@ use Rattle.ts_line.specs.Parts.{LinePart, Parts, series_of, fact_of, field_text,
 use Rattle.ts_core.specs.lists.Numbered.{IsAt}
 use Rattle.ts_core.proofs.lists.NumberedLemmas.{at_among}
 use Rattle.ts_store.specs.store.ColumnStates.{StoreContent}
-use Rattle.ts_store.specs.read.PointsRead.{points_between, AreLatestOf}
+use Rattle.ts_store.specs.read.PointsRead.{points_between, AreLatestOf, AreRawOf, all_raw}
 use Rattle.ts_store.specs.write.Registered.{new_columns, with_columns}
-use Rattle.ts_store.specs.declared.write.fault.WriteFault.{WriteFault}
 use Rattle.ts_store.specs.declared.write.fault.WriteFault.TheVariants.{BelowRawMark, TooManySeries, TooManyFacts}
 use Rattle.ts_store.specs.write.Refusals.{is_registered, is_too_many, write_fault}
 use Rattle.ts_store.specs.retain.OpenRuns.{Run, waiting_in, IsWithin, data_of_parts}
@@ -55,17 +55,11 @@ use Rattle.ts_store.specs.write.LinesPut.{Accepts, Leaves}
 use Rattle.ts_store.proofs.retain.WaitingColumns.{NamesMore, within_more, waiting_more}
 use Rattle.ts_store.proofs.write.StagedColumns.{names_with, same_facts}
 use Rattle.ts_store.proofs.store.ColumnsLemmas.{in_column}
-use Rattle.ts_store.proofs.store.CountsKept.{counts-put, counts-grown, counts-new}
-use Rattle.ts_store.proofs.store.SizesKept.{puts_names, sized_new, sized_grown, sized_put}
+use Rattle.ts_store.proofs.store.CountsKept.{counts-put, counts-grown, counts-new, possible_new, taken_valid, possible_gained, possible_put, puts_names, sized_new, sized_grown, sized_put}
 use Rattle.ts_store.proofs.write.LivesGrown.{lives_grown}
-use Rattle.ts_store.proofs.store.PossibleCellsKept.{possible_new, taken_valid, possible_gained, possible_put}
-use Rattle.ts_store.proofs.write.NamesKept.{gains_named, may_gain_named, all_keys, first_keys}
-use Rattle.ts_store.proofs.write.SeriesLimit.{registered-there, registered-not, gains_few, may_gain_few}
+use Rattle.ts_store.proofs.write.NamesKept.{gains_named, may_gain_named, all_keys, first_keys, registered-there, registered-not, gains_few, may_gain_few}
 
 -- ---- columns without points
-
-names_stay : (before : List ColumnPoints) (made : List Column) (c : Column) → Among c (map column_of before) → Among c (map column_of (with_columns before made))
-names_stay before made c a = subst (Among c) (sym (names_with before made)) (Among-left c (map column_of before) made a)
 
 -- a new store
 pub new_rollups : (rs : List Rule) → AreRollups rs [] (replicate (length rs) new_rollup)
@@ -123,18 +117,7 @@ data_of settings marks n run series columns ms = waits settings marks n run (wai
 
 -- the plain facts don't depend on which columns wait
 sized_waits : (settings : Settings) (marks : Marks) (n : ℕ) (run : Option Run) (before after : List Column) (series : List Series) (columns : List ColumnPoints) (ms : List CellMap) → IsSized (waits settings marks n run before series columns ms) → IsSized (waits settings marks n run after series columns ms)
-sized_waits settings marks n run before after series columns ms s = record {
-  settings = s.settings;
-  accepted = s.accepted;
-  facts = s.facts;
-  series = s.series;
-  columns = s.columns;
-  named = s.named;
-  registered = s.registered;
-  keys = s.keys;
-  once = s.once;
-  rules = s.rules;
-}
+sized_waits settings marks n run before after series columns ms s = record { settings = s.settings; content = s.content; rules = s.rules }
 
 -- a store that has only grown
 grown_stands : (opening : Settings) (h : History) (settings : Settings) (marks : Marks) (n : ℕ) (before : StoreContent) (run : Option Run) (made : List Column) (facts : List Fact) (series : List Series) (columns : List ColumnPoints) (ms : List CellMap)
@@ -144,7 +127,7 @@ grown_stands opening h settings marks n before run made facts series columns ms 
     let more : NamesMore before.columns columns made = ap (map column_of) e ∙ names_with before.columns made in
     subst (λ ws. StandsFor opening h (state_of (waits settings marks n run ws series columns ms))) (sym (waiting_more run before.columns columns made more within))
     (grows opening h (data_of_parts settings marks n before run) series columns (rules_with settings.rules marks.lows ms) facts st once
-    (λ c a. subst (λ (cs : List ColumnPoints). Among c (map column_of cs)) (sym e) (names_stay before.columns made c a)) registered (ap facts_of e ∙ same_facts before.columns made) capacity)
+    (λ c a. subst (λ (cs : List ColumnPoints). Among c (map column_of cs)) (sym e) (subst (Among c) (sym (names_with before.columns made)) (Among-left c (map column_of before.columns) made a))) registered (ap facts_of e ∙ same_facts before.columns made) capacity)
 
 -- after out of memory
 pub left_by : (settings : Settings) (marks : Marks) (n : ℕ) (before after : StoreContent) (run : Option Run) (p : Parts) → IsSoundStore settings marks n before run → GrowsForLine settings.rules marks.lows before after p
@@ -288,34 +271,42 @@ kept_accepted settings marks n before after run p kept registers named keys put 
 
 -- ---- the results
 
--- where no column waits, as many facts are kept as are latest from the raw mark on
-pub raw_stands : (opening : Settings) (h : History) (k : StoreData) → k.waiting ≡ [] → StandsFor opening h (state_of k) → length (facts_of k.columns) ≡ length (raw_facts opening h)
-raw_stands opening h k none st =
-    let p : Fact → Bool = λ (f : Fact). int_le (raw_mark opening h) f.time in
-    let held : Holds (kept_from opening h []) (latest_of h) (facts_of k.columns) = subst (λ ws. Holds (kept_from opening h ws) (latest_of h) (facts_of k.columns)) none (StandsFor-Holds opening h (state_of k) st) in
-    length-same (facts_of k.columns) (raw_facts opening h) st.once (AllDistinct-filter p (latest_of h) (latest-distinct (accepted h)))
-    (λ g a. let q = held.only g a in Among-filter_stays p g (latest_of h) q.0 q.1)
-    (λ g a. held.all g (Among-filter_was p g (latest_of h) a) (Among-filter_passes p g (latest_of h) a))
+-- the facts that are kept are the raw ones
+pub raw_facts_are : (opening : Settings) (h : History) (k : StoreData) → StandsFor opening h (state_of k) → (f : Fact) → Among f (facts_of k.columns) ↔ Among f (all_raw k.waiting opening h)
+raw_facts_are opening h k st f =
+    let p : Fact → Bool = is_kept (kept_from opening h k.waiting) in
+    let held : Holds (kept_from opening h k.waiting) (latest_of h) (facts_of k.columns) = StandsFor-Holds opening h (state_of k) st in (
+      λ a. let q = held.only f a in Among-filter_stays p f (latest_of h) q.0 q.1,
+      λ a. held.all f (Among-filter_was p f (latest_of h) a) (Among-filter_passes p f (latest_of h) a),
+    )
 
--- so where no run is open
+pub raw_count : (opening : Settings) (h : History) (k : StoreData) → StandsFor opening h (state_of k) → length (facts_of k.columns) ≡ length (all_raw k.waiting opening h)
+raw_count opening h k st =
+    length-same (facts_of k.columns) (all_raw k.waiting opening h) st.once (AllDistinct-filter (is_kept (kept_from opening h k.waiting)) (latest_of h) (latest-distinct (accepted h)))
+    (λ g. (raw_facts_are opening h k st g).0) (λ g. (raw_facts_are opening h k st g).1)
+
+-- where no run is open, these are the latest from the raw mark on
 pub idle_stands : (opening : Settings) (h : History) (k : StoreData) → k.running ≡ false → StandsFor opening h (state_of k) → length (facts_of k.columns) ≡ length (raw_facts opening h)
-idle_stands opening h k idle st = raw_stands opening h k (st.idle (λ runs. true≢false (sym (st.running.1 runs) ∙ idle))) st
+idle_stands opening h k idle st = raw_count opening h k st ∙ ap (λ ws. length (all_raw ws opening h)) (st.idle (λ runs. true≢false (sym (st.running.1 runs) ∙ idle)))
 
-at_fact : (c : Column) (ps : List (ℤ × ℤ)) (p : ℤ × ℤ) → Among p ps → Among (fact_at c p) (facts_at c ps)
-at_fact c ps p a = Among-map (fact_at c) p ps a
+-- a point is there if its fact is
+between : (columns : List ColumnPoints) (s : ColumnPoints) (a b : ℤ) (p : ℤ × ℤ) (facts : List Fact) → Among s columns → AllDistinct (map column_of columns) → Among (fact_at s.column p) (facts_of columns) ↔ Among (fact_at s.column p) facts
+    → Among p (points_between a b s.points) ↔ (Among (fact_at s.column p) facts × (is_within a b p.0 ≡ true))
+between columns s a b p facts here once same =
+    let f : Fact = fact_at s.column p in
+    let within : ℤ × ℤ → Bool = λ q. is_within a b q.0 in (
+      λ m. (same.0 (facts_of-there columns s f here (Among-map (fact_at s.column) p s.points (Among-filter_was within p s.points m))), Among-filter_passes within p s.points m),
+      λ l. Among-filter_stays within p s.points (in_column s.column s.points f (facts_of-here columns s f once here refl (same.1 l.0))).1 l.1,
+    )
 
--- the points of a column are those of its latest facts
+-- the points of a column are those of its raw facts
+pub raw_between : (opening : Settings) (h : History) (k : StoreData) (n : ℕ) (s : ColumnPoints) (a b : ℤ) → IsAt k.columns n s → StandsFor opening h (state_of k) → AreRawOf k.waiting s.column a b (points_between a b s.points) opening h
+raw_between opening h k n s a b at st = λ p. between k.columns s a b p (raw_of opening h k.waiting s.column) (at_among k.columns n s at) st.columns_once (st.raw (fact_at s.column p))
+
+-- so those of its latest facts, at or above the raw mark
 pub range_stands : (opening : Settings) (h : History) (k : StoreData) (n : ℕ) (s : ColumnPoints) (a b : ℤ) → IsAt k.columns n s → StandsFor opening h (state_of k) → AreLatestOf s.column a b (points_between a b s.points) opening h
 range_stands opening h k n s a b at st = λ p above.
-    let shown = stands_shows opening h (state_of k) st in
-    let here : Among s k.columns = at_among k.columns n s at in
-    let late : k.raw_mark ≤ℤ p.0 = subst (λ (m : Marks). m.raw ≤ℤ p.0) (sym st.marks) above in
-    let within : ℤ × ℤ → Bool = λ q. is_within a b q.0 in (
-      λ m. let was = Among-filter_was within p s.points m in
-          ((shown.raw (fact_at s.column p) late).0 (facts_of-there k.columns s (fact_at s.column p) here (at_fact s.column s.points p was)), Among-filter_passes within p s.points m),
-      λ l. let there = (shown.raw (fact_at s.column p) late).1 l.0 in
-          Among-filter_stays within p s.points (in_column s.column s.points (fact_at s.column p) (facts_of-here k.columns s (fact_at s.column p) st.columns_once here refl there)).1 l.1,
-    )
+    between k.columns s a b p (latest_of h) (at_among k.columns n s at) st.columns_once ((stands_shows opening h (state_of k) st).raw (fact_at s.column p) (subst (λ (m : Marks). m.raw ≤ℤ p.0) (sym st.marks) above))
 
 -- ---- the facts of a line
 
@@ -329,9 +320,9 @@ taken_more mark (g ∷ facts) f all one = (all.0, taken_more mark facts f all.1 
 -- ---- refusals
 
 -- a series that is looked up in an index is registered, or not
-is_refused : (series : List Series) (s : Series) (r : Option ℕ) → IfSome r (λ id. slice_get series id ≡ Some s) → IfNone r (Among s series → ⊥) → not (is_registered series s) ≡ not (is_some r)
-is_refused series s None found absent = ap not (registered-not s series absent)
-is_refused series s (Some id) found absent = ap not (registered-there s series (at_among series id s found))
+found_as : (series : List Series) (s : Series) (r : Option ℕ) → IfSome r (λ id. slice_get series id ≡ Some s) → IfNone r (Among s series → ⊥) → is_registered series s ≡ is_some r
+found_as series s None found absent = registered-not s series absent
+found_as series s (Some id) found absent = registered-there s series (at_among series id s found)
 
 nat_le_yes : (x y : ℕ) → x ≤ y → nat_le x y ≡ true
 nat_le_yes x y h = grind arith
@@ -343,15 +334,8 @@ nat_le_not : (x y : ℕ) → y < x → nat_le x y ≡ false
 nat_le_not x y h = grind arith
 
 -- the result of a look-up decides if a series is too many
-full_or_not : (series : List Series) (s : Series) (none : Bool) → not (is_registered series s) ≡ none → 1000000 ≤ length series → none ≡ is_too_many series s
-full_or_not series s none e full = sym (ap (λ b. b && not (is_registered series s)) (nat_le_yes 1000000 (length series) full) ∙ e)
-
-not_not : (b : Bool) → not (not b) ≡ b
-not_not true = refl
-not_not false = refl
-
 pub looked_for : (series : List Series) (s : Series) (r : Option ℕ) (none : Bool) → is_some r ≡ not none → IfSome r (λ id. slice_get series id ≡ Some s) → IfNone r (Among s series → ⊥) → 1000000 ≤ length series → none ≡ is_too_many series s
-looked_for series s r none e found absent full = full_or_not series s none (is_refused series s r found absent ∙ ap not e ∙ not_not none) full
+looked_for series s r none e found absent full = sym (ap (λ b. b && not (is_registered series s)) (nat_le_yes 1000000 (length series) full) ∙ ap not (found_as series s r found absent ∙ e) ∙ not-not none)
 
 -- a line that isn't refused
 pub record IsWelcome (mark : ℤ) (series : List Series) (n : ℕ) (p : Parts) : Type 0 where
@@ -366,7 +350,7 @@ not_refused mark series n p e =
     let facts_said = well (nat_le (n + length (line_facts p)) (2 ^ 62)) TooManyFacts None series_said.1 in
     record {
       late = le_from mark p.time below.0;
-      registers = sym (not_not (is_too_many series (series_of p))) ∙ ap not series_said.0;
+      registers = sym (not-not (is_too_many series (series_of p))) ∙ ap not series_said.0;
       few = nat_le_from (n + length (line_facts p)) (2 ^ 62) facts_said.0;
     }
 
@@ -377,15 +361,15 @@ not_before time mark t m et em e =
     let late : m ≤ℤ t = lt_not t m below in
     omega (arith, ints, late, et, em)
 
+-- its number of facts alone decides
+on_time : (mark : ℤ) (series : List Series) (n : ℕ) (p : Parts) (b : Bool) → mark ≤ℤ p.time → is_too_many series (series_of p) ≡ false → nat_le (n + length (line_facts p)) (2 ^ 62) ≡ b → write_fault mark series n p ≡ unless b TooManyFacts None
+on_time mark series n p b late registers e = λ i. unless (le_true mark p.time late i) (BelowRawMark mark) (unless (not (registers i)) TooManySeries (unless (e i) TooManyFacts None))
+
 pub facts_refused : (mark : ℤ) (series : List Series) (n : ℕ) (p : Parts) → mark ≤ℤ p.time → is_too_many series (series_of p) ≡ false → 2 ^ 62 < n + length (line_facts p) → write_fault mark series n p ≡ Some TooManyFacts
-facts_refused mark series n p late registers many =
-    let rest : Option WriteFault = unless (nat_le (n + length (line_facts p)) (2 ^ 62)) TooManyFacts None in
-    ap (λ b. unless b (BelowRawMark mark) (unless (not (is_too_many series (series_of p))) TooManySeries rest)) (le_true mark p.time late) ∙ ap (λ b. unless (not b) TooManySeries rest) registers ∙ ap (λ b. unless b TooManyFacts None) (nat_le_not (n + length (line_facts p)) (2 ^ 62) many)
+facts_refused mark series n p late registers many = on_time mark series n p false late registers (nat_le_not (n + length (line_facts p)) (2 ^ 62) many)
 
 pub welcome : (mark : ℤ) (series : List Series) (n : ℕ) (p : Parts) → mark ≤ℤ p.time → is_too_many series (series_of p) ≡ false → n + length (line_facts p) ≤ 2 ^ 62 → write_fault mark series n p ≡ None
-welcome mark series n p late registers few =
-    let rest : Option WriteFault = unless (nat_le (n + length (line_facts p)) (2 ^ 62)) TooManyFacts None in
-    ap (λ b. unless b (BelowRawMark mark) (unless (not (is_too_many series (series_of p))) TooManySeries rest)) (le_true mark p.time late) ∙ ap (λ b. unless (not b) TooManySeries rest) registers ∙ ap (λ b. unless b TooManyFacts None) (nat_le_yes (n + length (line_facts p)) (2 ^ 62) few)
+welcome mark series n p late registers few = on_time mark series n p true late registers (nat_le_yes (n + length (line_facts p)) (2 ^ 62) few)
 
 taken_fields : (mark : ℤ) (p : Parts) → mark ≤ℤ p.time → (fields : List (LinePart × ℤ)) → AllByRecursion (MayBeTaken least_time) (map (fact_of p) fields) → AllByRecursion (MayBeTaken mark) (map (fact_of p) fields)
 taken_fields mark p late [] all = tt

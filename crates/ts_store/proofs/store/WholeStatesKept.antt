@@ -25,9 +25,7 @@ use Rattle.ts_store.proofs.store.InventoriesKept.{none_taken, one_taken}
 grown : {E : Type 0} (facts : List Fact) (r : Result LineOutcome E) (s : WholeState) (k : StoreData) (new : Inventory) → IsWholeStateOf s k
     → GrowsAfter (store_settings k).rules (store_marks k).lows facts r (inventory_of k) new → GrowsAfter (rules_in s) (lows_in s) facts r s.inventory new
 grown {E} facts r s k new i g =
-    subst (λ (z : Inventory). GrowsAfter (rules_in s) (lows_in s) facts r z new) i.inventory
-    (subst (λ (z : Marks). GrowsAfter (rules_in s) z.lows facts r (inventory_of k) new) i.store.stands.marks
-    (subst (λ (z : Settings). GrowsAfter z.rules (store_marks k).lows facts r (inventory_of k) new) i.store.stands.settings g))
+    subst (λ (z : Settings × Marks × Inventory). GrowsAfter z.0.rules z.1.lows facts r z.2 new) (λ j. (i.store.stands.settings j, i.store.stands.marks j, i.inventory j)) g
 
 pub line_written : {E : Type 0} (precision : TimeUnit) (now : ℤ) (text : Text) (r : Result LineOutcome E) (k k' : StoreData) → ((t : LineState) → IsStateOf t k → WritesFrom precision now t text r k')
     → GrowsAfter (store_settings k).rules (store_marks k).lows (facts_of_text (parts_in precision now text)) r (inventory_of k) (inventory_of k') → (s : WholeState) → IsWholeStateOf s k → LineWrites precision now s text r k'
@@ -47,7 +45,7 @@ went_on Done k k' t = (t.done refl).0
 pub step_taken : (answer : StepAnswer) (s : WholeState) (k k' : StoreData) → k.running ≡ true → TakesStep k k' answer → IsWholeStateOf s k → (s' : WholeState) × StepsOnce s answer s' × IsWholeStateOf s' k'
 step_taken answer s k k' runs t i =
     let to : StepsTo (lows_in s) s.inventory answer (inventory_of k') =
-    subst (λ (z : Inventory). StepsTo (lows_in s) z answer (inventory_of k')) i.inventory (subst (λ (z : Marks). StepsTo z.lows (inventory_of k) answer (inventory_of k')) i.store.stands.marks (t.inventory runs)) in (
+    subst (λ (z : Marks × Inventory). StepsTo z.0.lows z.1 answer (inventory_of k')) (λ j. (i.store.stands.marks j, i.inventory j)) (t.inventory runs) in (
       with_step answer (inventory_of k') s,
       (inventory_of k', to, refl),
       record { store = record { stands = went_on answer k k' t s.store.opening s.store.history i.store.stands; series = t.series ∙ i.store.series }; inventory = refl },

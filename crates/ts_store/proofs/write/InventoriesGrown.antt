@@ -1,5 +1,5 @@
 -- Inventories after a write: the missing columns and cells of its facts are created.
-use Rattle.std.proofs.Common.{◌≡◌, ◌⊎◌, ⊎_elim, ℕ, ℤ, ◌≤ℤ◌, List, [], map, refl, sym, ◌∙◌, ap, subst, inl, inr, zero, suc, ◌∷◌, length, Some, None}
+use Rattle.std.proofs.Common.{◌≡◌, ◌⊎◌, ⊎_elim, ℕ, ℤ, ◌≤ℤ◌, List, [], map, refl, sym, ◌∙◌, ap, subst, inl, inr, zero, suc, ◌∷◌, length}
 use Rattle.std.specs.FinMap as finmap
 use Rattle.std.proofs.lemmas.List.{append-nil}
 use Rattle.std.proofs.lemmas.Option.{none-some, same_Some}
@@ -17,6 +17,7 @@ use Rattle.ts_store.specs.store.Inventories.{inventory_of, OfRules, AddsAll, Add
 use Rattle.ts_store.specs.write.LinesPut.{IsOfFacts, PutsCells, GainsCells, Accepts, Leaves}
 use Rattle.ts_store.specs.write.Registered.{new_columns}
 use Rattle.ts_store.proofs.write.StagedColumns.{names_with}
+use Rattle.ts_store.proofs.write.RollupsPut.{gained}
 use Rattle.ts_store.proofs.store.InventoriesKept.{all_keys}
 
 -- ---- cells of each rule
@@ -52,17 +53,8 @@ module _ (facts : List Fact) (r : Rule) (low : ℤ) (m n : CellMap) where
 
   adds_some : GainsCells facts r low m n → AddsSome facts r low (finmap.keys m) (finmap.keys n)
   adds_some g = record {
-    stays = λ k a. elim (finmap.get m k) as (λ o. finmap.get m k ≡ o → Among k (finmap.keys n)) [
-      | Some p ↦ λ e. key_there n k (λ none. none-some p (sym none ∙ g.stays k p e))
-      | None ↦ λ e. absurd (key_not m k a e)
-    ] refl;
-    created = λ k a. elim (finmap.get m k) as (λ o. finmap.get m k ≡ o → Among k (finmap.keys m) ⊎ ((low ≤ℤ k.index) × IsOfFacts facts r k)) [
-      | Some p ↦ λ e. inl (key_there m k (λ none. none-some p (sym none ∙ e)))
-      | None ↦ λ e. elim (finmap.get n k) as (λ o. finmap.get n k ≡ o → Among k (finmap.keys m) ⊎ ((low ≤ℤ k.index) × IsOfFacts facts r k)) [
-        | Some p ↦ λ f. inr ((g.created k p e f).1, (g.created k p e f).2)
-        | None ↦ λ f. absurd (key_not n k a f)
-      ] refl
-    ] refl;
+    stays = λ k a. key_there n k (λ none. ⊎_elim {C = ⊥} (λ same. key_not m k a (sym same ∙ none)) (λ new. key_not m k a new.0) (gained facts r low m n g k));
+    created = λ k a. ⊎_elim {C = Among k (finmap.keys m) ⊎ ((low ≤ℤ k.index) × IsOfFacts facts r k)} (λ same. inl (key_there m k (λ none. key_not n k a (same ∙ none)))) (λ new. inr (new.2, new.3)) (gained facts r low m n g k);
     once = keys_once n;
   }
 

@@ -1,5 +1,5 @@
 -- LineTexts: the outcome of a text, by the result of parsing it and the store's answer.
-use Rattle.std.proofs.Common.{◌≡◌, ◌⊎◌, ⊎_elim, ℤ, int_le, ◌+◌, ◌^◌, nat_le, length, List, Bool, true, false, not, Option, Some, None, Result, Ok, Err, IfSome, IsNone, refl, sym, ap, ◌∙◌, subst}
+use Rattle.std.proofs.Common.{◌≡◌, ◌⊎◌, ⊎_elim, ℤ, int_le, ◌+◌, ◌^◌, nat_le, length, List, Bool, true, not, Option, Some, None, Result, Ok, Err, IfSome, IsNone, refl, sym, ap, ◌∙◌, subst}
 use Rattle.ts_core.specs.facts.Facts.{Text, Series}
 use Rattle.ts_core.specs.settings.SettingsFaults.{unless}
 use Rattle.ts_core.specs.lists.Numbered.{Gains}
@@ -71,9 +71,7 @@ wrote_accepted precision now text parts old new reads a refused s i = (
 -- a line is never refused as out of memory
 never_memory : (a b c : Bool) (mark : ℤ) → unless a (write.BelowRawMark mark) (unless b write.TooManySeries (unless c write.TooManyFacts None)) ≡ Some write.OutOfMemory → ⊥
 never_memory true true true mark e = cc
-never_memory true true false mark e = cc
-never_memory true false c mark e = cc
-never_memory false b c mark e = cc
+never_memory _ _ _ mark e = cc
 
 module _ (parts : Parts) (old new : StoreData) (fault : WriteFault) (refused : IfSome (write_fault old.raw_mark old.series old.accepted parts) (λ f. (refused_by fault ≡ Err f) × (new ≡ old)))
     (taken : IsNone (write_fault old.raw_mark old.series old.accepted parts) → (refused_by fault ≡ Ok tt) ⊎ ((refused_by fault ≡ Err write.OutOfMemory) × Leaves old new parts)) (memory : fault ≡ write.OutOfMemory) where

@@ -1,5 +1,5 @@
 -- A staged point that is committed to its column: the value that it replaces, and the resulting cells of all rules.
-use Rattle.std.proofs.Common.{◌≡◌, ℕ, zero, suc, ℤ, ◌+◌, ◌<◌, ◌≤◌, ◌^◌, true, false, true≢false, cond, List, [], ◌∷◌, ◌++◌, length, map, set, get_or, Option, Some, None, refl, sym, ◌∙◌, ap, ap₂, subst, ◌⊎◌, inl, inr, ⊎_elim, arith, slice_get, IsSome, IfSome, drop}
+use Rattle.std.proofs.Common.{rules, ◌≡◌, ℕ, zero, suc, ℤ, ◌+◌, ◌<◌, ◌≤◌, ◌^◌, true, false, true≢false, cond, List, [], ◌∷◌, ◌++◌, length, map, set, get_or, Option, Some, None, refl, sym, ◌∙◌, ap, ap₂, subst, ◌⊎◌, inl, inr, ⊎_elim, arith, slice_get, IsSome, IfSome, drop, filter, option_map}
 use Rattle.std.specs.List.{AllByRecursion}
 use Rattle.std.specs.Option.{is_some}
 use Rattle.std.specs.FinMap as finmap
@@ -7,7 +7,7 @@ use Rattle.std.specs.FinMap.{entries, entries_sorted, get-entries, len-insert, i
 use Rattle.std.specs.Cmp.{int_cmp_total}
 use Rattle.std.proofs.lemmas.List.{length-map, length-set, get_or_default}
 use Rattle.std.proofs.lemmas.List.Sums.{sum_by-cons}
-use Rattle.std.proofs.lemmas.Option.{none-some, same_Some}
+use Rattle.std.proofs.lemmas.Option.{none-some, same_Some, get_or_from_slice_get}
 use Rattle.ts_core.specs.lists.Members.{Among, AllDistinct}
 use Rattle.ts_core.specs.facts.Facts.{Column, Fact, Id, id_of, same_id}
 use Rattle.ts_core.specs.settings.Settings.{Rule}
@@ -17,13 +17,13 @@ use Rattle.ts_core.specs.moves.StoreMoves.{PutsFact, refolded, put_cell, put_cel
 use Rattle.ts_core.proofs.facts.Ids.{same_id-eq}
 use Rattle.ts_core.proofs.moves.LivesKept.{live_put}
 use Rattle.ts_core.specs.lists.Beside.{OfEach}
-use Rattle.ts_core.proofs.lists.BesideLemmas.{OfEach-beside}
+use Rattle.ts_core.proofs.lists.BesideLemmas.{OfEach-weaker, OfEach-beside}
 use Rattle.ts_store.specs.store.RuleLists.{rules_with}
 use Rattle.ts_store.proofs.store.RuleListLemmas.{with_changed}
 use Rattle.ts_core.proofs.lists.MembersLemmas.{Among-append, Among-left, Among-right}
 use Rattle.ts_core.proofs.lists.NumberedLemmas.{at_among}
 use Rattle.ts_core.proofs.lists.Sorted.{found_among, among_found}
-use Rattle.ts_core.specs.store.Cells.{cell_of, is_rolled, total_of}
+use Rattle.ts_core.specs.store.Cells.{cell_of, is_rolled, total_of, is_in_cell}
 use Rattle.ts_line.specs.Parts.{LinePart, Parts, fact_of}
 use Rattle.ts_raw.specs.Columns.{PointMap, ColumnState}
 use Rattle.ts_store.specs.store.ColumnStates.{facts_in, facts_of_columns, with_points, point_maps, no_column, with_staged, committed, all_committed, AreReady, IsFactStaged, AreStaged}
@@ -32,22 +32,107 @@ use Rattle.ts_store.specs.write.LivePuts.{WasThere, IsLivePut, AreOfFields}
 use Rattle.ts_store.specs.write.PointPuts.{AreLiveOver, cells_put, PutsPoint, ArePointsStaged}
 use Rattle.ts_store.specs.read.PointsRead.{number_of_points}
 use Rattle.ts_store.specs.rollup.ChangedLists.{ChangesBeside}
-use Rattle.ts_store.specs.rollup.Rollups.{RollupState, IsRollupSeriesOf, AreRollups, rollup_series_at, with_grid_cells, cells_of}
+use Rattle.ts_store.specs.rollup.Rollups.{RollupState, IsRollupSeriesOf, AreRollups, rollup_series_at, with_grid_cells, cells_of, rollup_series_under, added_in, live_part}
 use Rattle.ts_store.specs.retain.RollupSteps.{with_all_grid_cells}
 use Rattle.ts_store.proofs.write.StagedColumns.{points_at, one_committed, staged_others, same_names, ready_others, committed_is}
-use Rattle.ts_store.proofs.store.ColumnsLemmas.{in_column, column_among, to_column, facts-distinct}
-use Rattle.ts_store.proofs.read.ColumnsReads.{facts-length}
-use Rattle.ts_store.proofs.retain.RollupMoves.{rollups_with}
+use Rattle.ts_store.proofs.store.ColumnsLemmas.{in_column, column_among, to_column, facts-distinct, facts-length}
+use Rattle.ts_store.proofs.retain.RollupMoves.{rollups_with, first_over, others_over}
 use Rattle.ts_store.proofs.rollup.RollupsGrow.{rollup_series-length}
 use Rattle.ts_store.proofs.write.CellsCreatedLemmas.{rollup_series_known}
-use Rattle.ts_store.proofs.write.LiveOver.{first_over, others_over}
+use Rattle.ts_core.specs.store.Marks.{index_of}
+use Rattle.ts_core.specs.aggregates.Aggregates.{Aggregate, aggregate_of_one, merged, IsSound, merged_within}
+use Rattle.ts_core.specs.aggregates.MergeLaws.{aggregate_laws}
+use Rattle.ts_core.specs.aggregates.Remainders.{IsOnlyRest}
+use Rattle.ts_core.specs.lists.Changes.{changed, with_change}
+use Rattle.ts_core.specs.store.TwoParts.{in_live, with_live}
+use Rattle.ts_core.proofs.store.Cuts.{one_fact}
+use Rattle.ts_core.proofs.aggregates.Folds.{fold-count}
+use Rattle.ts_core.proofs.lists.ListSteps.{length-filter}
+use Rattle.ts_core.proofs.moves.PutCells.{add_puts, correct_puts}
+use Rattle.ts_cells.specs.Grids.{no_rollup_series, cell_at, cell_in}
+use Rattle.ts_store.specs.rollup.LivePoints.{rollup_series_total}
+use Rattle.ts_store.proofs.rollup.RollupSeriesPoints.{cell_total}
+
+-- ---- a fact is put into its cell: it is added, or the live part is corrected
+
+-- replaces the live part of a cell
+abbrev pub corrected_in : RollupState → ℕ → ℤ → Aggregate → CellMap
+corrected_in s l index live = changed s.grid.cells (cell_in s.grid.rollup_series index l) (with_live live)
+
+-- ---- the cell of a fact under a rule
+
+module _ (r : Rule) (cs : List Column) (states : List ColumnState) (before : List ColumnPoints) (s : RollupState) (column : ℕ) (f : Fact) (old : Option ℤ) (over : AreLiveOver (r ∷ []) cs states before (s ∷ [])) (put : IsLivePut cs states before column f old) where
+  abbrev columns_after : List ColumnPoints
+  columns_after = with_points cs (point_maps states)
+
+  rollup_series_is : IsRollupSeriesOf r f.column s.grid.rollup_series (rollup_series_at s column)
+  rollup_series_is = rollup_series_known r s.grid.rollup_series cs s.series_of_column column f.column over.rollups.0 put.at
+
+  -- a rule that doesn't roll it up
+  pub put_passed : rollup_series_at s column ≡ None → s.grid.cells ≡ put_cell r f (facts_of columns_after) s.grid.cells
+  put_passed e =
+      let passed : is_rolled r f ≡ false = subst (IsRollupSeriesOf r f.column s.grid.rollup_series) e rollup_series_is in
+      sym (ap (λ b. cond b (refolded r (cell_of r f) (facts_of columns_after) s.grid.cells) s.grid.cells) passed)
+
+  module _ (l : ℕ) (at : rollup_series_at s column ≡ Some l) (index : ℤ) (at_index : index ≡ index_of r f.time) where
+    is_its : IsRollupSeriesOf r f.column s.grid.rollup_series (Some l)
+    is_its = subst (IsRollupSeriesOf r f.column s.grid.rollup_series) at rollup_series_is
+
+    key : cell_in s.grid.rollup_series index l ≡ cell_of r f
+    key = ap (λ i. cell_in s.grid.rollup_series i l) at_index ∙ ap (cell_at (index_of r f.time)) (get_or_from_slice_get s.grid.rollup_series l (rollup_series_under r f.column) no_rollup_series is_its.1)
+
+    put_is : put_cell r f (facts_of columns_after) s.grid.cells ≡ refolded r (cell_of r f) (facts_of columns_after) s.grid.cells
+    put_is = ap (λ b. cond b (refolded r (cell_of r f) (facts_of columns_after) s.grid.cells) s.grid.cells) is_its.0
+
+    -- of a new id
+    pub put_added : (part : Aggregate) → old ≡ None → part ≡ aggregate_of_one f.time f.value → added_in s l index part ≡ put_cell r f (facts_of columns_after) s.grid.cells
+    put_added part none one =
+        ap (λ k. changed s.grid.cells k (in_live (merged_within part))) key
+        ∙ ap (λ a. changed s.grid.cells (cell_of r f) (in_live (merged_within a))) one
+        ∙ add_puts before columns_after f put.distinct put.put r s.grid.cells over.live.0 is_its.0 (subst (WasThere before f) none put.was)
+        (λ p e.
+        let inside : List Fact = filter (is_in_cell r (cell_of r f)) (facts_of before) in
+        let count : p.live.count ≡ length inside = ap (λ (a : Aggregate). a.count) (over.live.0 (cell_of r f) p e) ∙ fold-count aggregate_laws one_fact (λ g. refl) inside in
+        let fewer = length-filter (is_in_cell r (cell_of r f)) (facts_of before) in
+        let few = put.few in
+        omega (arith, count, fewer, few))
+
+    -- the cell is missing
+    pub put_missing : option_map live_part (finmap.get s.grid.cells (cell_in s.grid.rollup_series index l)) ≡ None → s.grid.cells ≡ put_cell r f (facts_of columns_after) s.grid.cells
+    put_missing none =
+        let gone : option_map live_part (finmap.get s.grid.cells (cell_of r f)) ≡ None = ap (λ k. option_map live_part (finmap.get s.grid.cells k)) (sym key) ∙ none in
+        sym (put_is ∙ elim (finmap.get s.grid.cells (cell_of r f)) as (λ o. option_map live_part o ≡ None → with_change s.grid.cells (cell_of r f) (with_live (total_of r (cell_of r f) (facts_of columns_after))) o ≡ s.grid.cells) [
+          | None ↦ λ e. refl
+          | Some p ↦ λ e. absurd (none-some p.live (sym e))
+        ] gone)
+
+    -- instead of a value, where the rest is determined
+    pub put_corrected : (v : ℤ) (a rest new : Aggregate) → old ≡ Some v → option_map live_part (finmap.get s.grid.cells (cell_in s.grid.rollup_series index l)) ≡ Some a → IsOnlyRest IsSound merged a (aggregate_of_one f.time v) rest
+        → new ≡ merged (aggregate_of_one f.time f.value) rest → corrected_in s l index new ≡ put_cell r f (facts_of columns_after) s.grid.cells
+    put_corrected v a rest new was there determined made =
+        let there' : option_map live_part (finmap.get s.grid.cells (cell_of r f)) ≡ Some a = ap (λ k. option_map live_part (finmap.get s.grid.cells k)) (sym key) ∙ there in
+        let whole : a ≡ total_of r (cell_of r f) (facts_of before) =
+        elim (finmap.get s.grid.cells (cell_of r f)) as (λ o. finmap.get s.grid.cells (cell_of r f) ≡ o → option_map live_part o ≡ Some a → a ≡ total_of r (cell_of r f) (facts_of before)) [
+          | None ↦ λ g e. absurd (none-some a e)
+          | Some p ↦ λ g e. sym (same_Some p.live a e) ∙ over.live.0 (cell_of r f) p g
+        ] refl there' in
+        ap (λ k. changed s.grid.cells k (with_live new)) key
+        ∙ ap (λ x. changed s.grid.cells (cell_of r f) (with_live x)) made
+        ∙ correct_puts before columns_after f put.distinct put.put r s.grid.cells over.live.0 is_its.0 (record { column = f.column; time = f.time; value = v }) (subst (WasThere before f) was put.was) rest
+        (subst (λ x. IsOnlyRest IsSound merged x (aggregate_of_one f.time v) rest) whole determined)
+
+    -- and where it isn't, folded anew
+    pub put_folded : (new : Aggregate) → AllDistinct s.grid.rollup_series → new ≡ rollup_series_total r s states l index → corrected_in s l index new ≡ put_cell r f (facts_of columns_after) s.grid.cells
+    put_folded new once made =
+        let total : new ≡ total_of r (cell_of r f) (facts_of columns_after) = made ∙ ap (rollup_series_total r s states l) at_index ∙ cell_total r s (cell_of r f) l cs states once is_its.1 over.each over.rollups.0 in
+        ap (λ k. changed s.grid.cells k (with_live new)) key
+        ∙ ap (λ x. changed s.grid.cells (cell_of r f) (with_live x)) total
+        ∙ sym put_is
 
 -- ---- what was there
 
 -- a fact that is there is found in its column
 fact_found : (cs : List Column) (ms : List PointMap) (n : ℕ) (g : Fact) → AllDistinct cs → slice_get cs n ≡ Some g.column → Among g (facts_of_columns cs ms) → finmap.get (get_or ms n finmap.empty) g.time ≡ Some g.value
-fact_found [] ms n g d at a = absurd (none-some g.column at)
-fact_found (c ∷ cs) [] n g d at a = absurd a
 fact_found (c ∷ cs) (m ∷ ms) zero g d at a =
     ⊎_elim {C = finmap.get m g.time ≡ Some g.value}
     (λ h. get-entries m g.time ∙ found_among int_cmp_total (entries m) (entries_sorted m) (g.time, g.value) (in_column c (entries m) g h).1)
@@ -58,16 +143,16 @@ fact_found (c ∷ cs) (m ∷ ms) (suc n) g d at a =
     (λ h. absurd (d.0 (subst (λ x. Among x cs) (in_column c (entries m) g h).0 (at_among cs n g.column at))))
     (λ h. fact_found cs ms n g d.1 at h)
     (Among-append g (facts_in c m) (facts_of_columns cs ms) a)
+fact_found _ _ n g d at a = absurd a
 
 -- and what is found is there
 found_there : (cs : List Column) (ms : List PointMap) (n : ℕ) (g : Fact) → length ms ≡ length cs → slice_get cs n ≡ Some g.column → finmap.get (get_or ms n finmap.empty) g.time ≡ Some g.value → Among g (facts_of_columns cs ms)
-found_there [] ms n g l at h = absurd (none-some g.column at)
-found_there (c ∷ cs) [] n g l at h = absurd (omega (arith, l))
 found_there (c ∷ cs) (m ∷ ms) zero g l at h =
     Among-left g (facts_in c m) (facts_of_columns cs ms)
     (subst (λ x. Among (record { column = x; time = g.time; value = g.value }) (facts_in c m)) (same_Some c g.column at)
     (to_column c (entries m) (g.time, g.value) (among_found int_cmp-IsAntisymmetric (entries m) g.time g.value (sym (get-entries m g.time) ∙ h))))
 found_there (c ∷ cs) (m ∷ ms) (suc n) g l at h = Among-right g (facts_in c m) (facts_of_columns cs ms) (found_there cs ms n g (omega (arith, l)) at h)
+found_there _ _ n g l at h = search rules
 
 pub was_there : (cs : List Column) (ms : List PointMap) (n : ℕ) (f : Fact) (old : Option ℤ) → AllDistinct cs → length ms ≡ length cs → slice_get cs n ≡ Some f.column → old ≡ finmap.get (get_or ms n finmap.empty) f.time → WasThere (with_points cs ms) f old
 was_there cs ms n f None d l at e = λ g a.
@@ -144,9 +229,9 @@ module _ (cs : List Column) (ss : List ColumnState) (n : ℕ) (f : Fact) (once :
 -- ---- under each rule
 
 -- each has an entry for the column
-pub inside_each : (n m k : ℕ) (ss : List RollupState) → k ≡ n → n < m → AllByRecursion (λ (s : RollupState). length s.series_of_column ≡ m) ss → AllByRecursion (λ (s : RollupState). k < length s.series_of_column) ss
-inside_each n m k [] e l all = tt
-inside_each n m k (s ∷ ss) e l all = (let h = all.0 in omega (arith, e, l, h), inside_each n m k ss e l all.1)
+pub wide_first : (n : ℕ) (ss : List RollupState) (m : ℕ) → m < n → AllByRecursion (λ (s : RollupState). length s.series_of_column ≡ n) ss → AllByRecursion (λ (s : RollupState). m < length s.series_of_column) ss
+wide_first n [] m l h = tt
+wide_first n (s ∷ ss) m l h = (subst (λ k. m < k) (sym h.0) l, wide_first n ss m l h.1)
 
 -- a column without a rollup series
 pub without_rollup_series : (o : Option ℕ) → is_some o ≡ false → o ≡ None
@@ -169,27 +254,23 @@ module _ (states : List ColumnState) (column : ℕ) (time value : ℤ) (old : Op
 
   -- the rollups of all rules do
   pub all_put : (rs : List Rule) (ss ts : List RollupState) → ChangesBeside PutsUnder rs ss ts → PutsPoint rs states column time value old ss ts
-  all_put [] ss ts h = λ cs before f over put. ap cells_of h
-  all_put (r ∷ rs) [] ts h = λ cs before f over put. ap cells_of h
   all_put (r ∷ rs) (s ∷ ss) [] h = absurd h
   all_put (r ∷ rs) (s ∷ ss) (t ∷ ts) h = λ cs before f over put.
       ap₂ (λ (ms ns : List CellMap). ms ++ ns) (h.0.1 cs before f (first_over r rs cs states before s ss over) put) (all_put rs ss ts h.1 cs before f (others_over r rs cs states before s ss over) put)
+  all_put _ _ _ h = λ cs before f over put. ap cells_of h
 
 pub grids_kept_then : (ss ts us : List RollupState) → ts ≡ with_all_grid_cells (cells_of ts) ss → us ≡ with_all_grid_cells (cells_of us) ts → us ≡ with_all_grid_cells (cells_of us) ss
 grids_kept_then [] [] us e f = f
-grids_kept_then [] (t ∷ ts) us e f = absurd (let n : length (t ∷ ts) ≡ 0 = ap (λ (xs : List RollupState). length xs) e in omega (arith, n))
-grids_kept_then (s ∷ ss) [] us e f = absurd (let n : 0 ≡ length (s ∷ ss) = ap (λ (xs : List RollupState). length xs) e in omega (arith, n))
-grids_kept_then (s ∷ ss) (t ∷ ts) [] e f = absurd (let n : 0 ≡ length (t ∷ ts) = ap (λ (xs : List RollupState). length xs) f in omega (arith, n))
 grids_kept_then (s ∷ ss) (t ∷ ts) (u ∷ us) e f =
     let head : (xs : List RollupState) → RollupState = λ xs. get_or xs 0 s in
     let one : t ≡ with_grid_cells t.grid.cells s = ap head e in
     let two : u ≡ with_grid_cells u.grid.cells t = ap head f in
     ap₂ (λ (x : RollupState) (xs : List RollupState). x ∷ xs) (two ∙ ap (with_grid_cells u.grid.cells) one) (grids_kept_then ss ts us (ap (λ (xs : List RollupState). drop 1 xs) e) (ap (λ (xs : List RollupState). drop 1 xs) f))
+grids_kept_then _ _ _ e f = cc
 
 wide_with : (n : ℕ) (ms : List CellMap) (ss : List RollupState) → AllByRecursion (λ (s : RollupState). length s.series_of_column ≡ n) ss → AllByRecursion (λ (s : RollupState). length s.series_of_column ≡ n) (with_all_grid_cells ms ss)
-wide_with n [] ss all = all
-wide_with n (m ∷ ms) [] all = tt
 wide_with n (m ∷ ms) (s ∷ ss) all = (all.0, wide_with n ms ss all.1)
+wide_with n _ ss all = all
 
 -- each has as many columns as before
 pub wide_still : (n : ℕ) (ss ts : List RollupState) → ts ≡ with_all_grid_cells (cells_of ts) ss → AllByRecursion (λ (s : RollupState). length s.series_of_column ≡ n) ss → AllByRecursion (λ (s : RollupState). length s.series_of_column ≡ n) ts
@@ -274,8 +355,7 @@ line_puts rs lows cs ss ss' n ns ns' x xs xs' time after us us' ends (f ∷ fs) 
 -- nothing is staged
 none_puts : (cs : List Column) (ss : List ColumnState) (ns : List ℕ) (columns : List ColumnPoints) (rs : List RuleData) (fs : List Fact) → length ns ≡ 0 → AreStaged cs ss ns fs → PutsFacts columns rs columns rs fs
 none_puts cs ss [] columns rs [] e a = (refl, refl)
-none_puts cs ss [] columns rs (f ∷ fs) e a = absurd a
-none_puts cs ss (n ∷ ns) columns rs fs e a = absurd (let z : ⊥ = omega arith in z)
+none_puts cs ss _ columns rs fs e a = absurd (omega arith)
 
 -- ---- the loop over the columns of a line
 
@@ -336,11 +416,8 @@ of_fields p time e (x ∷ xs) = ((e, refl), of_fields p time e xs)
 
 pub wide_of : (rs : List Rule) (cs : List Column) (n : ℕ) (ss : List RollupState) → AreRollups rs cs ss → n ≡ length cs → AllByRecursion (λ (s : RollupState). length s.series_of_column ≡ n) ss
 wide_of [] cs n [] a e = tt
-wide_of [] cs n (s ∷ ss) a e = absurd a
-wide_of (r ∷ rs) cs n [] a e = absurd a
 wide_of (r ∷ rs) cs n (s ∷ ss) a e = (rollup_series-length r s.grid.rollup_series cs s.series_of_column a.0 ∙ sym e, wide_of rs cs n ss a.1 e)
+wide_of _ cs n _ a e = search rules
 
 pub live_same : (before after : List ColumnPoints) → facts_of before ≡ facts_of after → (rs : List Rule) (ms : List CellMap) → OfEach (IsLive before) rs ms → OfEach (IsLive after) rs ms
-live_same before after e [] ms a = tt
-live_same before after e (r ∷ rs) [] a = tt
-live_same before after e (r ∷ rs) (m ∷ ms) a = (λ k p g. a.0 k p g ∙ ap (total_of r k) e, live_same before after e rs ms a.1)
+live_same before after e = OfEach-weaker (IsLive before) (IsLive after) (λ r m live k p g. live k p g ∙ ap (total_of r k) e)

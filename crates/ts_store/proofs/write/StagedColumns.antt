@@ -1,11 +1,12 @@
 -- Facts of columns after staged points are committed.
-use Rattle.std.proofs.Common.{◌≡◌, ℕ, zero, suc, ℤ, ◌+◌, ◌<◌, not, cond, List, [], ◌∷◌, ◌++◌, length, map, filter, set, get_or, refl, sym, ◌∙◌, ap, subst, take, drop, true≢false, inl, inr, ⊎_elim, arith, Option, Some, None, IsSome, IfSome}
+use Rattle.std.proofs.Common.{rules, ◌≡◌, ℕ, zero, suc, ℤ, ◌+◌, ◌<◌, not, cond, List, [], ◌∷◌, ◌++◌, length, map, filter, set, get_or, refl, sym, ◌∙◌, ap, subst, take, drop, true≢false, inl, inr, ⊎_elim, arith, Option, Some, None, IsSome, IfSome}
 use Rattle.std.specs.List.{slice_get}
 use Rattle.std.specs.FinMap as finmap
-use Rattle.std.proofs.lemmas.List.{append-nil, take-append-drop, get_or_default, get_or-set_same, append_assoc, map-append, length-append, take_more, map-set, get_or-set_other, length-set, length-map, get_or_append_left}
+use Rattle.std.proofs.lemmas.List.{append-nil, take-append-drop, get_or-set_same, append_assoc, map-append, length-append, take_more, map-set, get_or-set_other, length-set, length-map, get_or_append_left}
 use Rattle.std.proofs.lemmas.Option.{slice_get_within, get_or_from_slice_get, none-some, same_Some}
 use Rattle.std.proofs.lemmas.List.Elements.{filter-append}
 use Rattle.std.proofs.Math.Seq.{map-set_same}
+use Rattle.std.proofs.lemmas.Slice.Zip.{all_zipped_more}
 use Rattle.ts_core.specs.lists.Members.{Among, AllDistinct}
 use Rattle.ts_core.specs.facts.Facts.{Text, Column, Fact}
 use Rattle.ts_line.specs.Parts.{LinePart, Parts, field_text, series_of, fact_of, line_facts}
@@ -43,26 +44,23 @@ one_committed cs ss n f d l at is =
 -- staged points of other columns stay
 pub staged_others : (cs : List Column) (ss : List ColumnState) (ns : List ℕ) (fs : List Fact) (n : ℕ) (s : ColumnState) → (Among n ns → ⊥) → AreStaged cs ss ns fs → AreStaged cs (set ss n s) ns fs
 staged_others cs ss [] [] n s away a = tt
-staged_others cs ss [] (f ∷ fs) n s away a = absurd a
-staged_others cs ss (m ∷ ns) [] n s away a = absurd a
 staged_others cs ss (m ∷ ns) (f ∷ fs) n s away a = (
   (a.0.0, ap (λ (t : ColumnState). t.staged) (get_or-set_other ss n m s no_column (λ e. away (inl (sym e)))) ∙ a.0.1),
   staged_others cs ss ns fs n s (λ k. away (inr k)) a.1,
 )
+staged_others cs ss _ _ n s away a = search rules
 
 -- the column of a number that has a staged point is the column of one of the facts
 column_of_number : (cs : List Column) (ss : List ColumnState) (ns : List ℕ) (fs : List Fact) (n : ℕ) (c : Column) → AreStaged cs ss ns fs → slice_get cs n ≡ Some c → Among n ns
     → Among c (map (λ (f : Fact). f.column) fs)
-column_of_number cs ss [] fs n c a at k = absurd k
-column_of_number cs ss (m ∷ ns) [] n c a at k = absurd a
 column_of_number cs ss (m ∷ ns) (f ∷ fs) n c a at k =
     ⊎_elim {C = Among c (map (λ (g : Fact). g.column) (f ∷ fs))} (λ e. inl (same_Some c f.column (sym at ∙ ap (slice_get cs) e ∙ a.0.0)))
     (λ q. inr (column_of_number cs ss ns fs n c a.1 at q)) k
+column_of_number cs ss _ _ n c a at k = absurd (omega arith)
 
 pub numbers_distinct : (cs : List Column) (ss : List ColumnState) (ns : List ℕ) (fs : List Fact) → AreStaged cs ss ns fs → AllDistinct (map (λ (f : Fact). f.column) fs) → AllDistinct ns
-numbers_distinct cs ss [] fs a d = tt
-numbers_distinct cs ss (n ∷ ns) [] a d = absurd a
 numbers_distinct cs ss (n ∷ ns) (f ∷ fs) a d = (λ k. d.0 (column_of_number cs ss ns fs n f.column a.1 a.0.0 k), numbers_distinct cs ss ns fs a.1 d.1)
+numbers_distinct cs ss _ _ a d = search rules
 
 pub same_names : (cs : List Column) (ss : List ColumnState) (n : ℕ) (s : ColumnState) → length ss ≡ length cs → map column_of (with_points cs (point_maps (set ss n s))) ≡ map column_of (with_points cs (point_maps ss))
 same_names cs ss n s l =
@@ -76,10 +74,7 @@ all_committed-length ss (n ∷ ns) = all_committed-length (set ss n (committed (
 
 pub staged_push : (cs : List Column) (ss : List ColumnState) (ns : List ℕ) (fs : List Fact) (n : ℕ) (f : Fact) → AreStaged cs ss ns fs → slice_get cs n ≡ Some f.column
     → (get_or ss n no_column).staged ≡ Some (f.time, f.value) → AreStaged cs ss (ns ++ n ∷ []) (fs ++ f ∷ [])
-staged_push cs ss [] [] n f a at is = ((at, is), tt)
-staged_push cs ss [] (g ∷ fs) n f a at is = absurd a
-staged_push cs ss (m ∷ ns) [] n f a at is = absurd a
-staged_push cs ss (m ∷ ns) (g ∷ fs) n f a at is = (a.0, staged_push cs ss ns fs n f a.1 at is)
+staged_push cs ss ns fs n f a at is = all_zipped_more (IsFactStaged cs ss) ns fs n f a (at, is)
 
 pub slice_get_left : {X : Type 0} (xs ys : List X) (n : ℕ) (x : X) → slice_get xs n ≡ Some x → slice_get (xs ++ ys) n ≡ Some x
 slice_get_left [] ys n x e = absurd (none-some x e)
@@ -100,12 +95,9 @@ staged_leaves ss n old new is e = map-set_same (λ (t : ColumnState). t.points) 
 
 -- ---- the facts of a line are of different columns
 
-column_text : (p : Parts) (f g : LinePart × ℤ) → (fact_of p f).column ≡ (fact_of p g).column → field_text f ≡ field_text g
-column_text p f g e = ap (λ (c : Column). c.field) e
-
 text_among : (p : Parts) (f : LinePart × ℤ) (fields : List (LinePart × ℤ)) → Among (fact_of p f).column (map (λ (x : Fact). x.column) (map (fact_of p) fields)) → Among (field_text f) (map field_text fields)
 text_among p f [] a = absurd a
-text_among p f (g ∷ fields) a = ⊎_elim {C = Among (field_text f) (map field_text (g ∷ fields))} (λ e. inl (column_text p f g e)) (λ k. inr (text_among p f fields k)) a
+text_among p f (g ∷ fields) a = ⊎_elim {C = Among (field_text f) (map field_text (g ∷ fields))} (λ e. inl (ap (λ (c : Column). c.field) e)) (λ k. inr (text_among p f fields k)) a
 
 pub line_columns : (p : Parts) (fields : List (LinePart × ℤ)) → AllDistinct (map field_text fields) → AllDistinct (map (λ (f : Fact). f.column) (map (fact_of p) fields))
 line_columns p [] d = tt
@@ -131,23 +123,15 @@ ready_others ss (m ∷ ns) n s away r = (
   ready_others ss ns n s (λ k. away (inr k)) r.3,
 )
 
-pub next_committed : (ss : List ColumnState) (n : ℕ) (ns : List ℕ) (s t : ColumnState) → AreReady ss (n ∷ ns) → s ≡ get_or ss n s → IfSome s.staged (λ (p : ℤ × ℤ). t.points ≡ finmap.insert s.points p.0 p.1) → t.staged ≡ None
-    → (all_committed ss (n ∷ ns) ≡ all_committed (set ss n t) ns) × AreReady (set ss n t) ns
-next_committed ss n ns s t r is put none =
-    let same : s ≡ get_or ss n no_column = is ∙ get_or_default ss n s no_column r.0 in
-    let after : t ≡ committed (get_or ss n no_column) = committed_is s t put (subst (λ (u : ColumnState). IsSome u.staged) (sym same) r.1) none ∙ ap committed same in
-    (ap (λ (u : ColumnState). all_committed (set ss n u) ns) (sym after), ready_others ss ns n t r.2 r.3)
-
 -- staged points of distinct columns are ready
 pub ready_of : (cs : List Column) (ss : List ColumnState) (ns : List ℕ) (fs : List Fact) → length ss ≡ length cs → AreStaged cs ss ns fs → AllDistinct ns → AreReady ss ns
-ready_of cs ss [] fs l a d = tt
-ready_of cs ss (n ∷ ns) [] l a d = absurd a
 ready_of cs ss (n ∷ ns) (f ∷ fs) l a d = (
   let w = slice_get_within cs n f.column a.0.0 in omega (arith, w, l),
   subst (λ (o : Option (ℤ × ℤ)). IsSome o) (sym a.0.1) refl,
   d.0,
   ready_of cs ss ns fs l a.1 d.1,
 )
+ready_of cs ss _ _ l a d = search rules
 
 -- ---- one field after another
 
@@ -158,11 +142,10 @@ field_at (f ∷ fields) (suc i) x l e = inr (field_at fields i x (omega (arith, 
 
 -- the name of a field isn't before it
 fresh : (fields : List (LinePart × ℤ)) (i : ℕ) (x : LinePart × ℤ) → AllDistinct (map field_text fields) → i < length fields → x ≡ get_or fields i x → Among (field_text x) (map field_text (take i fields)) → ⊥
-fresh [] i x d l e a = absurd (omega arith)
-fresh (f ∷ fields) zero x d l e a = absurd a
 fresh (f ∷ fields) (suc i) x d l e a =
     ⊎_elim {C = ⊥} (λ q. d.0 (subst (λ t. Among t (map field_text fields)) q (Among-map field_text x fields (field_at fields i x (omega (arith, l)) e))))
     (λ k. fresh fields i x d.1 (omega (arith, l)) e k) a
+fresh _ _ x d l e a = absurd (omega arith)
 
 pub grown_staged : (c : Column) (cs cs' : List Column) (ss ss' : List ColumnState) (ns : List ℕ) (fs : List Fact) → length ss ≡ length cs → MayGrow c cs ss cs' ss' → AreStaged cs ss ns fs
     → AreStaged cs' ss' ns fs × (length ss' ≡ length cs')

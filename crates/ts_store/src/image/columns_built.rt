@@ -26,10 +26,11 @@ impl<A: Allocator + Copy> ColumnFacts<A> {
         ensures ok { OnOk result (self.new ≡ record { series = self.old.series ++ key.now ∷ []; columns = self.old.columns; rollups = self.old.rollups }) }
         ensures err { OnErr result (self.new ≡ self.old) }
     {
-        match self.index.register(key) {
-            Ok(series) => Ok(series),
-            Err(_) => Err(AllocError),
-        }
+        let series = match self.index.register(key) {
+            Ok(series) => series,
+            Err(_) => return Err(AllocError),
+        };
+        Ok(series)
     }
 
     /// Adds a column, which must be new, with its points. On allocation failure, no column and no cell changes.

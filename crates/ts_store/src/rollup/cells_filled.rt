@@ -7,12 +7,13 @@ ghost use Rattle.ts_core.specs.lists.Numbered.{IsAt};
 ghost use Rattle.ts_core.specs.lists.Beside.{OfEach};
 ghost use Rattle.ts_core.specs.store.StoreData.{IsLive, OfEachRule};
 ghost use Rattle.ts_core.specs.store.StoreStates.{column_of, facts_at, facts_of};
-ghost use Rattle.ts_store.specs.image.BuildingParts.{AreIdle, MakesCells, FillsCells, KeepsFrozen, KeepFrozen, IsFilledBut, AreFilledBut};
+ghost use Rattle.ts_store.specs.image.BuildingParts.{AreIdle, MakesCells, FillsCells, KeepFrozen, AreFilledBut};
 ghost use Rattle.ts_store.specs.store.ColumnStates.{with_points, point_maps};
 ghost use Rattle.ts_store.specs.store.RuleLists.{rules_with};
 ghost use Rattle.ts_store.specs.read.PointsRead.{number_of_points};
 ghost use Rattle.ts_store.specs.retain.RollupSteps.{with_all_grid_cells};
-ghost use Rattle.ts_store.specs.rollup.Rollups.{AreRollups, IsRollupSeriesOf, cells_of, rollup_series_at, with_grid_cells};
+ghost use Rattle.ts_store.specs.rollup.PointsFilled.{MakesPoints, AddsPoints};
+ghost use Rattle.ts_store.specs.rollup.Rollups.{AreRollups, cells_of, rollup_series_at, with_grid_cells};
 
 use crate::rollup::Rollup;
 use crate::rollup::bucket_points::{ROOM, take_bucket};
@@ -33,7 +34,7 @@ fn make_run<A: Allocator + Copy>(
     requires interval { pos 1 ≤ℤ rule.now.interval }
     requires series { series < length rollup.old.grid.rollup_series }
     ensures kept { rollup.new ≡ with_grid_cells rollup.new.grid.cells rollup.old }
-    ensures cells { (c : Column) → IsRollupSeriesOf rule.now c rollup.old.grid.rollup_series (Some series) → OnOk result (MakesCells (facts_at c run.entry) rule.now low.now rollup.old.grid.cells rollup.new.grid.cells) }
+    ensures cells { OnOk result (MakesPoints rule.now low.now (Some series) run.entry rollup.old rollup.new) }
 {
     let mut run = run;
     while let Some((index, _)) = take_bucket(rule, &mut run) {
@@ -55,7 +56,7 @@ fn make_cells<A: Allocator + Copy>(
     requires interval { pos 1 ≤ℤ rule.now.interval }
     requires column { column < length rollup.old.series_of_column }
     ensures kept { rollup.new ≡ with_grid_cells rollup.new.grid.cells rollup.old }
-    ensures cells { (c : Column) → IsRollupSeriesOf rule.now c rollup.old.grid.rollup_series (rollup_series_at rollup.old column) → OnOk result (MakesCells (facts_at c points.entry) rule.now low.now rollup.old.grid.cells rollup.new.grid.cells) }
+    ensures cells { OnOk result (MakesPoints rule.now low.now (rollup_series_at rollup.old column) points.entry rollup.old rollup.new) }
 {
     let Some(series) = rollup.rollup_series_of(column) else {
         return Ok(());
@@ -123,9 +124,7 @@ fn add_run<A: Allocator + Copy>(
     requires interval { pos 1 ≤ℤ rule.now.interval }
     requires series { series < length rollup.old.grid.rollup_series }
     requires few { length run ≤ 2 ^ 62 }
-    ensures kept { rollup.new ≡ with_grid_cells rollup.new.grid.cells rollup.old }
-    ensures frozen { KeepsFrozen rollup.old.grid.cells rollup.new.grid.cells }
-    ensures live { (c : Column) (left all : List Fact) → IsRollupSeriesOf rule.now c rollup.old.grid.rollup_series (Some series) → length all ≤ 2 ^ 62 → IsFilledBut (facts_at c run.entry ++ left) all rule.now rollup.old.grid.cells → IsFilledBut left all rule.now rollup.new.grid.cells }
+    ensures { AddsPoints rule.now (Some series) run.entry rollup.old rollup.new }
 {
     let mut run = run;
     while let Some((index, points)) = take_bucket(rule, &mut run) {
@@ -143,9 +142,7 @@ fn add_points<A: Allocator + Copy>(
     requires interval { pos 1 ≤ℤ rule.now.interval }
     requires column { column < length rollup.old.series_of_column }
     requires few { length points ≤ 2 ^ 62 }
-    ensures kept { rollup.new ≡ with_grid_cells rollup.new.grid.cells rollup.old }
-    ensures frozen { KeepsFrozen rollup.old.grid.cells rollup.new.grid.cells }
-    ensures live { (c : Column) (left all : List Fact) → IsRollupSeriesOf rule.now c rollup.old.grid.rollup_series (rollup_series_at rollup.old column) → length all ≤ 2 ^ 62 → IsFilledBut (facts_at c points.entry ++ left) all rule.now rollup.old.grid.cells → IsFilledBut left all rule.now rollup.new.grid.cells }
+    ensures { AddsPoints rule.now (rollup_series_at rollup.old column) points.entry rollup.old rollup.new }
 {
     let Some(series) = rollup.rollup_series_of(column) else {
         return;
@@ -212,8 +209,9 @@ impl<A: Allocator + Copy> ColumnFacts<A> {
         ensures { OnOk result (FillsCells rules.now lows.now self.old self.new) }
     {
         let columns = self.columns.as_slice();
-        make_all_cells(rules, lows, self.rollups.as_mut_slice(), columns)?;
-        add_all_points(rules, self.rollups.as_mut_slice(), columns);
+        let rollups = self.rollups.as_mut_slice();
+        make_all_cells(rules, lows, rollups, columns)?;
+        add_all_points(rules, rollups, columns);
         Ok(())
     }
 }

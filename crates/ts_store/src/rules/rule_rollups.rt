@@ -56,13 +56,10 @@ impl<A: Allocator + Copy> ColumnFacts<A> {
         let rules = vec_of(alloc, rule.try_clone(alloc)?)?;
         let mut rollups = vec_of(alloc, rollup_over(alloc, rule, &self.index)?)?;
         let columns = self.columns.as_slice();
-        make_all_cells(
-            rules.as_slice(),
-            slice::from_ref(low),
-            rollups.as_mut_slice(),
-            columns,
-        )?;
-        add_all_points(rules.as_slice(), rollups.as_mut_slice(), columns);
+        let one_rule = rules.as_slice();
+        let one_rollup = rollups.as_mut_slice();
+        make_all_cells(one_rule, slice::from_ref(low), one_rollup, columns)?;
+        add_all_points(one_rule, one_rollup, columns);
         Ok(rollups.pop().unwrap())
     }
 

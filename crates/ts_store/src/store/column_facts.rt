@@ -107,27 +107,25 @@ impl<A: Allocator + Copy> ColumnFacts<A> {
         self.touched.clear();
         self.touched.reserve(line.fields().len())?;
         list_buckets(&mut self.buckets, rules, line.time())?;
+        let rollups = self.rollups.as_mut_slice();
         prepare_line(
             &mut self.index,
             &mut self.columns,
             rules,
-            self.rollups.as_mut_slice(),
+            rollups,
             &mut self.touched,
             series,
             line,
         )?;
-        create_cells(
-            self.buckets.as_slice(),
-            lows,
-            self.rollups.as_mut_slice(),
-            self.touched.as_slice(),
-        )?;
+        let buckets = self.buckets.as_slice();
+        let touched = self.touched.as_slice();
+        create_cells(buckets, lows, rollups, touched)?;
         commit_points(
             &mut self.columns,
             rules,
-            self.buckets.as_slice(),
-            self.rollups.as_mut_slice(),
-            self.touched.as_slice(),
+            buckets,
+            rollups,
+            touched,
             line.fields(),
             line.time(),
         );

@@ -46,6 +46,7 @@ fn commit_rollups<A: Allocator + Copy>(rollups: &mut [Rollup<A>], column: Column
 
 /// Creates the column of a series and a field, without points, with its rollup series under each rule.
 #[cold]
+#[tactic(auto, using(crate::proofs::rollup::RollupsGrow::cells_kept, crate::proofs::rollup::RollupsGrow::rollups_kept))]
 pub(crate) fn make_column<A: Allocator + Copy>(
     index: &mut Index<A>,
     columns: &mut Vec<StoredColumn<A>, A>,
@@ -95,6 +96,7 @@ fn column_for<A: Allocator + Copy>(
 }
 
 /// Stages a point in a column, and appends the column to `touched`. Changes no points.
+#[tactic(auto, using(crate::proofs::write::StagedColumns::staged_leaves))]
 fn prepare_at<A: Allocator + Copy>(
     columns: &mut Vec<StoredColumn<A>, A>,
     touched: &mut Vec<ColumnId, A>,

@@ -1,7 +1,7 @@
 use Rattle.std.proofs.Common.{rules, ◌≡◌, ◌∙◌, ◌+◌, [], ◌∷◌, ◌++◌, get_or, cond, is_ok, ap, arith, length}
 use Rattle.std.proofs.lemmas.List.{length_push}
 use Rattle.ts_store.specs.rollup.ColumnLists.{lists_in}
-use Rattle.ts_store.proofs.rollup.RollupLemmas.{rollup_series_made, gains-length, gains-least, gains-extends, gains-distinct}
+use Rattle.ts_store.proofs.rollup.RollupLemmas.{rollup_series_made, gains-length, gains-extends, gains-distinct}
 use Rattle.ts_store.proofs.rollup.listed_rollup_series.Goals as goal
 use Rattle.ts_store.proofs.rollup.listed_rollup_series.Goals.{then-len-series_count, else-len-series_count}
 
@@ -12,13 +12,13 @@ returns-clause-kept g c =
     record {
       each = elim c.if-len-series_count.branch [
         | then-len-series_count w ↦
-            let few = gains-length _ _ _ gains in
+            let few = (gains-length _ _ _ gains).1 in
             let more : length c.if-len-series_count.columns.items ≡ length c.reserve_eighth.new.list.items + 1 =
             ap (λ v. length v.items) w.columns-is ∙ ap length (w.push.ensures.items ∙ ap (λ r. cond (is_ok r) (c.reserve_eighth.new.list.items ++ w.new.result ∷ []) c.reserve_eighth.new.list.items) w.unwrap.ensures)
             ∙ length_push c.reserve_eighth.new.list.items w.new.result in
             let test = w.if-len-series_count.true in omega (arith, few, same, more, test, c.requires.each, c.len.ensures, c.series_count.ensures, c.reserve_eighth.new.list.ok.0)
         | else-len-series_count w ↦
-            let least = gains-least _ _ _ gains in
+            let least = (gains-length _ _ _ gains).0 in
             let e = ap (λ v. length v.items) w.columns-is in
             let test = w.if-len-series_count.false in omega (arith, least, same, e, test, c.requires.each, c.len.ensures, c.series_count.ensures, c.reserve_eighth.new.list.ok.0)
       ];

@@ -2,7 +2,7 @@ use Rattle.std.proofs.Common.{rules, ◌≡◌, ◌∙◌, ap, sym, Equal}
 use Rattle.std.specs.Ordering.{ordering_then}
 use Rattle.std.specs.Cmp.Lexicographic.{slice_cmp}
 use Rattle.ts_core.specs.facts.Facts.{text_cmp, tag_cmp}
-use Rattle.ts_store.proofs.image.SavedOrders.{tags_ordered}
+use Rattle.ts_store.proofs.image.ListedColumns.{tags_ordered}
 use Rattle.ts_store.proofs.image.saved_series.compare_keys.Goals as goal
 
 pub returns-in-Equal : goal.returns-in-Equal

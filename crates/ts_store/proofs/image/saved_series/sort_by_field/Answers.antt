@@ -1,7 +1,7 @@
 use Rattle.std.proofs.Common.{rules}
 use Rattle.std.proofs.lemmas.Cmp.{nat_list_cmp_total}
 use Rattle.ts_store.specs.image.SavedContent.{saved_field}
-use Rattle.ts_store.proofs.image.SavedOrders.{sorted_by}
+use Rattle.ts_store.proofs.image.ListedColumns.{sorted_by}
 use Rattle.ts_store.proofs.image.saved_series.sort_by_field.Goals as goal
 
 pub returns-clause-sorted : goal.returns-clause-sorted

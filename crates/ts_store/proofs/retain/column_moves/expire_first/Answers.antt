@@ -4,8 +4,7 @@ use Rattle.ts_cells.specs.Expiry.{IsAbove}
 use Rattle.ts_store.specs.rollup.ChangedLists.{FirstChanges}
 use Rattle.ts_store.specs.retain.WholeRuns.{LosesCells}
 use Rattle.ts_store.specs.write.CellsCreated.{KeepsRollupSeries}
-use Rattle.ts_store.proofs.retain.RollupExpiry.{IsExpired, none_expired, first_expired}
-use Rattle.ts_store.proofs.rollup.ChangedListsLemmas.{next_changed, last_changed, all_changed, grids_beside}
+use Rattle.ts_store.proofs.rollup.ChangedListsLemmas.{IsExpired, none_expired, first_expired, next_changed, last_changed, all_changed, grids_beside}
 use Rattle.ts_store.proofs.retain.column_moves.expire_first.Goals as goal
 
 pub loop-i-preserved : goal.loop-i-preserved

@@ -1,6 +1,6 @@
 use Rattle.std.proofs.Common.{take}
 use Rattle.ts_store.specs.rollup.ChangedLists.{ChangesBeside}
-use Rattle.ts_store.proofs.retain.RollupExpiry.{IsExpired}
+use Rattle.ts_store.proofs.rollup.ChangedListsLemmas.{IsExpired}
 use Rattle.ts_store.proofs.retain.column_moves.expire_first.Given as goal
 
 abbrev pub invariant-loop-i : goal.invariant-loop-i

@@ -1,14 +1,14 @@
-use Rattle.std.proofs.Common.{rules, ◌≡◌, ◌∙◌, ◌<◌, ℤ, List, length, Some, None, sym, subst}
+use Rattle.std.proofs.Common.{rules, ◌≡◌, ◌∙◌, ℤ, Some, None, sym}
 use Rattle.std.proofs.lemmas.Option.{none-some}
 use Rattle.ts_core.specs.settings.Settings.{Rule}
 use Rattle.ts_core.specs.aggregates.Aggregates.{merged, IsSound}
 use Rattle.ts_core.specs.aggregates.Remainders.{IsOnlyRest}
 use Rattle.ts_core.specs.store.Cells.{total_of}
-use Rattle.ts_cells.specs.Grids.{RollupSeries, cell_at}
+use Rattle.ts_cells.specs.Grids.{cell_at}
 use Rattle.ts_store.specs.rollup.Rollups.{RollupState, rollup_series_under, rollup_series_at}
 use Rattle.ts_store.specs.retain.RollupSteps.{facts_left}
 use Rattle.ts_store.proofs.retain.PointsFrozen.{with_grid}
-use Rattle.ts_store.proofs.retain.Refolds.{left_folded, left_determined, bucket_replaced, bucket_missing}
+use Rattle.ts_store.proofs.retain.BucketsMoved.{left_folded, left_determined, bucket_replaced, bucket_missing}
 use Rattle.ts_store.proofs.retain.freezing.move_bucket.Goals.{in-Some-without, in-None}
 use Rattle.ts_store.proofs.retain.freezing.move_bucket.Goals as goal
 
@@ -23,13 +23,6 @@ returns-in_default-live-clause-cells g c = λ cs d its.
     let series : rollup_series_at s c.args.column ≡ Some c.in-Some.series = search rules in
     let none : c.live.result ≡ None = search rules in
     bucket_missing c.args.rule.now c.args.mark cs d c.args.columns.now s c.args.column c.in-Some.series c.args.index.now its.over its.at series c.args.part (sym c.live.ensures ∙ none)
-
-pub freeze-requires : goal.freeze-requires
-freeze-requires g c = subst (λ (t : RollupState). c.in-Some.series < length t.grid.rollup_series) (sym c.rollup.view_is) c.in-Some.ensures.inside
-
-pub correct-requires : goal.correct-requires
-correct-requires g c =
-    subst (λ (ls : List RollupSeries). c.in-Some.series < length ls) (sym c.freeze.ensures.kept) (subst (λ (t : RollupState). c.in-Some.series < length t.grid.rollup_series) (sym c.rollup.view_is) c.in-Some.ensures.inside)
 
 pub returns-clause-kept : goal.returns-clause-kept
 returns-clause-kept g c = with_grid _ _ c.correct.new.self c.rollup.view_is (c.correct.ensures.kept ∙ c.freeze.ensures.kept)

@@ -7,11 +7,12 @@ use Rattle.ts_core.proofs.aggregates.BucketsOrder.{bucket_is}
 use Rattle.ts_store.proofs.rollup.BucketsTakenLemmas.{same_until}
 use Rattle.ts_store.proofs.rollup.bucket_points.bucket_until.Goals as goal
 
--- an end after a valid time, and not above the greatest number of 64 bits, fits them
-end_fits : (t end : ℤ) → t <ℤ end → end ≤ℤ pos 9223372036854775807 → IsTime t → SFits w64 end
-end_fits t end after most valid =
+-- the end of the bucket of a valid time is after it, and fits 64 bits where it isn't above their greatest number
+end_fits : (t i o end : ℤ) → pos 1 ≤ℤ i → end ≡ bucket_start (bucket_of t i o +ℤ pos 1) i o → end ≤ℤ pos 9223372036854775807 → IsTime t → (t <ℤ end) × SFits w64 end
+end_fits t i o end long is most valid =
+    let after : t <ℤ end = subst (λ z. t <ℤ z) (sym is) (bucket_is t i o long).before_end in
     let least = valid.not_before in
-    omega (arith, ints)
+    (after, omega (arith, ints))
 
 pub returns-then-bucket-from-clause-same : goal.returns-then-bucket-from-clause-same
 returns-then-bucket-from-clause-same g c = λ t from before.
@@ -27,7 +28,7 @@ overflow_cast-result g c =
     let o : ℤ = c.args.rule.now.offset in
     let end : to_z w128 (of_z w128 c.bucket-bucket.result.end) ≡ bucket_start (bucket_of c.args.time i o +ℤ pos 1) i o = search rules in
     let most : to_z w128 (of_z w128 c.bucket-bucket.result.end) ≤ℤ pos 9223372036854775807 = search rules in
-    end_fits c.args.time (to_z w128 (of_z w128 c.bucket-bucket.result.end)) (subst (λ z. c.args.time <ℤ z) (sym end) (bucket_is c.args.time i o c.requires).before_end) most (subst IsTime c.nanos.ensures.value c.nanos.ensures.valid)
+    (end_fits c.args.time i o _ c.requires end most (subst IsTime c.nanos.ensures.value c.nanos.ensures.valid)).1
 
 pub returns-clause-after : goal.returns-clause-after
 returns-clause-after g c =
@@ -35,17 +36,14 @@ returns-clause-after g c =
     let o : ℤ = c.args.rule.now.offset in
     let end : to_z w128 (of_z w128 c.bucket-bucket.result.end) ≡ bucket_start (bucket_of c.args.time i o +ℤ pos 1) i o = search rules in
     let most : to_z w128 (of_z w128 c.bucket-bucket.result.end) ≤ℤ pos 9223372036854775807 = search rules in
-    let after : c.args.time <ℤ to_z w128 (of_z w128 c.bucket-bucket.result.end) = subst (λ z. c.args.time <ℤ z) (sym end) (bucket_is c.args.time i o c.requires).before_end in
-    let fits = end_fits c.args.time (to_z w128 (of_z w128 c.bucket-bucket.result.end)) after most (subst IsTime c.nanos.ensures.value c.nanos.ensures.valid) in
-    subst (λ z. c.args.time <ℤ z) (sym (to_z-of_z fits)) after
+    let fits = end_fits c.args.time i o _ c.requires end most (subst IsTime c.nanos.ensures.value c.nanos.ensures.valid) in
+    subst (λ z. c.args.time <ℤ z) (sym (to_z-of_z fits.1)) fits.0
 
 pub returns-clause-same : goal.returns-clause-same
 returns-clause-same g c = λ t from before.
     let i : ℤ = c.args.rule.now.interval in
     let o : ℤ = c.args.rule.now.offset in
-    let next : ℤ = bucket_start (bucket_of c.args.time i o +ℤ pos 1) i o in
-    let end : to_z w128 (of_z w128 c.bucket-bucket.result.end) ≡ next = search rules in
+    let end : to_z w128 (of_z w128 c.bucket-bucket.result.end) ≡ bucket_start (bucket_of c.args.time i o +ℤ pos 1) i o = search rules in
     let most : to_z w128 (of_z w128 c.bucket-bucket.result.end) ≤ℤ pos 9223372036854775807 = search rules in
-    let after : c.args.time <ℤ to_z w128 (of_z w128 c.bucket-bucket.result.end) = subst (λ z. c.args.time <ℤ z) (sym end) (bucket_is c.args.time i o c.requires).before_end in
-    let fits = end_fits c.args.time (to_z w128 (of_z w128 c.bucket-bucket.result.end)) after most (subst IsTime c.nanos.ensures.value c.nanos.ensures.valid) in
-    same_until c.args.time i o next t c.requires (omega (arith, ints)) from (subst (λ z. t <ℤ z) (to_z-of_z fits ∙ end) before)
+    let fits = end_fits c.args.time i o _ c.requires end most (subst IsTime c.nanos.ensures.value c.nanos.ensures.valid) in
+    same_until c.args.time i o (bucket_start (bucket_of c.args.time i o +ℤ pos 1) i o) t c.requires (omega (arith, ints)) from (subst (λ z. t <ℤ z) (to_z-of_z fits.1 ∙ end) before)

@@ -8,12 +8,11 @@ use Rattle.ts_raw.specs.Columns.{ColumnState}
 use Rattle.ts_store.specs.image.BuildingParts.{AreFilledBut}
 use Rattle.ts_store.specs.store.ColumnStates.{no_column, with_points, point_maps}
 use Rattle.ts_store.specs.rollup.Rollups.{AreRollups, cells_of}
-use Rattle.ts_store.proofs.image.ColumnsInTurn.{column-there, turn-dropped, some-points}
-use Rattle.ts_store.proofs.read.ColumnsReads.{with_points-length, facts-length}
-use Rattle.ts_store.proofs.write.PointsPut.{grids_kept_then, wide_still}
-use Rattle.ts_store.proofs.retain.RollupExpiry.{grids_kept}
+use Rattle.ts_store.proofs.store.ColumnsLemmas.{column-there, turn-dropped, some-points, with_points-length, facts-length}
+use Rattle.ts_store.proofs.write.PointsPut.{wide_first, grids_kept_then, wide_still}
+use Rattle.ts_store.proofs.rollup.ChangedListsLemmas.{grids_kept}
 use Rattle.ts_store.proofs.retain.RollupMoves.{rollups_with}
-use Rattle.ts_store.proofs.rollup.RulesFilled.{wide_first, frozen-same, frozen-both, filled-idle, filled-live}
+use Rattle.ts_store.proofs.rollup.RulesFilled.{frozen-same, frozen-both, filled-idle, filled-live}
 use Rattle.ts_store.proofs.rollup.cells_filled.add_all_points.Goals as goal
 
 pub loop-number-init : goal.loop-number-init

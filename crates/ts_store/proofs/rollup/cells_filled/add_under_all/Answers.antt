@@ -1,9 +1,8 @@
-use Rattle.std.proofs.Common.{◌<◌, ◌≤ℤ◌, ◌++◌, ℤ, List, pos, length, get_or, ap, sym, subst, arith}
+use Rattle.std.proofs.Common.{◌<◌, ◌≤ℤ◌, ℤ, List, pos, length, get_or, ap, subst, arith}
 use Rattle.std.specs.FinMap as finmap
 use Rattle.ts_core.specs.settings.Settings.{Rule}
-use Rattle.ts_core.specs.store.StoreStates.{facts_at}
-use Rattle.ts_store.specs.image.BuildingParts.{IsFilledBut}
-use Rattle.ts_store.specs.rollup.Rollups.{RollupState}
+use Rattle.ts_store.specs.rollup.PointsFilled.{AddsPoints}
+use Rattle.ts_store.specs.rollup.Rollups.{RollupState, rollup_series_at}
 use Rattle.ts_store.proofs.image.ListedColumns.{item_has}
 use Rattle.ts_store.proofs.rollup.ChangedListsLemmas.{next_changed, unchanged_yet, all_changed, grids_beside}
 use Rattle.ts_store.proofs.rollup.RulesFilled.{all_frozen, all_added}
@@ -23,11 +22,7 @@ pub loop-i-preserved : goal.loop-i-preserved
 loop-i-preserved g c =
     let r : Rule = c.index-rules-i.result in
     let s : RollupState = get_or c.loop-i.rollups c.loop-i.i c.index-rollups-i.result in
-    next_changed _ c.args.rules.now _ _ c.loop-i.i r r c.index-rollups-i.result _ (omega arith) c.index-rules-i.is (record {
-      kept = c.add_points.ensures.kept;
-      frozen = c.add_points.ensures.frozen;
-      live = λ d left all of few filled. c.add_points.ensures.live d left all of few (subst (λ (ps : List (ℤ × ℤ)). IsFilledBut (facts_at d ps ++ left) all r s.grid.cells) (sym c.all.ensures.points) filled);
-    }) c.loop-i.invariant
+    next_changed _ c.args.rules.now _ _ c.loop-i.i r r c.index-rollups-i.result _ (omega arith) c.index-rules-i.is (subst (λ (ps : List (ℤ × ℤ)). AddsPoints r (rollup_series_at s c.args.number) ps s c.add_points.new.rollup) c.all.ensures.points c.add_points.ensures) c.loop-i.invariant
 
 pub returns : goal.returns
 returns g c =

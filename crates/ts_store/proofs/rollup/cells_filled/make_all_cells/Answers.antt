@@ -11,12 +11,10 @@ use Rattle.ts_core.specs.store.StoreData.{OfEachRule}
 use Rattle.ts_store.specs.store.RuleLists.{rules_with}
 use Rattle.ts_store.specs.rollup.Rollups.{AreRollups, cells_of}
 use Rattle.ts_store.proofs.rollup.CellsCreated.{all-made-none, all-made-then}
-use Rattle.ts_store.proofs.image.ColumnsInTurn.{column-there, turn-taken}
-use Rattle.ts_store.proofs.read.ColumnsReads.{with_points-length}
-use Rattle.ts_store.proofs.write.PointsPut.{grids_kept_then, wide_still}
-use Rattle.ts_store.proofs.retain.RollupExpiry.{grids_kept}
+use Rattle.ts_store.proofs.store.ColumnsLemmas.{column-there, turn-taken, with_points-length}
+use Rattle.ts_store.proofs.write.PointsPut.{wide_first, grids_kept_then, wide_still}
+use Rattle.ts_store.proofs.rollup.ChangedListsLemmas.{grids_kept}
 use Rattle.ts_store.proofs.retain.RollupMoves.{rollups_with}
-use Rattle.ts_store.proofs.rollup.RulesFilled.{wide_first}
 use Rattle.ts_store.proofs.rollup.cells_filled.make_all_cells.Goals as goal
 
 pub loop-number-init : goal.loop-number-init

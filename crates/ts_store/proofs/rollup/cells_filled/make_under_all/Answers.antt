@@ -2,9 +2,8 @@ use Rattle.std.proofs.Common.{◌≡◌, ◌∙◌, ◌<◌, ◌≤ℤ◌, ℕ, 
 use Rattle.std.specs.List.{zip}
 use Rattle.std.proofs.lemmas.Slice.Zip.{get_or-zip}
 use Rattle.ts_core.specs.settings.Settings.{Rule}
-use Rattle.ts_core.specs.store.StoreStates.{facts_at}
-use Rattle.ts_store.specs.image.BuildingParts.{MakesCells}
-use Rattle.ts_store.specs.rollup.Rollups.{RollupState}
+use Rattle.ts_store.specs.rollup.PointsFilled.{MakesPoints}
+use Rattle.ts_store.specs.rollup.Rollups.{RollupState, rollup_series_at}
 use Rattle.ts_store.specs.write.CellsCreated.{KeepsRollupSeries}
 use Rattle.ts_store.proofs.image.ListedColumns.{item_has}
 use Rattle.ts_store.proofs.rollup.CellsCreated.{all_made_under}
@@ -29,10 +28,7 @@ loop-i-preserved g c =
     let low : ℤ = get_or c.args.lows.now c.loop-i.i (pos 0) in
     let s : RollupState = get_or c.loop-i.rollups c.loop-i.i c.index-rollups-i.result in
     let at = both c.args.rules.now c.args.lows.now c.loop-i.i r (omega arith) c.requires.lows c.index-rules-i.is in
-    next_changed _ _ _ _ c.loop-i.i (r, low) (r, pos 0) c.index-rollups-i.result _ at.0 at.1 (record {
-      kept = c.make_cells.ensures.kept;
-      cells = λ d of. subst (λ (ps : List (ℤ × ℤ)). MakesCells (facts_at d ps) r low s.grid.cells c.make_cells.new.rollup.grid.cells) c.all.ensures.points (c.in_ok-make_cells.ensures.cells d of);
-    }) c.loop-i.invariant
+    next_changed _ _ _ _ c.loop-i.i (r, low) (r, pos 0) c.index-rollups-i.result _ at.0 at.1 (subst (λ (ps : List (ℤ × ℤ)). MakesPoints r low (rollup_series_at s c.args.number) ps s c.make_cells.new.rollup) c.all.ensures.points c.in_ok-make_cells.ensures.cells) c.loop-i.invariant
 
 pub returns-in_err-make_cells-clause-kept : goal.returns-in_err-make_cells-clause-kept
 returns-in_err-make_cells-clause-kept g c =

@@ -1,8 +1,7 @@
 use Rattle.std.proofs.Common.{◌<ℤ◌, ap, sym, ◌∙◌, rules}
 use Rattle.ts_core.specs.aggregates.Aggregates.{merged, aggregate_of_points}
 use Rattle.ts_core.specs.aggregates.Buckets.{bucket_of}
-use Rattle.ts_store.proofs.rollup.LiveParts.{points_none}
-use Rattle.ts_store.proofs.rollup.RollupSeriesPoints.{none_since}
+use Rattle.ts_store.proofs.rollup.RollupSeriesPoints.{points_none, none_since}
 use Rattle.ts_store.proofs.rollup.live_parts.with_bucket_since.Goals as goal
 
 pub returns-then-index-index_of : goal.returns-then-index-index_of

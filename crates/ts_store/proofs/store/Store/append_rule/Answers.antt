@@ -1,17 +1,10 @@
-use Rattle.std.proofs.Common.{rules, ◌≡◌, ◌∙◌, ℤ, None, [], ◌∷◌, ◌++◌, to_z, of_z, ap, sym, subst}
+use Rattle.std.proofs.Common.{rules, ◌≡◌, ◌∙◌, to_z, of_z, ap}
 use Rattle.std.specs.Int.{w128}
-use Rattle.ts_core.specs.store.Marks.{first_from}
-use Rattle.ts_core.specs.settings.Settings.{Rule, with_rule}
-use Rattle.ts_core.specs.settings.SettingsFaults.{added_fault}
-use Rattle.ts_core.specs.store.StoreData.{StoreData}
-use Rattle.ts_core.specs.facts.Times.{IsTime}
 use Rattle.ts_core.proofs.lists.Results.{on_any_err}
 use Rattle.ts_store.specs.store.ColumnStates.{StoreContent}
 use Rattle.ts_store.specs.retain.OpenRuns.{data_of_parts}
-use Rattle.ts_store.specs.rules.RuleRollups.{IsRollupOf}
-use Rattle.ts_store.specs.rules.RulesChanged.{RuleComes}
 use Rattle.ts_store.proofs.store.RuleListLemmas.{its_faultless, its_added}
-use Rattle.ts_store.proofs.rules.RulesAdded.{added_wide, rule_is_added}
+use Rattle.ts_store.proofs.rules.RulesMoved.{added_wide, rule_is_added}
 use Rattle.ts_store.proofs.store.Store.append_rule.Goals as goal
 
 pub rollup_of-requires-clause-interval : goal.rollup_of-requires-clause-interval
@@ -27,30 +20,17 @@ returns-in_err-add_rollup-clause-err g c =
 
 pub invariant_of-self-2 : goal.invariant_of-self-2
 invariant_of-self-2 g c =
-    let before = c.self.inside in
-    let r : Rule = c.args.rule in
-    let well : added_fault before.settings r ≡ None = its_added before.settings before.marks before.accepted before.facts before.run c.self.invariant c.args.self.now c.self.view_is r c.requires.rule in
-    let mark : IsTime before.marks.raw = subst (λ (k : StoreData). IsTime k.raw_mark) (sym c.self.view_is) c.requires.mark in
-    let low : c.args.low ≡ first_from r before.marks.raw = c.requires.low ∙ ap (λ (k : StoreData). first_from r k.raw_mark) (sym c.self.view_is) in
-    let settings : c.in_ok-settings.settings ≡ with_rule r before.settings = c.in_ok-settings.ensures in
+    let i = c.self.inside in
     let same : to_z w128 (of_z w128 c.args.low) ≡ c.args.low = search rules in
-    let marks : c.in_ok-marks.marks ≡ record { raw = before.marks.raw; lows = before.marks.lows ++ c.args.low ∷ [] } =
-    c.in_ok-marks.ensures ∙ ap (λ (z : ℤ). record { raw = before.marks.raw; lows = before.marks.lows ++ z ∷ [] }) same in
-    (rule_is_added before.settings before.marks before.accepted before.facts before.run r c.args.low c.in_ok-rollup.rollup c.in_ok-settings.settings c.in_ok-marks.marks c.add_rollup.new.self c.self.invariant well mark low (subst (λ (z : ℤ). IsRollupOf before.facts r z c.in_ok-rollup.rollup) same c.in_ok-rollup.ensures) settings marks c.in_ok-add_rollup.ensures.ok).0
+    (rule_is_added i.settings i.marks i.accepted i.facts i.run c.args.self.now c.args.rule c.args.low _ c.in_ok-rollup.rollup c.in_ok-settings.settings c.in_ok-marks.marks c.add_rollup.new.self c.self.invariant c.self.view_is
+    c.requires.rule c.requires.mark c.requires.low same c.in_ok-rollup.ensures c.in_ok-settings.ensures c.in_ok-marks.ensures c.in_ok-add_rollup.ensures.ok).0
 
 pub returns-clause-ok : goal.returns-clause-ok
 returns-clause-ok g c =
-    let before = c.self.inside in
-    let r : Rule = c.args.rule in
-    let well : added_fault before.settings r ≡ None = its_added before.settings before.marks before.accepted before.facts before.run c.self.invariant c.args.self.now c.self.view_is r c.requires.rule in
-    let mark : IsTime before.marks.raw = subst (λ (k : StoreData). IsTime k.raw_mark) (sym c.self.view_is) c.requires.mark in
-    let low : c.args.low ≡ first_from r before.marks.raw = c.requires.low ∙ ap (λ (k : StoreData). first_from r k.raw_mark) (sym c.self.view_is) in
-    let settings : c.in_ok-settings.settings ≡ with_rule r before.settings = c.in_ok-settings.ensures in
+    let i = c.self.inside in
     let same : to_z w128 (of_z w128 c.args.low) ≡ c.args.low = search rules in
-    let marks : c.in_ok-marks.marks ≡ record { raw = before.marks.raw; lows = before.marks.lows ++ c.args.low ∷ [] } =
-    c.in_ok-marks.ensures ∙ ap (λ (z : ℤ). record { raw = before.marks.raw; lows = before.marks.lows ++ z ∷ [] }) same in
-    subst (λ (k : StoreData). RuleComes k (data_of_parts c.in_ok-settings.settings c.in_ok-marks.marks before.accepted c.add_rollup.new.self before.run) r c.args.low) c.self.view_is
-    (rule_is_added before.settings before.marks before.accepted before.facts before.run r c.args.low c.in_ok-rollup.rollup c.in_ok-settings.settings c.in_ok-marks.marks c.add_rollup.new.self c.self.invariant well mark low (subst (λ (z : ℤ). IsRollupOf before.facts r z c.in_ok-rollup.rollup) same c.in_ok-rollup.ensures) settings marks c.in_ok-add_rollup.ensures.ok).1
+    (rule_is_added i.settings i.marks i.accepted i.facts i.run c.args.self.now c.args.rule c.args.low _ c.in_ok-rollup.rollup c.in_ok-settings.settings c.in_ok-marks.marks c.add_rollup.new.self c.self.invariant c.self.view_is
+    c.requires.rule c.requires.mark c.requires.low same c.in_ok-rollup.ensures c.in_ok-settings.ensures c.in_ok-marks.ensures c.in_ok-add_rollup.ensures.ok).1
 
 pub settings_with-requires : goal.settings_with-requires
 settings_with-requires g c =

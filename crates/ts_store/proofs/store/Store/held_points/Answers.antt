@@ -1,14 +1,8 @@
-use Rattle.std.proofs.Common.{List, ap, subst, arith}
+use Rattle.std.proofs.Common.{List, ap, subst}
 use Rattle.ts_core.specs.store.StoreStates.{ColumnPoints}
 use Rattle.ts_core.specs.store.StoreData.{StoreData}
 use Rattle.ts_store.specs.store.BlocksHeld.{HoldColumns}
 use Rattle.ts_store.proofs.store.Store.held_points.Goals as goal
-
-pub held_points-requires : goal.held_points-requires
-held_points-requires g c =
-    let facts = c.self.invariant.sized.facts in
-    let few = c.self.invariant.sized.accepted in
-    omega (arith, facts, few)
 
 pub returns-clause-blocks : goal.returns-clause-blocks
 returns-clause-blocks g c =

@@ -1,11 +1,10 @@
-use Rattle.std.proofs.Common.{subst, sym}
+use Rattle.std.proofs.Common.{subst}
 use Rattle.std.specs.List.{AllByRecursion}
 use Rattle.ts_core.specs.settings.Settings.{IsPossibleRule, Settings}
 use Rattle.ts_core.specs.store.StoreData.{StoreData, AreLive}
 use Rattle.ts_store.specs.store.CellCounts.{HoldFew}
 use Rattle.ts_store.specs.store.PossibleCells.{HavePossibleCells}
 use Rattle.ts_store.specs.store.SizedStores.{IsSized}
-use Rattle.ts_store.proofs.store.RuleListLemmas.{its_settings}
 use Rattle.ts_store.proofs.store.Store.laws.Goals as goal
 
 pub returns-clause-sized : goal.returns-clause-sized
@@ -21,6 +20,4 @@ pub returns-clause-possible : goal.returns-clause-possible
 returns-clause-possible g c = subst (λ (k : StoreData). HavePossibleCells k.rules) c.self.view_is c.self.invariant.possible
 
 pub returns-clause-rules : goal.returns-clause-rules
-returns-clause-rules g c =
-    let was = c.self.inside in
-    subst (λ (s : Settings). AllByRecursion IsPossibleRule s.rules) (sym (its_settings was.settings was.marks was.accepted was.facts was.run c.self.invariant c.args.self.now c.self.view_is)) c.rules.ensures.possible
+returns-clause-rules g c = subst (λ (s : Settings). AllByRecursion IsPossibleRule s.rules) c.settings.ensures.value c.rules.ensures.possible

@@ -29,11 +29,7 @@ returns-clause-value g c =
     ap (data_of_parts c.args.settings c.new-2.result 0 c.in_ok-facts.facts) c.none.ensures ∙ data_new c.args.settings c.new-2.result c.in_ok-facts.facts marks held
 
 pub returns-clause-stands : goal.returns-clause-stands
-returns-clause-stands g c =
-    let lows : c.in_ok-lows.lows.items ≡ map (λ (r : Rule). index_of r least_time) c.args.settings.rules = c.in_ok-lows.ensures ∙ ap (map (λ (r : Rule). index_of r least_time)) c.rules.ensures.value in
-    let marks : c.new-2.result ≡ marks_of c.args.settings [] = c.new-2.ensures ∙ (λ i. record { raw = c.least.ensures i; lows = lows i }) in
-    let held : c.in_ok-facts.facts ≡ held_new c.args.settings = c.in_ok-facts.ensures ∙ (λ i. record { series = []; columns = []; rollups = replicate (length (c.rules-2.ensures.value i)) new_rollup }) in
-    subst (λ (k : StoreData). StandsFor c.args.settings [] (state_of k)) (sym (ap (data_of_parts c.args.settings c.new-2.result 0 c.in_ok-facts.facts) c.none.ensures ∙ data_new c.args.settings c.new-2.result c.in_ok-facts.facts marks held)) (new_stands_for c.args.settings c.rules.ensures.faultless)
+returns-clause-stands g c = subst (λ (k : StoreData). StandsFor c.args.settings [] (state_of k)) (sym (returns-clause-value g c)) (new_stands_for c.args.settings c.rules.ensures.faultless)
 
 pub returns-clause-inventory : goal.returns-clause-inventory
 returns-clause-inventory g c = ap inventory_of (returns-clause-value g c) ∙ inventory_new c.args.settings

@@ -1,17 +1,10 @@
-use Rattle.std.proofs.Common.{◌≡◌, ◌∙◌, ap, length, true, false, refl, arith}
+use Rattle.std.proofs.Common.{◌≡◌, ◌∙◌, ap, length, true, false, refl}
 use Rattle.std.specs.Bool.{OnFalse}
 use Rattle.ts_core.specs.store.RawFacts.{raw_facts}
 use Rattle.ts_core.specs.store.StoreStates.{facts_of}
 use Rattle.ts_core.specs.store.StoreData.{StoreData, OfEachHistory}
-use Rattle.ts_store.proofs.read.RawReads.{raw_count}
-use Rattle.ts_store.proofs.store.Stands.{idle_stands}
+use Rattle.ts_store.proofs.store.Stands.{idle_stands, raw_count}
 use Rattle.ts_store.proofs.store.Store.raw_points.Goals as goal
-
-pub raw_points-requires : goal.raw_points-requires
-raw_points-requires g c =
-    let facts = c.self.invariant.sized.facts in
-    let few = c.self.invariant.sized.accepted in
-    omega (arith, facts, few)
 
 pub returns-clause-facts : goal.returns-clause-facts
 returns-clause-facts g c =

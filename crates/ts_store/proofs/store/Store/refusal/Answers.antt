@@ -6,9 +6,6 @@ use Rattle.ts_store.specs.write.Refusals.{write_fault, is_too_many}
 use Rattle.ts_store.proofs.store.Stands.{not_before, facts_refused, welcome}
 use Rattle.ts_store.proofs.store.Store.refusal.Goals as goal
 
-pub overflow_sub-self-inside : goal.overflow_sub-self-inside
-overflow_sub-self-inside g c = c.self.invariant.sized.accepted
-
 pub returns-then-fields-self : goal.returns-then-fields-self
 returns-then-fields-self g c =
     let inside = c.self.inside in

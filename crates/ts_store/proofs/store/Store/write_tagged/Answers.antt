@@ -1,4 +1,4 @@
-use Rattle.std.proofs.Common.{◌≡◌, ◌+◌, ◌≤◌, sym, ◌∙◌, ap, subst, List, length, ℕ, ℤ, inr, None, Err, map, rules, arith}
+use Rattle.std.proofs.Common.{◌≡◌, ◌+◌, ◌≤◌, sym, ◌∙◌, ap, subst, List, length, ℕ, ℤ, inr, Err, map, rules, arith}
 use Rattle.std.proofs.lemmas.List.{length-map}
 use Rattle.std.proofs.lemmas.Result.{err_from_is_err_and}
 use Rattle.ts_core.specs.settings.Settings.{Rule}
@@ -29,19 +29,13 @@ insert_line-requires-clause-key g c =
 
 pub insert_line-requires-clause-few : goal.insert_line-requires-clause-few
 insert_line-requires-clause-few g c =
-    let before = c.self.inside in
-    let line : Parts = c.args.line.now in
-    let none : write_fault before.marks.raw before.facts.series before.accepted line ≡ None = ap (λ (k : StoreData). write_fault k.raw_mark k.series k.accepted line) c.self.view_is ∙ sym c.refusal.ensures ∙ c.in_default.is in
-    let welcome = not_refused before.marks.raw before.facts.series before.accepted line none in
-    welcome.registers
+    let i = c.self.inside in
+    (not_refused i.marks.raw i.facts.series i.accepted c.args.line.now (ap (λ (k : StoreData). write_fault k.raw_mark k.series k.accepted c.args.line.now) c.self.view_is ∙ sym c.refusal.ensures ∙ c.in_default.is)).registers
 
 pub insert_line-requires-clause-rollups : goal.insert_line-requires-clause-rollups
 insert_line-requires-clause-rollups g c =
     let facts = c.self.inside.facts in
     subst (λ (rs : List Rule). AreRollups rs (map column_of facts.columns) facts.rollups) (sym c.rules.ensures.value) c.self.invariant.rollups
-
-pub insert_line-requires-clause-lows : goal.insert_line-requires-clause-lows
-insert_line-requires-clause-lows g c = ap length c.lows.ensures ∙ c.self.invariant.lows ∙ ap length (sym c.rules.ensures.value)
 
 pub insert_line-requires-clause-live : goal.insert_line-requires-clause-live
 insert_line-requires-clause-live g c =
@@ -51,12 +45,9 @@ insert_line-requires-clause-live g c =
 
 pub insert_line-requires-clause-fit : goal.insert_line-requires-clause-fit
 insert_line-requires-clause-fit g c =
-    let before = c.self.inside in
-    let line : Parts = c.args.line.now in
-    let none : write_fault before.marks.raw before.facts.series before.accepted line ≡ None = ap (λ (k : StoreData). write_fault k.raw_mark k.series k.accepted line) c.self.view_is ∙ sym c.refusal.ensures ∙ c.in_default.is in
-    let welcome = not_refused before.marks.raw before.facts.series before.accepted line none in
+    let i = c.self.inside in
+    let few = (not_refused i.marks.raw i.facts.series i.accepted c.args.line.now (ap (λ (k : StoreData). write_fault k.raw_mark k.series k.accepted c.args.line.now) c.self.view_is ∙ sym c.refusal.ensures ∙ c.in_default.is)).few in
     let held = c.self.invariant.sized.facts in
-    let few = welcome.few in
     omega (arith, held, few)
 
 pub invariant_of-self : goal.invariant_of-self
@@ -64,8 +55,7 @@ invariant_of-self g c =
     let before = c.self.inside in
     let line : Parts = c.args.line.now in
     let grows : GrowsForLine before.settings.rules before.marks.lows before.facts c.insert_line.new.self line = subst (λ (ls : List ℤ). GrowsForLine before.settings.rules ls before.facts c.insert_line.new.self line) c.lows.ensures (subst (λ (rs : List Rule). GrowsForLine rs c.lows.result.now before.facts c.insert_line.new.self line) c.rules.ensures.value c.in_err-insert_line.ensures.err) in
-    let none : write_fault before.marks.raw before.facts.series before.accepted line ≡ None = ap (λ (k : StoreData). write_fault k.raw_mark k.series k.accepted line) c.self.view_is ∙ sym c.refusal.ensures ∙ c.in_default.is in
-    let welcome = not_refused before.marks.raw before.facts.series before.accepted line none in
+    let welcome = not_refused before.marks.raw before.facts.series before.accepted line (ap (λ (k : StoreData). write_fault k.raw_mark k.series k.accepted line) c.self.view_is ∙ sym c.refusal.ensures ∙ c.in_default.is) in
     kept_left before.settings before.marks before.accepted before.facts c.insert_line.new.self before.run line c.self.invariant welcome.registers c.requires.named (subst (λ (l : List (LinePart × ℤ)). AreKeys (map field_text l)) c.fields.ensures.value c.fields.ensures.named) grows
 
 pub returns-in_err-insert_line : goal.returns-in_err-insert_line
@@ -89,8 +79,7 @@ pub overflow_add-self : goal.overflow_add-self
 overflow_add-self g c =
     let before = c.self.inside in
     let line : Parts = c.args.line.now in
-    let none : write_fault before.marks.raw before.facts.series before.accepted line ≡ None = ap (λ (k : StoreData). write_fault k.raw_mark k.series k.accepted line) c.self.view_is ∙ sym c.refusal.ensures ∙ c.in_default.is in
-    let welcome = not_refused before.marks.raw before.facts.series before.accepted line none in
+    let welcome = not_refused before.marks.raw before.facts.series before.accepted line (ap (λ (k : StoreData). write_fault k.raw_mark k.series k.accepted line) c.self.view_is ∙ sym c.refusal.ensures ∙ c.in_default.is) in
     let many : length c.fields.result.now ≡ length (line_facts line) = ap (λ (l : List (LinePart × ℤ)). length l) c.fields.ensures.value ∙ sym (length-map line.fields (fact_of line)) in
     let all = welcome.few in
     let few : before.accepted + length c.fields.result.now ≤ 4611686018427387904 = omega (arith, many, all) in
@@ -100,8 +89,7 @@ pub invariant_of-self-2 : goal.invariant_of-self-2
 invariant_of-self-2 g c =
     let before = c.self.inside in
     let line : Parts = c.args.line.now in
-    let none : write_fault before.marks.raw before.facts.series before.accepted line ≡ None = ap (λ (k : StoreData). write_fault k.raw_mark k.series k.accepted line) c.self.view_is ∙ sym c.refusal.ensures ∙ c.in_default.is in
-    let welcome = not_refused before.marks.raw before.facts.series before.accepted line none in
+    let welcome = not_refused before.marks.raw before.facts.series before.accepted line (ap (λ (k : StoreData). write_fault k.raw_mark k.series k.accepted line) c.self.view_is ∙ sym c.refusal.ensures ∙ c.in_default.is) in
     let many : length c.fields.result.now ≡ length (line_facts line) = ap (λ (l : List (LinePart × ℤ)). length l) c.fields.ensures.value ∙ sym (length-map line.fields (fact_of line)) in
     let put : PutsLine before.settings.rules before.marks.lows before.facts c.insert_line.new.self line = subst (λ (ls : List ℤ). PutsLine before.settings.rules ls before.facts c.insert_line.new.self line) c.lows.ensures (subst (λ (rs : List Rule). PutsLine rs c.lows.result.now before.facts c.insert_line.new.self line) c.rules.ensures.value c.in_ok-insert_line.ensures.ok) in
     subst (λ (n : ℕ). IsSoundStore before.settings before.marks (before.accepted + n) c.insert_line.new.self before.run) (sym many)
@@ -111,8 +99,7 @@ pub returns : goal.returns
 returns g c =
     let before = c.self.inside in
     let line : Parts = c.args.line.now in
-    let none : write_fault before.marks.raw before.facts.series before.accepted line ≡ None = ap (λ (k : StoreData). write_fault k.raw_mark k.series k.accepted line) c.self.view_is ∙ sym c.refusal.ensures ∙ c.in_default.is in
-    let welcome = not_refused before.marks.raw before.facts.series before.accepted line none in
+    let welcome = not_refused before.marks.raw before.facts.series before.accepted line (ap (λ (k : StoreData). write_fault k.raw_mark k.series k.accepted line) c.self.view_is ∙ sym c.refusal.ensures ∙ c.in_default.is) in
     let many : length c.fields.result.now ≡ length (line_facts line) = ap (λ (l : List (LinePart × ℤ)). length l) c.fields.ensures.value ∙ sym (length-map line.fields (fact_of line)) in
     let put : PutsLine before.settings.rules before.marks.lows before.facts c.insert_line.new.self line = subst (λ (ls : List ℤ). PutsLine before.settings.rules ls before.facts c.insert_line.new.self line) c.lows.ensures (subst (λ (rs : List Rule). PutsLine rs c.lows.result.now before.facts c.insert_line.new.self line) c.rules.ensures.value c.in_ok-insert_line.ensures.ok) in
     let taken = taken_from before.marks.raw line welcome.late put.taken in
@@ -124,3 +111,6 @@ returns g c =
       refused = search rules;
       taken = search rules;
     }
+
+pub insert_line-requires-clause-lows : goal.insert_line-requires-clause-lows
+insert_line-requires-clause-lows g c = ap length c.lows.ensures ∙ c.self.invariant.lows ∙ ap length (sym c.rules.ensures.value)

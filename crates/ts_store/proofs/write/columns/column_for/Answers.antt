@@ -1,11 +1,9 @@
-use Rattle.std.proofs.Common.{◌≡◌, ◌<◌, ◌∙◌, List, length, ap, inl, refl, subst, sym}
+use Rattle.std.proofs.Common.{◌≡◌, List, ap, inl, refl, subst, sym}
 use Rattle.ts_core.specs.facts.Facts.{Column}
 use Rattle.ts_core.specs.lists.Members.{Among}
 use Rattle.ts_core.specs.lists.Numbered.{IsAt}
 use Rattle.ts_core.proofs.lists.NumberedLemmas.{at_among}
 use Rattle.ts_raw.specs.Indexed.{Indexed, IsSoundIndex, column_in}
-use Rattle.ts_store.specs.rollup.Rollups.{AreRollups}
-use Rattle.ts_store.specs.store.ColumnStates.{IsColumnFor}
 use Rattle.ts_store.proofs.write.columns.column_for.Goals as goal
 
 pub returns-in-Some-clause-column : goal.returns-in-Some-clause-column
@@ -23,19 +21,3 @@ returns-in-Some-clause-column g c =
 pub make_column-requires-clause-absent : goal.make_column-requires-clause-absent
 make_column-requires-clause-absent g c =
     subst (λ (i : Indexed). Among (column_in i c.args.series c.args.field.now) i.columns → ⊥) (sym c.find_column.ensures.unchanged) c.in-None.ensures.absent
-
-pub returns-in-Some-clause-rollups : goal.returns-in-Some-clause-rollups
-returns-in-Some-clause-rollups g c = subst (λ (i : Indexed). AreRollups c.args.rules.now i.columns c.args.rollups.now) (sym c.find_column.ensures.unchanged) c.requires.rollups
-
-pub make_column-requires-clause-len : goal.make_column-requires-clause-len
-make_column-requires-clause-len g c = c.requires.len ∙ ap (λ (i : Indexed). length i.columns) (sym c.find_column.ensures.unchanged)
-
-pub make_column-requires-clause-series : goal.make_column-requires-clause-series
-make_column-requires-clause-series g c = subst (λ (i : Indexed). c.args.series < length i.series) (sym c.find_column.ensures.unchanged) c.requires.series
-
-pub make_column-requires-clause-rollups : goal.make_column-requires-clause-rollups
-make_column-requires-clause-rollups g c = subst (λ (i : Indexed). AreRollups c.args.rules.now i.columns c.args.rollups.now) (sym c.find_column.ensures.unchanged) c.requires.rollups
-
-pub returns-in-None-clause-column : goal.returns-in-None-clause-column
-returns-in-None-clause-column g c =
-    subst (λ (i : Indexed). IsColumnFor (column_in i c.args.series c.args.field.now) i c.args.columns.now.items c.make_column.new.index c.make_column.new.columns.items c.make_column.result) c.find_column.ensures.unchanged c.make_column.ensures.column

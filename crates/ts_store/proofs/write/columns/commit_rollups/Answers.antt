@@ -1,9 +1,21 @@
-use Rattle.std.proofs.Common.{◌≡◌, ◌<◌, ◌≤◌, ◌∙◌, ◌++◌, List, length, map, take, IsSome, ap, sym, subst, arith}
+use Rattle.std.proofs.Common.{◌≡◌, ◌<◌, ◌≤◌, ◌∙◌, ◌+◌, ◌++◌, ℕ, zero, suc, List, [], ◌∷◌, length, map, take, drop, get_or, set, IsSome, ap, sym, subst, arith}
 use Rattle.std.proofs.lemmas.List.{append-nil, take_all, drop_all}
 use Rattle.ts_store.specs.rollup.Rollups.{RollupState, with_next}
 use Rattle.ts_store.proofs.image.ListedColumns.{left_more, left_next}
-use Rattle.ts_store.proofs.rollup.RollupSteps.{next_committed}
 use Rattle.ts_store.proofs.write.columns.commit_rollups.Goals as goal
+
+-- the next column is created under one more rule
+one_more : (ss : List RollupState) (i : ℕ) (s t : RollupState) → i < length ss → s ≡ get_or ss i s → t ≡ with_next s
+    → take (suc i) (set ss i t) ++ map with_next (drop (suc i) (set ss i t)) ≡ take i ss ++ map with_next (drop i ss)
+one_more [] i s t l is e = absurd (omega (arith, l))
+one_more (x ∷ ss) zero s t l is e = ap (λ (u : RollupState). u ∷ map with_next ss) (e ∙ ap with_next is)
+one_more (x ∷ ss) (suc i) s t l is e = ap (λ (us : List RollupState). x ∷ us) (one_more ss i s t (omega (arith, l)) is e)
+
+next_committed : (ss : List RollupState) (i : ℕ) (s t : RollupState) → i < length ss → s ≡ get_or ss i s → t ≡ with_next s
+    → take (i + 1) (set ss i t) ++ map with_next (drop (i + 1) (set ss i t)) ≡ take i ss ++ map with_next (drop i ss)
+next_committed ss i s t l is e =
+    let next : suc i ≡ i + 1 = omega arith in
+    subst (λ n. take n (set ss i t) ++ map with_next (drop n (set ss i t)) ≡ take i ss ++ map with_next (drop i ss)) next (one_more ss i s t l is e)
 
 pub commit-requires : goal.commit-requires
 commit-requires g c =

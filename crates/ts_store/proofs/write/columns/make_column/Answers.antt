@@ -12,19 +12,10 @@ use Rattle.ts_store.proofs.write.columns.make_column.Goals as goal
 pub prepare_rollups-requires : goal.prepare_rollups-requires
 prepare_rollups-requires g c = rollups-length c.args.rules.now c.args.index.now.columns c.args.rollups.now c.requires.rollups
 
-pub returns-in_err-prepare_rollups-clause-rollups : goal.returns-in_err-prepare_rollups-clause-rollups
-returns-in_err-prepare_rollups-clause-rollups g c = rollups_kept _ _ c.args.rollups.now _ c.requires.rollups c.prepare_rollups.ensures.kept
-
-pub returns-in_err-prepare_rollups-clause-cells : goal.returns-in_err-prepare_rollups-clause-cells
-returns-in_err-prepare_rollups-clause-cells g c = cells_kept c.args.rollups.now _ c.prepare_rollups.ensures.kept
-
 pub returns-in_err-column-clause-rollups : goal.returns-in_err-column-clause-rollups
 returns-in_err-column-clause-rollups g c =
     subst (λ (cs : List Column). AreRollups c.args.rules.now cs c.prepare_rollups.new.rollups) (sym c.in_err-column.ensures.registered.kept)
     (rollups_kept _ _ c.args.rollups.now _ c.requires.rollups c.prepare_rollups.ensures.kept)
-
-pub returns-in_err-column-clause-cells : goal.returns-in_err-column-clause-cells
-returns-in_err-column-clause-cells g c = cells_kept c.args.rollups.now _ c.prepare_rollups.ensures.kept
 
 pub commit_rollups-requires : goal.commit_rollups-requires
 commit_rollups-requires g c =

@@ -9,8 +9,8 @@ use Rattle.ts_store.specs.read.PointsRead.{number_of_points}
 use Rattle.ts_store.specs.write.PointPuts.{PutsPoint}
 use Rattle.ts_store.specs.rollup.Rollups.{RollupState, rollup_series_at, cells_of}
 use Rattle.ts_store.specs.store.RuleLists.{rules_with}
-use Rattle.ts_store.proofs.write.PointsPut.{PutsRest, ready_staged, point_found, now_committed, committed-more, inside_each, commits_alone, commits_rolled, next_is_ready, next_fits, next_left, wide_left, rest_done, none_left, none_committed}
-use Rattle.ts_store.proofs.retain.RollupExpiry.{grids_kept}
+use Rattle.ts_store.proofs.write.PointsPut.{PutsRest, ready_staged, point_found, now_committed, committed-more, wide_first, commits_alone, commits_rolled, next_is_ready, next_fits, next_left, wide_left, rest_done, none_left, none_committed}
+use Rattle.ts_store.proofs.rollup.ChangedListsLemmas.{grids_kept}
 use Rattle.ts_store.proofs.write.committing.commit_points.Goals as goal
 
 pub loop-number-init : goal.loop-number-init
@@ -34,7 +34,8 @@ loop-number-init g c =
 
 pub is_rolled-requires : goal.is_rolled-requires
 is_rolled-requires g c =
-    inside_each _ _ c.number-at.result c.loop-number.rollups c.number-at.ensures (next_is_ready _ _ _ _ _ _ _ _ _ _ _ _ c.in-Some.ensures.steps.0 c.loop-number.invariant).0 (wide_left _ _ _ _ _ _ _ _ _ _ c.loop-number.invariant c.requires.each)
+    let within = (next_is_ready _ _ _ _ _ _ _ _ _ _ _ _ c.in-Some.ensures.steps.0 c.loop-number.invariant).0 in
+    wide_first _ c.loop-number.rollups c.number-at.result (omega (arith, within, c.number-at.ensures)) (wide_left _ _ _ _ _ _ _ _ _ _ c.loop-number.invariant c.requires.each)
 
 -- ---- no rule rolls the column up
 

@@ -18,8 +18,7 @@ use Rattle.ts_store.specs.write.CellsCreated.{KeepsRollupSeries, bucket_indices}
 use Rattle.ts_store.specs.write.PointPuts.{AreLiveOver, IsPointPut, PutsPoint}
 use Rattle.ts_store.proofs.retain.PointsFrozen.{with_grid}
 use Rattle.ts_store.proofs.rollup.ChangedListsLemmas.{next_changed, unchanged_yet, all_changed, grids_beside}
-use Rattle.ts_store.proofs.write.CellsPut.{corrected_in, put_passed, put_added, put_missing, put_corrected, put_folded}
-use Rattle.ts_store.proofs.write.PointsPut.{PutsUnder, all_put}
+use Rattle.ts_store.proofs.write.PointsPut.{corrected_in, put_passed, put_added, put_missing, put_corrected, put_folded, PutsUnder, all_put}
 use Rattle.ts_store.proofs.write.committing.update_cells.Goals.{in-Some-without, in-None}
 use Rattle.ts_store.proofs.write.committing.update_cells.Goals as goal
 

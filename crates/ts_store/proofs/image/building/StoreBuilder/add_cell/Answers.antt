@@ -1,11 +1,10 @@
-use Rattle.std.proofs.Common.{◌≡◌, ◌<◌, ◌∙◌, length, map, None, ap, sym, subst, arith}
-use Rattle.std.specs.FinMap as finmap
+use Rattle.std.proofs.Common.{◌≡◌, ◌<◌, ◌∙◌, length, map, ap, sym, subst, arith}
 use Rattle.ts_core.specs.store.Cells.{Cell}
 use Rattle.ts_core.specs.store.StoreStates.{column_of}
 use Rattle.ts_cells.specs.Grids.{cell_at, rollup_series_named}
-use Rattle.ts_store.specs.image.Building.{Built, cell_map_at, with_built_cell}
+use Rattle.ts_store.specs.image.Building.{Built, with_built_cell}
 use Rattle.ts_store.specs.rollup.Rollups.{cells_of}
-use Rattle.ts_store.proofs.image.BuildersKept.{order_cell-either, built_cell, built_same, with_one}
+use Rattle.ts_store.proofs.image.StoresBuilt.{order_cell-either, built_cell, built_same, with_one}
 use Rattle.ts_store.proofs.image.PartsBuilt.{ok_then, err_then}
 use Rattle.ts_store.proofs.rollup.RollupsGrow.{rollups-length}
 use Rattle.ts_store.proofs.image.building.StoreBuilder.add_cell.Goals as goal
@@ -16,10 +15,6 @@ add_cell-requires-clause-rule g c =
     let rules = rollups-length i.settings.rules (map column_of i.facts.columns) i.facts.rollups c.self.invariant.rollups in
     let within : c.args.rule < length i.settings.rules = subst (λ (b : Built). c.args.rule < length b.settings.rules) (sym c.self.view_is) c.requires.rule in
     omega (arith, rules, within)
-
-pub add_cell-requires-clause-absent : goal.add_cell-requires-clause-absent
-add_cell-requires-clause-absent g c =
-    subst (λ (b : Built). finmap.get (cell_map_at b.cells c.args.rule) (cell_at c.args.index.now (rollup_series_named c.args.field.now c.args.group.now)) ≡ None) (sym c.self.view_is) c.requires.absent
 
 pub invariant_of-self : goal.invariant_of-self
 invariant_of-self g c =

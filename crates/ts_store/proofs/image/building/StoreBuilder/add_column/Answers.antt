@@ -9,7 +9,7 @@ use Rattle.ts_raw.specs.Indexed.{no_series}
 use Rattle.ts_store.specs.image.Building.{Built, with_built_column}
 use Rattle.ts_store.specs.image.BuildingParts.{IsInOrder}
 use Rattle.ts_store.specs.rollup.Rollups.{AreRollups}
-use Rattle.ts_store.proofs.image.BuildersKept.{order_column, order_same, built_column}
+use Rattle.ts_store.proofs.image.StoresBuilt.{order_column, order_same, built_column}
 use Rattle.ts_store.proofs.image.building.StoreBuilder.add_column.Goals as goal
 
 pub invariant_of-self-2 : goal.invariant_of-self-2
@@ -19,10 +19,9 @@ invariant_of-self-2 g c =
     let s : Series = get_or i.facts.series c.args.series no_series in
     let at : IsAt i.facts.series c.args.series s = slice_get-get_or i.facts.series c.args.series no_series within in
     let x : ColumnPoints = record { column = record { series = s; field = c.args.field.now }; points = finmap.entries c.args.points.points } in
-    let before : List Bool = c.reserve.new.self.items in
     let w : Bool = not c.args.waits in
     let flags : c.push.new.self.items ≡ i.passed.items ++ w ∷ [] =
-    c.push.ensures.items ∙ ap (λ r. cond (is_ok r) (before ++ w ∷ []) before) c.unwrap.ensures ∙ ap (λ (bs : List Bool). bs ++ w ∷ []) c.in_ok-reserve.ensures.items in
+    c.push.ensures.items ∙ ap (λ r. cond (is_ok r) (c.reserve.new.self.items ++ w ∷ []) c.reserve.new.self.items) c.unwrap.ensures ∙ ap (λ (bs : List Bool). bs ++ w ∷ []) c.in_ok-reserve.ensures.items in
     order_column i.settings i.facts c.add_column.new.self i.passed.items c.push.new.self.items x w c.requires.key (c.in_ok-add_column.ensures.ok s at) c.in_ok-add_column.ensures.series c.in_ok-add_column.ensures.cells
     (subst (λ (rs : List Rule). AreRollups rs (map column_of c.add_column.new.self.columns) c.add_column.new.self.rollups) c.rules.ensures.value c.in_ok-add_column.ensures.rollups) flags c.self.invariant
 
@@ -31,10 +30,9 @@ returns-clause-ok g c = λ s at.
     let i = c.self.inside in
     let at' : IsAt i.facts.series c.args.series s = subst (λ (b : Built). IsAt b.series c.args.series s) (sym c.self.view_is) at in
     let x : ColumnPoints = record { column = record { series = s; field = c.args.field.now }; points = finmap.entries c.args.points.points } in
-    let before : List Bool = c.reserve.new.self.items in
     let w : Bool = not c.args.waits in
     let flags : c.push.new.self.items ≡ i.passed.items ++ w ∷ [] =
-    c.push.ensures.items ∙ ap (λ r. cond (is_ok r) (before ++ w ∷ []) before) c.unwrap.ensures ∙ ap (λ (bs : List Bool). bs ++ w ∷ []) c.in_ok-reserve.ensures.items in
+    c.push.ensures.items ∙ ap (λ r. cond (is_ok r) (c.reserve.new.self.items ++ w ∷ []) c.reserve.new.self.items) c.unwrap.ensures ∙ ap (λ (bs : List Bool). bs ++ w ∷ []) c.in_ok-reserve.ensures.items in
     built_column i.settings i.marks i.running i.accepted i.facts c.add_column.new.self i.passed.items c.push.new.self.items x c.args.waits (c.in_ok-add_column.ensures.ok s at') c.in_ok-add_column.ensures.series c.in_ok-add_column.ensures.cells flags
     ∙ ap (with_built_column x c.args.waits) c.self.view_is
 

@@ -1,17 +1,10 @@
 use Rattle.std.proofs.Common.{◌≡◌, ◌<◌, ◌∙◌, ◌++◌, [], ◌∷◌, length, ap, sym, subst}
-use Rattle.ts_core.specs.lists.Members.{Among}
 use Rattle.ts_store.specs.image.Building.{Built, with_built_series}
 use Rattle.ts_store.specs.image.BuildingParts.{built_of}
 use Rattle.ts_store.specs.store.ColumnStates.{StoreContent}
-use Rattle.ts_store.proofs.image.BuildersKept.{order_series-either, built_series}
+use Rattle.ts_store.proofs.image.StoresBuilt.{order_series-either, built_series}
 use Rattle.ts_store.proofs.image.PartsBuilt.{ok_then, err_then}
 use Rattle.ts_store.proofs.image.building.StoreBuilder.add_series.Goals as goal
-
-pub add_series-requires-clause-absent : goal.add_series-requires-clause-absent
-add_series-requires-clause-absent g c = subst (λ (b : Built). Among c.args.key.now b.series → ⊥) (sym c.self.view_is) c.requires.absent
-
-pub add_series-requires-clause-few : goal.add_series-requires-clause-few
-add_series-requires-clause-few g c = subst (λ (b : Built). length b.series < 1000000) (sym c.self.view_is) c.requires.few
 
 pub invariant_of-self : goal.invariant_of-self
 invariant_of-self g c =

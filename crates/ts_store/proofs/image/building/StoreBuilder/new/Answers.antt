@@ -1,6 +1,6 @@
 use Rattle.std.proofs.Common.{◌≡◌, ◌∙◌, [], length, replicate}
 use Rattle.ts_store.specs.rollup.Rollups.{new_rollup}
-use Rattle.ts_store.proofs.image.BuildersKept.{order_new, built_new}
+use Rattle.ts_store.proofs.image.StoresBuilt.{order_new, built_new}
 use Rattle.ts_store.proofs.store.Stands.{held_new}
 use Rattle.ts_store.proofs.image.building.StoreBuilder.new.Goals as goal
 

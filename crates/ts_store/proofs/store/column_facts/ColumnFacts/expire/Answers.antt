@@ -1,6 +1,6 @@
 use Rattle.std.proofs.Common.{◌≡◌, ◌∙◌, List, length, ap, ap₂, sym, subst}
 use Rattle.std.specs.Vec.{with_items}
-use Rattle.std.proofs.lemmas.List.{with_items_is}
+use Rattle.ts_store.proofs.store.ColumnsLemmas.{written_back}
 use Rattle.ts_cells.proofs.ExpiryLemmas.{on_true, on_false}
 use Rattle.ts_store.specs.store.ColumnStates.{StoreContent, columns_in}
 use Rattle.ts_store.specs.rollup.Rollups.{RollupState, cells_of}
@@ -18,10 +18,7 @@ rollups g c = c.as_mut_slice.ensures.value ∙ ap (λ (h : StoreContent). h.roll
 
 -- those that are there now
 written : (g : Over) (c : goal.After-self-1 g) → (with_items c.self.inside.rollups c.expire_first.new.rollups).items ≡ c.expire_first.new.rollups
-written g c =
-    let counted = c.self.inside.rollups.ok.0 in
-    let long : length c.expire_first.new.rollups ≡ c.self.inside.rollups.len = cc (c.expire_first.auto.rollups, c.as_mut_slice.ensures.value, counted) in
-    with_items_is c.self.inside.rollups c.expire_first.new.rollups long
+written g c = written_back c.self.inside.rollups _ c.expire_first.new.rollups c.expire_first.auto.rollups c.as_mut_slice.ensures.value
 
 pub expire_first-requires : goal.expire_first-requires
 expire_first-requires g c = c.requires ∙ sym (ap length (c.as_mut_slice.ensures.value ∙ ap (λ (h : StoreContent). h.rollups) c.self.view_is))

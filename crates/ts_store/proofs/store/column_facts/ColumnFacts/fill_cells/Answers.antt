@@ -1,19 +1,17 @@
 use Rattle.std.proofs.Common.{◌≡◌, ◌∙◌, ℤ, List, length, map, ap, sym, subst, arith}
 use Rattle.std.specs.List.{AllByRecursion}
 use Rattle.std.specs.Vec.{with_items}
-use Rattle.std.proofs.lemmas.List.{with_items_is}
 use Rattle.ts_core.specs.facts.Facts.{Column}
 use Rattle.ts_core.specs.settings.Settings.{Rule}
-use Rattle.ts_core.specs.store.StoreStates.{column_of, facts_of}
+use Rattle.ts_core.specs.store.StoreStates.{column_of}
 use Rattle.ts_raw.specs.Columns.{ColumnState}
 use Rattle.ts_raw.specs.Indexed.{Indexed}
-use Rattle.ts_store.specs.image.BuildingParts.{AreIdle, FillsCells, KeepFrozen}
+use Rattle.ts_store.specs.image.BuildingParts.{AreIdle, FillsCells}
 use Rattle.ts_store.specs.store.ColumnStates.{StoreContent, IsSoundContent, content_of, columns_in}
 use Rattle.ts_store.specs.read.PointsRead.{number_of_points}
 use Rattle.ts_store.specs.rollup.Rollups.{RollupState, AreRollups, cells_of}
 use Rattle.ts_store.specs.retain.RollupSteps.{with_all_grid_cells}
-use Rattle.ts_store.proofs.store.ColumnsLemmas.{names_held}
-use Rattle.ts_store.proofs.read.ColumnsReads.{facts-length}
+use Rattle.ts_store.proofs.store.ColumnsLemmas.{names_held, its_points, written_back}
 use Rattle.ts_store.proofs.write.PointsPut.{wide_of, wide_still}
 use Rattle.ts_store.proofs.rollup.RollupsGrow.{rollups-length}
 use Rattle.ts_store.proofs.rollup.RulesFilled.{Makes, Adds, all_fill}
@@ -28,33 +26,29 @@ wide rules index ss lent us held kept is same rollups =
 
 pub make_all_cells-requires-clause-rules : goal.make_all_cells-requires-clause-rules
 make_all_cells-requires-clause-rules g c =
-    ap length (c.as_mut_slice.ensures.value ∙ ap (λ (h : StoreContent). h.rollups) c.self.view_is) ∙ rollups-length c.args.rules.now (map column_of c.args.self.now.columns) c.args.self.now.rollups c.requires.rollups
+    ap length (c.as_mut_slice-rollups.ensures.value ∙ ap (λ (h : StoreContent). h.rollups) c.self.view_is) ∙ rollups-length c.args.rules.now (map column_of c.args.self.now.columns) c.args.self.now.rollups c.requires.rollups
 
 pub make_all_cells-requires-clause-each : goal.make_all_cells-requires-clause-each
 make_all_cells-requires-clause-each g c =
-    subst (AllByRecursion (λ (s : RollupState). length s.series_of_column ≡ length c.as_slice-columns.result.now)) (sym c.as_mut_slice.ensures.value)
+    subst (AllByRecursion (λ (s : RollupState). length s.series_of_column ≡ length c.as_slice-columns.result.now)) (sym c.as_mut_slice-rollups.ensures.value)
     (wide c.args.rules.now c.self.inside.index c.self.inside.columns.items c.as_slice-columns.result.now c.self.inside.rollups.items c.args.self.now c.self.invariant c.self.view_is c.as_slice-columns.ensures.value c.requires.rollups)
 
 pub add_all_points-requires-clause-rules : goal.add_all_points-requires-clause-rules
 add_all_points-requires-clause-rules g c =
-    ap length c.as_mut_slice-2.ensures.value ∙ sym (with_items c.self.inside.rollups c.make_all_cells.new.rollups).ok.0 ∙ c.self.inside.rollups.ok.0 ∙ ap (λ (h : StoreContent). length h.rollups) c.self.view_is
+    c.make_all_cells.auto.rollups ∙ ap length (c.as_mut_slice-rollups.ensures.value ∙ ap (λ (h : StoreContent). h.rollups) c.self.view_is)
     ∙ rollups-length c.args.rules.now (map column_of c.args.self.now.columns) c.args.self.now.rollups c.requires.rollups
 
 pub add_all_points-requires-clause-each : goal.add_all_points-requires-clause-each
 add_all_points-requires-clause-each g c =
     let us : List RollupState = c.self.inside.rollups.items in
     let vs : List RollupState = c.make_all_cells.new.rollups in
-    let counted = c.self.inside.rollups.ok.0 in
-    let long : length vs ≡ c.self.inside.rollups.len = cc (c.make_all_cells.auto.rollups, c.as_mut_slice.ensures.value, counted) in
-    let kept : vs ≡ with_all_grid_cells (cells_of vs) us = subst (λ (xs : List RollupState). vs ≡ with_all_grid_cells (cells_of vs) xs) c.as_mut_slice.ensures.value c.make_all_cells.ensures.kept in
-    subst (AllByRecursion (λ (s : RollupState). length s.series_of_column ≡ length c.as_slice-columns.result.now)) (sym (c.as_mut_slice-2.ensures.value ∙ with_items_is c.self.inside.rollups vs long))
-    (wide_still (length c.as_slice-columns.result.now) us vs kept
-    (wide c.args.rules.now c.self.inside.index c.self.inside.columns.items c.as_slice-columns.result.now us c.args.self.now c.self.invariant c.self.view_is c.as_slice-columns.ensures.value c.requires.rollups))
+    let kept : vs ≡ with_all_grid_cells (cells_of vs) us = subst (λ (xs : List RollupState). vs ≡ with_all_grid_cells (cells_of vs) xs) c.as_mut_slice-rollups.ensures.value c.make_all_cells.ensures.kept in
+    wide_still (length c.as_slice-columns.result.now) us vs kept
+    (wide c.args.rules.now c.self.inside.index c.self.inside.columns.items c.as_slice-columns.result.now us c.args.self.now c.self.invariant c.self.view_is c.as_slice-columns.ensures.value c.requires.rollups)
 
 pub add_all_points-requires-clause-few : goal.add_all_points-requires-clause-few
 add_all_points-requires-clause-few g c =
-    let ss : List ColumnState = c.self.inside.columns.items in
-    let all : length (facts_of c.args.self.now.columns) ≡ number_of_points ss = ap (λ (h : StoreContent). length (facts_of h.columns)) (sym c.self.view_is) ∙ facts-length c.self.inside.index.columns ss c.self.invariant.each in
+    let all = its_points _ _ _ _ c.self.invariant c.self.view_is in
     let lent = ap number_of_points c.as_slice-columns.ensures.value in
     omega (arith, all, lent, c.requires.few)
 
@@ -67,19 +61,14 @@ returns g c =
     let us : List RollupState = c.self.inside.rollups.items in
     let vs : List RollupState = c.make_all_cells.new.rollups in
     let ws : List RollupState = c.add_all_points.new.rollups in
-    let counted = c.self.inside.rollups.ok.0 in
-    let long : length vs ≡ c.self.inside.rollups.len = cc (c.make_all_cells.auto.rollups, c.as_mut_slice.ensures.value, counted) in
-    let written : (with_items c.self.inside.rollups vs).items ≡ vs = with_items_is c.self.inside.rollups vs long in
-    let between : c.as_mut_slice-2.result.now ≡ vs = c.as_mut_slice-2.ensures.value ∙ written in
-    let longer : length ws ≡ c.self.inside.rollups.len = c.add_all_points.auto.rollups ∙ ap (λ (xs : List RollupState). length xs) between ∙ long in
     let lent : c.as_slice-columns.result.now ≡ ss = c.as_slice-columns.ensures.value in
-    let one : vs ≡ with_all_grid_cells (cells_of vs) us = subst (λ (xs : List RollupState). vs ≡ with_all_grid_cells (cells_of vs) xs) c.as_mut_slice.ensures.value c.make_all_cells.ensures.kept in
-    let two : ws ≡ with_all_grid_cells (cells_of ws) vs = subst (λ (xs : List RollupState). ws ≡ with_all_grid_cells (cells_of ws) xs) between c.add_all_points.ensures.kept in
-    let make : Makes rs lows vs ss us = subst (λ (xs : List ColumnState). Makes rs lows vs xs us) lent (subst (Makes rs lows vs c.as_slice-columns.result.now) c.as_mut_slice.ensures.value c.in_ok-make_all_cells.ensures.cells) in
-    let frozen : KeepFrozen (cells_of vs) (cells_of ws) = subst (λ (xs : List RollupState). KeepFrozen (cells_of xs) (cells_of ws)) between c.add_all_points.ensures.frozen in
-    let add : Adds rs ws ss vs = subst (λ (xs : List ColumnState). Adds rs ws xs vs) lent (subst (Adds rs ws c.as_slice-columns.result.now) between c.add_all_points.ensures.live) in
+    let one : vs ≡ with_all_grid_cells (cells_of vs) us = subst (λ (xs : List RollupState). vs ≡ with_all_grid_cells (cells_of vs) xs) c.as_mut_slice-rollups.ensures.value c.make_all_cells.ensures.kept in
+    let make : Makes rs lows vs ss us = subst (λ (xs : List ColumnState). Makes rs lows vs xs us) lent (subst (Makes rs lows vs c.as_slice-columns.result.now) c.as_mut_slice-rollups.ensures.value c.in_ok-make_all_cells.ensures.cells) in
+    let add : Adds rs ws ss vs = subst (λ (xs : List ColumnState). Adds rs ws xs vs) lent c.add_all_points.ensures.live in
     let rollups : AreRollups rs (map column_of (columns_in index ss)) us = subst (λ (h : StoreContent). AreRollups rs (map column_of h.columns) h.rollups) (sym c.self.view_is) c.requires.rollups in
     let idle : AreIdle (cells_of us) = subst (λ (h : StoreContent). AreIdle (cells_of h.rollups)) (sym c.self.view_is) c.requires.idle in
-    let filled : FillsCells rs lows (content_of index ss us) (content_of index ss ws) = all_fill rs lows index ss us vs ws c.self.invariant c.requires.lows rollups idle one two make frozen add in
-    subst (λ (h : StoreContent). FillsCells rs lows h (content_of index ss (with_items (with_items c.self.inside.rollups vs) ws).items)) c.self.view_is
-    (subst (λ (xs : List RollupState). FillsCells rs lows (content_of index ss us) (content_of index ss xs)) (sym (with_items_is (with_items c.self.inside.rollups vs) ws longer)) filled)
+    let filled : FillsCells rs lows (content_of index ss us) (content_of index ss ws) =
+    all_fill rs lows index ss us vs ws c.self.invariant c.requires.lows rollups idle one c.add_all_points.ensures.kept make c.add_all_points.ensures.frozen add in
+    subst (λ (h : StoreContent). FillsCells rs lows h (content_of index ss (with_items c.self.inside.rollups ws).items)) c.self.view_is
+    (subst (λ (xs : List RollupState). FillsCells rs lows (content_of index ss us) (content_of index ss xs))
+    (sym (written_back c.self.inside.rollups _ ws (c.add_all_points.auto.rollups ∙ c.make_all_cells.auto.rollups) c.as_mut_slice-rollups.ensures.value)) filled)

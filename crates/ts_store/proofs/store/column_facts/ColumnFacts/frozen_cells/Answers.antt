@@ -1,6 +1,6 @@
 use Rattle.std.proofs.Common.{◌∙◌, pos, get_or, arith}
 use Rattle.std.proofs.lemmas.Int.{ints}
-use Rattle.ts_store.proofs.image.FrozenShown.{facts_frozen}
+use Rattle.ts_store.proofs.read.ShownCells.{facts_frozen}
 use Rattle.ts_store.proofs.store.column_facts.ColumnFacts.frozen_cells.Goals as goal
 
 pub returns : goal.returns

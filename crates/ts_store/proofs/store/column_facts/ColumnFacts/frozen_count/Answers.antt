@@ -3,7 +3,7 @@ use Rattle.std.proofs.lemmas.Int.{ints}
 use Rattle.ts_store.specs.image.SavedContent.{frozen_from}
 use Rattle.ts_store.specs.image.FrozenLeft.{frozen_left}
 use Rattle.ts_store.specs.read.LiveCells.{rollup_at}
-use Rattle.ts_store.proofs.image.FrozenShown.{facts_counted}
+use Rattle.ts_store.proofs.read.ShownCells.{facts_counted}
 use Rattle.ts_store.proofs.store.column_facts.ColumnFacts.frozen_count.Given.{Over}
 use Rattle.ts_store.proofs.store.column_facts.ColumnFacts.frozen_count.Goals as goal
 

@@ -1,17 +1,14 @@
-use Rattle.std.proofs.Common.{rules, ◌≡◌, ◌≤◌, ◌*◌, ℕ, List, [], ◌∷◌, ◌++◌, ◌+◌, ◌∙◌, min, length, refl, ap, sym, subst, arith}
+use Rattle.std.proofs.Common.{rules, ◌≡◌, ◌≤◌, ◌*◌, ℕ, List, [], ◌∷◌, ◌++◌, ◌+◌, ◌∙◌, min, length, refl, ap, subst, arith}
 use Rattle.std.specs.FinMap as finmap
 use Rattle.std.proofs.lemmas.List.{take_all}
 use Rattle.std.proofs.lemmas.List.Sums.{sum_by_more, sum_by-take-le, sum_by_push}
-use Rattle.ts_core.specs.store.StoreStates.{facts_of}
 use Rattle.ts_core.specs.store.StoreStates.{ColumnPoints}
 use Rattle.ts_raw.specs.Columns.{ColumnState}
 use Rattle.ts_raw.specs.BlockColumns.{AreHeld, points_in_texts}
 use Rattle.ts_store.specs.store.ColumnStates.{StoreContent}
 use Rattle.ts_store.specs.store.BlocksHeld.{HoldColumns}
 use Rattle.ts_store.specs.read.PointsRead.{number_of_points}
-use Rattle.ts_store.proofs.store.BlocksLemmas.{HoldStates, next_held, columns_held}
-use Rattle.ts_store.proofs.read.ColumnRefLemmas.{shown-length}
-use Rattle.ts_store.proofs.read.ColumnsReads.{facts-length}
+use Rattle.ts_store.proofs.store.ColumnsLemmas.{HoldStates, next_held, columns_held, its_points, its_columns}
 use Rattle.ts_store.proofs.store.column_facts.ColumnFacts.held_points.Goals as goal
 
 pub loop-column-init : goal.loop-column-init
@@ -23,8 +20,7 @@ loop-column-init g c = record {
 
 pub loop-column-preserved : goal.loop-column-preserved
 loop-column-preserved g c =
-    let all : length (facts_of c.args.self.now.columns) ≡ number_of_points c.self.inside.columns.items =
-    ap (λ (h : StoreContent). length (facts_of h.columns)) (sym c.self.view_is) ∙ facts-length c.self.inside.index.columns c.self.inside.columns.items c.self.invariant.each in
+    let all = its_points _ _ _ _ c.self.invariant c.self.view_is in
     let lent = ap number_of_points c.deref-column-items.ensures.value in
     let more = sum_by_more (λ (s : ColumnState). finmap.len s.points) c.deref-column-items.result.now c.loop-column.column-index c.column-item.result c.loop-column-test.true in
     let within = sum_by-take-le (λ (s : ColumnState). finmap.len s.points) c.deref-column-items.result.now (c.loop-column.column-index + 1) in
@@ -43,17 +39,15 @@ loop-column-preserved g c =
 
 pub returns-clause-all : goal.returns-clause-all
 returns-clause-all g c =
-    let all : length (facts_of c.args.self.now.columns) ≡ number_of_points c.self.inside.columns.items =
-    ap (λ (h : StoreContent). length (facts_of h.columns)) (sym c.self.view_is) ∙ facts-length c.self.inside.index.columns c.self.inside.columns.items c.self.invariant.each in
+    let all = its_points _ _ _ _ c.self.invariant c.self.view_is in
     let done = ap number_of_points (take_all c.loop-column.column-index c.deref-column-items.result.now (omega (arith, c.loop-column-test.false))) in
     let lent = ap number_of_points c.deref-column-items.ensures.value in
     omega (arith, all, done, lent, c.loop-column.invariant.all)
 
 pub returns-clause-few_more : goal.returns-clause-few_more
 returns-clause-few_more g c =
-    let all : length (facts_of c.args.self.now.columns) ≡ number_of_points c.self.inside.columns.items =
-    ap (λ (h : StoreContent). length (facts_of h.columns)) (sym c.self.view_is) ∙ facts-length c.self.inside.index.columns c.self.inside.columns.items c.self.invariant.each in
-    let many = shown-length c.self.inside.index.columns c.self.inside.columns.items c.args.self.now.columns (ap (λ (h : StoreContent). h.columns) c.self.view_is) c.self.invariant.each in
+    let all = its_points _ _ _ _ c.self.invariant c.self.view_is in
+    let many = its_columns _ _ _ _ c.self.invariant c.self.view_is in
     let done = ap number_of_points (take_all c.loop-column.column-index c.deref-column-items.result.now (omega (arith, c.loop-column-test.false))) in
     let lent = ap number_of_points c.deref-column-items.ensures.value in
     let lents = ap length c.deref-column-items.ensures.value in

@@ -1,7 +1,7 @@
 use Rattle.std.proofs.Common.{◌≡◌, ℕ, List, ◌≤◌, ◌+◌, ◌*◌, min, take}
 use Rattle.ts_store.specs.read.PointsRead.{number_of_points}
 use Rattle.ts_store.specs.store.BlocksHeld.{points_in_columns}
-use Rattle.ts_store.proofs.store.BlocksLemmas.{HoldStates}
+use Rattle.ts_store.proofs.store.ColumnsLemmas.{HoldStates}
 use Rattle.ts_store.proofs.store.column_facts.ColumnFacts.held_points.Given as goal
 
 abbrev pub invariant-loop-column : goal.invariant-loop-column

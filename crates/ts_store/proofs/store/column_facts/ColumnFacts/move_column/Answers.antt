@@ -1,21 +1,18 @@
 use Rattle.std.proofs.Common.{◌≡◌, ◌∙◌, ◌≤ℤ◌, pos, List, length, map, set, ap, sym, subst, arith}
 use Rattle.std.specs.List.{AllByRecursion}
-use Rattle.std.specs.Vec.{with_items}
-use Rattle.std.proofs.lemmas.List.{length-map, with_items_is}
 use Rattle.ts_core.specs.settings.Settings.{Rule}
 use Rattle.ts_core.specs.store.StoreData.{IsLive}
 use Rattle.ts_core.specs.lists.Beside.{OfEach}
-use Rattle.ts_core.specs.store.StoreStates.{column_of, facts_of}
+use Rattle.ts_core.specs.store.StoreStates.{column_of}
 use Rattle.ts_core.specs.moves.StoreMoves.{points_below}
 use Rattle.ts_raw.specs.Columns.{ColumnState}
 use Rattle.ts_core.specs.lists.Numbered.{IsAt}
-use Rattle.ts_store.specs.store.ColumnStates.{StoreContent, point_maps, content_of}
+use Rattle.ts_store.specs.store.ColumnStates.{StoreContent, content_of}
 use Rattle.ts_store.specs.read.PointsRead.{number_of_points}
 use Rattle.ts_store.specs.rollup.Rollups.{RollupState, AreRollups, cells_of}
 use Rattle.ts_store.specs.retain.RollupSteps.{FreezeFit, content_moved}
 use Rattle.ts_store.specs.retain.PointMoves.{MovesPoints}
-use Rattle.ts_store.proofs.store.ColumnsLemmas.{names_held}
-use Rattle.ts_store.proofs.read.ColumnsReads.{facts-length, with_points-length}
+use Rattle.ts_store.proofs.store.ColumnsLemmas.{its_points, its_columns, its_names, written_back}
 use Rattle.ts_store.proofs.write.PointsPut.{wide_of}
 use Rattle.ts_store.proofs.image.ListedColumns.{item_has}
 use Rattle.ts_store.proofs.retain.RollupMoves.{all_moved_under, held_moves}
@@ -36,20 +33,19 @@ offset_bounds-rules-i g c = let each = each_rule _ _ _ _ c.self.view_is c.as_mut
 pub move_points-requires : goal.move_points-requires
 move_points-requires g c =
     let ss : List ColumnState = c.self.inside.columns.items in
-    let shown = ap (λ (h : StoreContent). length h.columns) c.self.view_is in
-    let many = with_points-length c.self.inside.index.columns (point_maps ss) (length-map ss (λ (s : ColumnState). s.points) ∙ c.self.invariant.each) in
+    let many = its_columns _ _ _ _ c.self.invariant c.self.view_is in
     let lent = ap length c.as_slice-columns.ensures.value in
-    let all : length (facts_of c.args.self.now.columns) ≡ number_of_points ss = ap (λ (h : StoreContent). length (facts_of h.columns)) (sym c.self.view_is) ∙ facts-length c.self.inside.index.columns ss c.self.invariant.each in
+    let all = its_points _ _ _ _ c.self.invariant c.self.view_is in
     let points = ap number_of_points c.as_slice-columns.ensures.value in
     let same : c.args.self.now.rollups ≡ c.as_mut_slice-rollups.result.now = sym (c.as_mut_slice-rollups.ensures.value ∙ ap (λ (h : StoreContent). h.rollups) c.self.view_is) in
-    let names : length (map column_of c.args.self.now.columns) ≡ length c.self.inside.index.columns = ap (λ (h : StoreContent). length (map column_of h.columns)) (sym c.self.view_is) ∙ ap length (names_held c.self.inside.index ss c.self.invariant.each) in
+    let names = ap length (its_names _ _ _ _ c.self.invariant c.self.view_is) in
     let wide : AllByRecursion (λ (s : RollupState). length s.series_of_column ≡ length c.as_slice-columns.result.now) c.as_mut_slice-rollups.result.now =
     subst (AllByRecursion (λ (s : RollupState). length s.series_of_column ≡ length c.as_slice-columns.result.now)) same
     (wide_of c.args.rules.now (map column_of c.args.self.now.columns) (length c.as_slice-columns.result.now) c.args.self.now.rollups c.requires.rollups (lent ∙ c.self.invariant.each ∙ sym names)) in
     let each = each_rule _ _ _ _ c.self.view_is c.as_mut_slice-rollups.ensures.value c.requires.rollups in
     record {
       interval = item_has (λ (r : Rule). pos 1 ≤ℤ r.interval) c.args.rules.now c.loop-i.i _ c.index-rules-i.result (omega (arith, each)) c.index-rules-i.is c.requires.intervals;
-      column = omega (arith, c.requires.column, shown, many, c.self.invariant.each, lent);
+      column = omega (arith, c.requires.column, many, lent);
       each = item_has (λ (s : RollupState). length s.series_of_column ≡ length c.as_slice-columns.result.now) c.as_mut_slice-rollups.result.now c.loop-i.i _ c.index-rollups-i.result (omega arith) (unchanged_yet _ _ _ _ _ _ c.loop-i.invariant) wide;
       few = omega (arith, all, points, c.requires.few);
     }
@@ -61,10 +57,8 @@ loop-i-preserved g c =
 
 pub index_mut-requires : goal.index_mut-requires
 index_mut-requires g c =
-    let ss : List ColumnState = c.self.inside.columns.items in
-    let shown = ap (λ (h : StoreContent). length h.columns) c.self.view_is in
-    let many = with_points-length c.self.inside.index.columns (point_maps ss) (length-map ss (λ (s : ColumnState). s.points) ∙ c.self.invariant.each) in
-    omega (arith, c.requires.column, shown, many, c.self.invariant.each)
+    let many = its_columns _ _ _ _ c.self.invariant c.self.view_is in
+    omega (arith, c.requires.column, many)
 
 pub returns : goal.returns
 returns g c =
@@ -75,16 +69,13 @@ returns g c =
     let n = c.args.column in
     let rs = c.args.rules.now in
     let mark = c.args.mark in
-    let shown = ap (λ (h : StoreContent). length h.columns) c.self.view_is in
-    let many = with_points-length c.self.inside.index.columns (point_maps ss) (length-map ss (λ (s : ColumnState). s.points) ∙ c.self.invariant.each) in
+    let many = its_columns _ _ _ _ c.self.invariant c.self.view_is in
     let each = each_rule _ _ _ _ c.self.view_is c.as_mut_slice-rollups.ensures.value c.requires.rollups in
     let rollups : AreRollups rs (map column_of (content_of c.self.inside.index ss us).columns) us =
     subst (λ (h : StoreContent). AreRollups rs (map column_of h.columns) h.rollups) (sym c.self.view_is) c.requires.rollups in
     let live : OfEach (IsLive (content_of c.self.inside.index ss us).columns) rs (cells_of us) =
     subst (λ (h : StoreContent). OfEach (IsLive h.columns) rs (cells_of h.rollups)) (sym c.self.view_is) c.requires.live in
-    let counted = c.self.inside.rollups.ok.0 in
-    let long : length vs ≡ c.self.inside.rollups.len = cc (c.loop-i.auto.rollups, c.as_mut_slice-rollups.ensures.value, counted) in
-    let written : (with_items c.self.inside.rollups vs).items ≡ vs = with_items_is c.self.inside.rollups vs long in
+    let written = written_back c.self.inside.rollups _ vs c.loop-i.auto.rollups c.as_mut_slice-rollups.ensures.value in
     let moved : MovesPoints rs ss n mark us vs =
     subst (λ (xs : List ColumnState). MovesPoints rs xs n mark us vs) c.as_slice-columns.ensures.value
     (subst (λ (ws : List RollupState). MovesPoints rs c.as_slice-columns.result.now n mark ws vs) c.as_mut_slice-rollups.ensures.value
@@ -93,5 +84,5 @@ returns g c =
     ap (λ (ws : List RollupState). content_of c.self.inside.index (set ss n c.drop_below.new.self) ws) written
     ∙ subst (λ (h : StoreContent). IsAt h.columns n s → FreezeFit rs s.column (points_below mark s.points) (cells_of h.rollups) → content_of c.self.inside.index (set ss n c.drop_below.new.self) vs ≡ content_moved rs s mark h) c.self.view_is
     (λ at fit.
-    held_moves c.self.inside.index ss us vs rs mark n x c.drop_below.new.self c.self.invariant (omega (arith, c.requires.column, shown, many, c.self.invariant.each)) c.index_mut.ensures.value c.drop_below.ensures.kept rollups live moved
+    held_moves c.self.inside.index ss us vs rs mark n x c.drop_below.new.self c.self.invariant (omega (arith, c.requires.column, many)) c.index_mut.ensures.value c.drop_below.ensures.kept rollups live moved
     s at fit) at fit

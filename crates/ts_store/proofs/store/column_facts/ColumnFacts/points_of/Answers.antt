@@ -1,19 +1,19 @@
 use Rattle.std.proofs.Common.{◌∙◌, ap, sym, subst, get_or, arith}
 use Rattle.ts_raw.specs.PlainColumns.{IsRising}
 use Rattle.ts_raw.proofs.ColumnLaws.{points-rising}
-use Rattle.ts_store.specs.store.ColumnStates.{StoreContent}
-use Rattle.ts_store.proofs.read.ColumnRefLemmas.{shown-length, points_shown}
+use Rattle.ts_store.proofs.read.ColumnRefLemmas.{points_shown}
+use Rattle.ts_store.proofs.store.ColumnsLemmas.{its_columns}
 use Rattle.ts_store.proofs.store.column_facts.ColumnFacts.points_of.Goals as goal
 
 pub index-requires : goal.index-requires
 index-requires g c =
-    let many = shown-length c.self.inside.index.columns c.self.inside.columns.items c.args.self.now.columns (ap (λ (h : StoreContent). h.columns) c.self.view_is) c.self.invariant.each in
+    let many = its_columns _ _ _ _ c.self.invariant c.self.view_is in
     omega (arith, c.requires, c.number.ensures, many)
 
 pub returns-clause-points : goal.returns-clause-points
 returns-clause-points g c =
     c.all.ensures.points
-    ∙ points_shown c.self.inside.index.columns c.self.inside.columns.items c.args.self.now.columns c.args.column c.index.result.now (ap (λ (h : StoreContent). h.columns) c.self.view_is) c.self.invariant.each c.requires
+    ∙ points_shown _ _ _ _ c.args.column c.index.result.now c.self.invariant c.self.view_is c.requires
     (c.index.ensures ∙ ap (λ n. get_or c.self.inside.columns.items n c.index.result.now) c.number.ensures)
 
 pub returns-clause-rising : goal.returns-clause-rising

@@ -1,18 +1,15 @@
-use Rattle.std.proofs.Common.{◌≡◌, ◌∙◌, length, ap, sym, arith}
+use Rattle.std.proofs.Common.{◌≡◌, ◌∙◌, ap, sym, arith}
 use Rattle.std.specs.FinMap as finmap
 use Rattle.std.proofs.lemmas.List.{take_all}
 use Rattle.std.proofs.lemmas.List.Sums.{sum_by_more_le}
-use Rattle.ts_core.specs.store.StoreStates.{facts_of}
 use Rattle.ts_raw.specs.Columns.{ColumnState}
-use Rattle.ts_store.specs.store.ColumnStates.{StoreContent}
 use Rattle.ts_store.specs.read.PointsRead.{number_of_points}
-use Rattle.ts_store.proofs.read.ColumnsReads.{facts-length}
+use Rattle.ts_store.proofs.store.ColumnsLemmas.{its_points}
 use Rattle.ts_store.proofs.store.column_facts.ColumnFacts.raw_points.Goals as goal
 
 pub overflow_add-count : goal.overflow_add-count
 overflow_add-count g c =
-    let all : length (facts_of c.args.self.now.columns) ≡ number_of_points c.self.inside.columns.items =
-    ap (λ (h : StoreContent). length (facts_of h.columns)) (sym c.self.view_is) ∙ facts-length c.self.inside.index.columns c.self.inside.columns.items c.self.invariant.each in
+    let all = its_points _ _ _ _ c.self.invariant c.self.view_is in
     let lent = ap number_of_points c.deref-column-items.ensures.value in
     let more = sum_by_more_le (λ (s : ColumnState). finmap.len s.points) c.deref-column-items.result.now c.loop-column.column-index c.column-item.result c.loop-column-test.true in
     let one = c.live.ensures ∙ ap (λ (s : ColumnState). finmap.len s.points) c.column-item.is in
@@ -20,8 +17,7 @@ overflow_add-count g c =
 
 pub returns : goal.returns
 returns g c =
-    let all : length (facts_of c.args.self.now.columns) ≡ number_of_points c.self.inside.columns.items =
-    ap (λ (h : StoreContent). length (facts_of h.columns)) (sym c.self.view_is) ∙ facts-length c.self.inside.index.columns c.self.inside.columns.items c.self.invariant.each in
+    let all = its_points _ _ _ _ c.self.invariant c.self.view_is in
     let done : c.loop-column.count ≡ number_of_points c.deref-column-items.result.now =
     c.loop-column.invariant ∙ ap number_of_points (take_all c.loop-column.column-index c.deref-column-items.result.now (omega (arith, c.loop-column-test.false))) in
     done ∙ ap number_of_points c.deref-column-items.ensures.value ∙ sym all
