@@ -4,6 +4,8 @@ pub mod ExportLemmas
 pub mod NameLemmas
 -- FaultTables
 pub mod FaultTableLemmas
+-- SettingsShown
+pub mod SettingsShownLemmas
 -- ServedRequests
 pub mod RequestLemmas
 -- CommandLines

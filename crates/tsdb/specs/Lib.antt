@@ -6,6 +6,7 @@ pub mod Calls
 pub mod ServedRequests
 pub mod Services
 pub mod Inspections
+pub mod SettingsShown
 pub mod Exports
 pub mod Openings
 -- used only by proofs of the code

@@ -1,8 +1,10 @@
 //! A summary of what an image holds.
-ghost use Rattle.std.specs.Prelude.{◌≡◌, length, IfOk};
+ghost use Rattle.std.specs.Prelude.{◌≡◌, pos, ◌≤ℤ◌, length, IfOk};
 ghost use Rattle.std.specs.List.{AllByRecursion};
 ghost use Rattle.ts_core.specs.store.StoreStates.{facts_of};
+ghost use Rattle.ts_core.specs.store.StoreData.{store_settings};
 ghost use Rattle.ts_image.specs.Saving.{HasItsColumns};
+ghost use Rattle.tsdb.specs.SettingsShown.{ShowsRule, ShowsSettings};
 
 use crate::duration_text::{keeping_text, offset_text};
 use serde::Serialize;
@@ -63,7 +65,10 @@ pub struct Summary<'a> {
 
 impl<'a> RuleSettings<'a> {
     /// Returns the settings of a rule.
-    fn of_rule(alloc: Global, rule: &'a Rule<Global>) -> Result<RuleSettings<'a>, AllocError> {
+    fn of_rule(alloc: Global, rule: &'a Rule<Global>) -> Result<RuleSettings<'a>, AllocError>
+        requires { pos 1 ≤ℤ rule.now.interval }
+        ensures { IfOk result (ShowsRule rule.now) }
+    {
         Ok(RuleSettings {
             name: rule.name(),
             measurement: rule.measurement(),
@@ -80,7 +85,9 @@ impl<'a> SettingsSummary<'a> {
     fn of_settings(
         alloc: Global,
         settings: &'a Settings<Global>,
-    ) -> Result<SettingsSummary<'a>, AllocError> {
+    ) -> Result<SettingsSummary<'a>, AllocError>
+        ensures { IfOk result (ShowsSettings settings.now) }
+    {
         let mut rules = Vec::new(alloc);
         for rule in settings.rules() {
             rules.push(RuleSettings::of_rule(alloc, rule)?)?;
@@ -168,6 +175,7 @@ impl<'a> Summary<'a> {
         bytes: u64,
     ) -> Result<Summary<'a>, AllocError>
         ensures image { IfOk result (λ s. (s.version ≡ version) × (s.bytes ≡ bytes)) }
+        ensures settings { IfOk result (λ s. ShowsSettings (store_settings store.now) s.settings) }
         ensures run { IfOk result (λ s. (s.raw_mark ≡ store.now.raw_mark) × (s.run_open ≡ store.now.running)) }
         ensures counts { IfOk result (λ s. (s.accepted ≡ store.now.accepted) × (s.raw_points ≡ length (facts_of store.now.columns))) }
     {
