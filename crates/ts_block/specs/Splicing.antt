@@ -42,17 +42,20 @@ pub record IsPlace (points : List (ℤ × ℤ)) (limit : ℕ) (time : ℤ) (plac
 
 -- the head, and the steps up to the time
 abbrev pub text_to : ℕ → Place → ℤ → List ℕ
-text_to later place time = if place.index == 0 then head_text later time else head_text later place.first ++ (place.earlier_steps.now ++ number_text (step_between place.before time))
+text_to later place time = if place.index == 0 then head_text later time
+    else head_text later place.first ++ (place.earlier_steps.now ++ number_text (step_between place.before time))
 
 -- the number of points after the first one
 abbrev pub count_with : ℕ → Place → ℤ → ℕ
 count_with later place time = if int_lt time place.time then later + 1 else later
 
 abbrev pub steps_after : Place → ℤ → List ℕ
-steps_after place time = if int_lt time place.time then number_text (step_between time place.time) ++ place.later_steps.now else place.later_steps.now
+steps_after place time = if int_lt time place.time
+    then number_text (step_between time place.time) ++ place.later_steps.now else place.later_steps.now
 
 abbrev pub values_after : Place → ℤ → List ℕ
-values_after place time = if int_lt time place.time then place.later_values.now else (number_or (number_at place.later_values.now)).1
+values_after place time =
+    if int_lt time place.time then place.later_values.now else (number_or (number_at place.later_values.now)).1
 
 -- ---- copied blocks
 

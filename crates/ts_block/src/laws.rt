@@ -4,5 +4,6 @@ ghost use Rattle.ts_block.specs.Blocks.{IsBlockOf};
 
 /// Proves that no block begins another one, and that each is the block of its points alone.
 pub fn blocks_are_apart()
-    ensures { (a b x y : List ℕ) (p q : List (ℤ × ℤ)) → IsBlockOf a p → IsBlockOf b q → a ++ x ≡ b ++ y → (a ≡ b) × (p ≡ q) }
+    ensures { (a b x y : List ℕ) (p q : List (ℤ × ℤ))
+        → IsBlockOf a p → IsBlockOf b q → a ++ x ≡ b ++ y → (a ≡ b) × (p ≡ q) }
 {}

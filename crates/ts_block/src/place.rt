@@ -25,7 +25,8 @@ pub(crate) struct Place<'a> {
 /// Returns the first point that isn't before a time, or the point at the index `limit` if this comes first. The block's
 /// values start at the offset `values`.
 pub(crate) fn find(block: &[u8], values: usize, limit: usize, time: Time) -> Place<'_>
-    requires { (points : List (ℤ × ℤ)) × IsBlockOf block.now points × (values ≡ values_start points) × (limit < length points) }
+    requires { (points : List (ℤ × ℤ))
+        × IsBlockOf block.now points × (values ≡ values_start points) × (limit < length points) }
     ensures { (points : List (ℤ × ℤ)) → IsBlockOf block.now points → IsPlace points limit time result }
 {
     let (_, first, all_steps) = match read_head(block) {

@@ -100,8 +100,10 @@ pub fn with_point<A: Allocator>(
     values: usize,
     point: &(Time, i64),
 ) -> Result<(Vec<u8, A>, usize, bool), AllocError>
-    requires { (points : List (ℤ × ℤ)) × IsBlockOf block.now points × (values ≡ values_start points) × (length points < 256) × (point.now.0 ≤ℤ last_time points) }
-    ensures { IfOk result (λ found. (points : List (ℤ × ℤ)) → IsBlockOf block.now points → IsBlockWith points point.now found.0.items found.1 found.2) }
+    requires { (points : List (ℤ × ℤ)) × IsBlockOf block.now points
+        × (values ≡ values_start points) × (length points < 256) × (point.now.0 ≤ℤ last_time points) }
+    ensures { IfOk result (λ found. (points : List (ℤ × ℤ))
+        → IsBlockOf block.now points → IsBlockWith points point.now found.0.items found.1 found.2) }
 {
     // For the proof: the time is valid.
     let _valid = point.0.nanos();
@@ -131,8 +133,10 @@ pub fn first_points<A: Allocator>(
     last: Time,
     count: usize,
 ) -> Result<(Vec<u8, A>, usize, Time), AllocError>
-    requires { (points : List (ℤ × ℤ)) × IsBlockOf block.now points × (values ≡ values_start points) × (last ≡ last_time points) × (0 < count) × (count < length points) }
-    ensures { IfOk result (λ found. (points : List (ℤ × ℤ)) → IsBlockOf block.now points → IsPart (take count points) found.0.items found.1 found.2) }
+    requires { (points : List (ℤ × ℤ)) × IsBlockOf block.now points
+        × (values ≡ values_start points) × (last ≡ last_time points) × (0 < count) × (count < length points) }
+    ensures { IfOk result (λ found. (points : List (ℤ × ℤ))
+        → IsBlockOf block.now points → IsPart (take count points) found.0.items found.1 found.2) }
 {
     let place = find(block, values, count, last);
     let mut out = Vec::with_capacity(alloc, block.len())?;
@@ -152,8 +156,10 @@ pub fn last_points<A: Allocator>(
     last: Time,
     count: usize,
 ) -> Result<(Vec<u8, A>, usize), AllocError>
-    requires { (points : List (ℤ × ℤ)) × IsBlockOf block.now points × (values ≡ values_start points) × (last ≡ last_time points) × (count < length points) }
-    ensures { IfOk result (λ found. (points : List (ℤ × ℤ)) → IsBlockOf block.now points → IsPart (drop count points) found.0.items found.1 (last_time points)) }
+    requires { (points : List (ℤ × ℤ)) × IsBlockOf block.now points
+        × (values ≡ values_start points) × (last ≡ last_time points) × (count < length points) }
+    ensures { IfOk result (λ found. (points : List (ℤ × ℤ))
+        → IsBlockOf block.now points → IsPart (drop count points) found.0.items found.1 (last_time points)) }
 {
     let place = find(block, values, count, last);
     let mut out = Vec::with_capacity(alloc, block.len() + 9)?;

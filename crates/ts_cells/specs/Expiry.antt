@@ -18,7 +18,8 @@ pub record LosesOne {P : Type 0} (low : ℤ) (part : P) (before after : List (Ro
   pub series : ℕ
   pub below : index <ℤ low
   pub was : held (cells_of_bucket before index) series ≡ Some part
-  pub cells : (i : ℤ) (j : ℕ) → held (cells_of_bucket after i) j ≡ (if eq_by_cmp int_cmp i index && (j == series) then None else held (cells_of_bucket before i) j)
+  pub cells : (i : ℤ) (j : ℕ) → held (cells_of_bucket after i) j
+      ≡ (if eq_by_cmp int_cmp i index && (j == series) then None else held (cells_of_bucket before i) j)
 
 -- no cell is below the index, and none was removed
 pub record HasNoneBelow {P : Type 0} (low : ℤ) (before after : List (RowOf P)) : Type 0 where

@@ -23,6 +23,7 @@ abbrev pub frozen_cell_count : {P : Type 0} → (P → ℕ) → FinMap cell_cmp 
 frozen_cell_count {P} size m = length (filter (λ (e : Cell × PartsOf P). has_frozen_facts size e.1) (finmap.entries m))
 
 -- the rows are a grid, and this many of its cells have frozen facts
-pub record IsCountedGrid {P : Type 0} (size : P → ℕ) (ls : List RollupSeries) (rows : List (RowOf (PartsOf P))) (frozen : ℕ) : Type 0 where
+pub record IsCountedGrid {P : Type 0} (size : P → ℕ)
+    (ls : List RollupSeries) (rows : List (RowOf (PartsOf P))) (frozen : ℕ) : Type 0 where
   pub grid : IsGrid ls rows
   pub counted : frozen ≡ frozen_cell_count size (grid_of ls rows).cells

@@ -85,8 +85,10 @@ pub record HasLost {P : Type 0} (part : P) (before after : List (Option P)) : Ty
 -- ---- codes
 
 abbrev pub coded_rollup_series : Coded RollupSeries
-coded_rollup_series = code_by (Text × List Text) (coded× coded_text (coded_list coded_text)) (λ l. (l.field, l.group)) (λ p. record { field = p.0; group = p.1 }) (λ _. refl)
+coded_rollup_series = code_by (Text × List Text) (coded× coded_text (coded_list coded_text))
+    (λ l. (l.field, l.group)) (λ p. record { field = p.0; group = p.1 }) (λ _. refl)
 
 abbrev pub coded_grid : {P : Type 0} → Coded P → Coded (Grid P)
 coded_grid {P} c =
-    code_by (List RollupSeries × FinMap cell_cmp P) (coded× (coded_list coded_rollup_series) (finmap.code coded_cell c)) (λ g. (g.rollup_series, g.cells)) (λ p. record { rollup_series = p.0; cells = p.1 }) (λ _. refl)
+    code_by (List RollupSeries × FinMap cell_cmp P) (coded× (coded_list coded_rollup_series) (finmap.code coded_cell c))
+    (λ g. (g.rollup_series, g.cells)) (λ p. record { rollup_series = p.0; cells = p.1 }) (λ _. refl)

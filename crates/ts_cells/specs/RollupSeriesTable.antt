@@ -37,7 +37,8 @@ AreInside rollup_series order = AllByRecursion (λ (n : ℕ). n < length rollup_
 pub record IsOrdered (rollup_series : List RollupSeries) (order : List ℕ) : Type 0 where
   pub rising : T (is_sorted rollup_series_cmp (series_numbered rollup_series order))
   pub inside : AreInside rollup_series order
-  pub all : (j : ℕ) → j < length rollup_series → find rollup_series_cmp (get_or rollup_series j no_rollup_series) (series_numbered rollup_series order) ≡ Some j
+  pub all : (j : ℕ) → j < length rollup_series
+      → find rollup_series_cmp (get_or rollup_series j no_rollup_series) (series_numbered rollup_series order) ≡ Some j
 
 -- the position of a rollup series in the order after one more was inserted
 abbrev pub shifted : ℕ → ℕ → ℕ
@@ -61,7 +62,8 @@ unfoldable pub hash_of_rollup_series : RandomState → RollupSeries → ℕ
 hash_of_rollup_series seed l = finish (hash_of_texts (with_text (initial_hasher seed) l.field) l.group)
 
 -- rollup series with their hashes and their order
-pub record AreFound (seed : RandomState) (rollup_series : List RollupSeries) (hashes order ranks : List ℕ) : Type 0 where
+pub record AreFound (seed : RandomState)
+    (rollup_series : List RollupSeries) (hashes order ranks : List ℕ) : Type 0 where
   pub table : IsTable (hash_of_rollup_series seed) rollup_series hashes
   pub ordered : IsOrdered rollup_series order
   pub ranked : IsRanked (length rollup_series) order ranks

@@ -8,7 +8,8 @@ use Rattle.ts_cells.specs.Expiry.{HasEmptyFront}
 
 -- no row grew
 abbrev pub NoWider : {P : Type 0} → List (RowOf P) → List (RowOf P) → Type 0
-NoWider {P} before after = (n : ℕ) → AllByRecursion (λ (r : RowOf P). length r.1 ≤ n) before → AllByRecursion (λ (r : RowOf P). length r.1 ≤ n) after
+NoWider {P} before after = (n : ℕ)
+    → AllByRecursion (λ (r : RowOf P). length r.1 ≤ n) before → AllByRecursion (λ (r : RowOf P). length r.1 ≤ n) after
 
 -- each bucket has the same cells as before, even if its row was added or removed
 pub record KeepsBuckets {P : Type 0} (before after : List (RowOf P)) : Type 0 where

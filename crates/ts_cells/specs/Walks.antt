@@ -31,14 +31,17 @@ with_entry (Some p) n k rest = record { series = n; cell = k; part = p } ∷ res
 -- the cells of a bucket in the rollup series with these indices
 abbrev pub row_left : {P : Type 0} → List RollupSeries → ℤ → List (Option P) → List ℕ → List (CellWithPart P)
 row_left rollup_series i cs [] = []
-row_left rollup_series i cs (n ∷ ns) = with_entry (held cs n) n (cell_in rollup_series i n) (row_left rollup_series i cs ns)
+row_left rollup_series i cs (n ∷ ns) =
+    with_entry (held cs n) n (cell_in rollup_series i n) (row_left rollup_series i cs ns)
 
 -- the cells of the first row in the remaining rollup series, and those of the other rows in all rollup series
 abbrev pub walk_left : {P : Type 0} → List RollupSeries → List ℕ → List (RowOf P) → List ℕ → List (CellWithPart P)
 walk_left rollup_series order [] left = []
-walk_left rollup_series order (r ∷ rs) left = row_left rollup_series r.0 r.1 left ++ walk_left rollup_series order rs order
+walk_left rollup_series order (r ∷ rs) left =
+    row_left rollup_series r.0 r.1 left ++ walk_left rollup_series order rs order
 
 -- ---- codes
 
 abbrev pub coded_cell_with_part : {P : Type 0} → Coded P → Coded (CellWithPart P)
-coded_cell_with_part {P} c = code_by (ℕ × (Cell × P)) (coded× coded_ℕ (coded× coded_cell c)) (λ k. (k.series, (k.cell, k.part))) (λ p. record { series = p.0; cell = p.1.0; part = p.1.1 }) (λ _. refl)
+coded_cell_with_part {P} c = code_by (ℕ × (Cell × P)) (coded× coded_ℕ (coded× coded_cell c))
+    (λ k. (k.series, (k.cell, k.part))) (λ p. record { series = p.0; cell = p.1.0; part = p.1.1 }) (λ _. refl)

@@ -67,7 +67,9 @@ fn index_in_order<A: Allocator + Copy>(
     requires ordered { IsOrdered rollup_series.now order.now }
     requires absent { Among (rollup_series_named field.now group.now) rollup_series.now → ⊥ }
     ensures bound { result ≤ length order.now }
-    ensures slot { IsPartitionPoint (λ n. found_cmp (slice_get rollup_series.now n) (rollup_series_named field.now group.now) ≡ Ordering.Less) (λ n. found_cmp (slice_get rollup_series.now n) (rollup_series_named field.now group.now) ≡ Ordering.Greater) order.now result }
+    ensures slot { IsPartitionPoint (λ n. found_cmp
+        (slice_get rollup_series.now n) (rollup_series_named field.now group.now) ≡ Ordering.Less) (λ n. found_cmp
+        (slice_get rollup_series.now n) (rollup_series_named field.now group.now) ≡ Ordering.Greater) order.now result }
 {
     order.partition_point(|number| compare_at(rollup_series, *number, field, group).is_lt())
 }

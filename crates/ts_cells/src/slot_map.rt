@@ -39,7 +39,9 @@ impl<A: Allocator> Model for SlotMap<A> {
 fn search(slots: &[(u32, u32)], series: u32) -> Result<usize, usize>
     requires { AreSortedSlots slots.now }
     ensures bound { IsSearchInRange result (length slots.now) }
-    ensures slot { MatchResult result (HoldsAt (λ e. nat_cmp e.0 series ≡ Ordering.Equal) slots.now) (IsPartitionPoint (λ e. nat_cmp e.0 series ≡ Ordering.Less) (λ e. nat_cmp e.0 series ≡ Ordering.Greater) slots.now) }
+    ensures slot { MatchResult result (HoldsAt (λ e. nat_cmp e.0 series ≡ Ordering.Equal) slots.now)
+        (IsPartitionPoint (λ e. nat_cmp e.0 series ≡ Ordering.Less)
+        (λ e. nat_cmp e.0 series ≡ Ordering.Greater) slots.now) }
 {
     slots.binary_search_by(|entry| entry.0.cmp(&series))
 }
@@ -48,7 +50,9 @@ fn search(slots: &[(u32, u32)], series: u32) -> Result<usize, usize>
 fn find_from_end(slots: &[(u32, u32)], series: u32) -> Result<usize, usize>
     requires { AreSortedSlots slots.now }
     ensures bound { IsSearchInRange result (length slots.now) }
-    ensures slot { MatchResult result (HoldsAt (λ e. nat_cmp e.0 series ≡ Ordering.Equal) slots.now) (IsPartitionPoint (λ e. nat_cmp e.0 series ≡ Ordering.Less) (λ e. nat_cmp e.0 series ≡ Ordering.Greater) slots.now) }
+    ensures slot { MatchResult result (HoldsAt (λ e. nat_cmp e.0 series ≡ Ordering.Equal) slots.now)
+        (IsPartitionPoint (λ e. nat_cmp e.0 series ≡ Ordering.Less)
+        (λ e. nat_cmp e.0 series ≡ Ordering.Greater) slots.now) }
 {
     match slots.last() {
         Some(last) if last.0 >= series => search(slots, series),
@@ -60,7 +64,9 @@ fn find_from_end(slots: &[(u32, u32)], series: u32) -> Result<usize, usize>
 fn find(slots: &[(u32, u32)], series: u32) -> Result<usize, usize>
     requires { AreSortedSlots slots.now }
     ensures bound { IsSearchInRange result (length slots.now) }
-    ensures slot { MatchResult result (HoldsAt (λ e. nat_cmp e.0 series ≡ Ordering.Equal) slots.now) (IsPartitionPoint (λ e. nat_cmp e.0 series ≡ Ordering.Less) (λ e. nat_cmp e.0 series ≡ Ordering.Greater) slots.now) }
+    ensures slot { MatchResult result (HoldsAt (λ e. nat_cmp e.0 series ≡ Ordering.Equal) slots.now)
+        (IsPartitionPoint (λ e. nat_cmp e.0 series ≡ Ordering.Less)
+        (λ e. nat_cmp e.0 series ≡ Ordering.Greater) slots.now) }
 {
     let at = series as usize;
     match slots.get(at) {

@@ -42,7 +42,8 @@ is_magnitude (b ∷ bs) = list_all is_ascii_digit (b ∷ bs) && (not (b == 48) |
 -- each number has this decimal, and each such text is the decimal of its value
 pub record AreDecimals : Type 0 where
   pub written : (n : ℕ) → n < 2 ^ 64 → (is_magnitude (decimal n) ≡ true) × (digits_value 10 (decimal n) ≡ n)
-  pub only : (text : Text) → is_magnitude text ≡ true → digits_value 10 text < 2 ^ 64 → text ≡ decimal (digits_value 10 text)
+  pub only : (text : Text)
+      → is_magnitude text ≡ true → digits_value 10 text < 2 ^ 64 → text ≡ decimal (digits_value 10 text)
 
 -- ---- the spelling
 
@@ -116,7 +117,8 @@ IsReadAs ps (Err e) = e ≡ errors.OutOfMemory
 
 -- no certificate is a prefix of another
 abbrev pub IsOneCertificate : Type 0
-IsOneCertificate = (ps qs : List Piece) (more : Text) → EachHasSpelling ps → EachHasSpelling qs → certificate_text ps ++ more ≡ certificate_text qs → (ps ≡ qs) × (more ≡ [])
+IsOneCertificate = (ps qs : List Piece) (more : Text) → EachHasSpelling ps
+    → EachHasSpelling qs → certificate_text ps ++ more ≡ certificate_text qs → (ps ≡ qs) × (more ≡ [])
 
 -- the spelling is unambiguous: each certificate has one reading, and each number one decimal
 pub record IsPlainSpelling : Type 0 where

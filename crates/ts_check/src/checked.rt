@@ -27,7 +27,8 @@ impl<A: Allocator> Model for Checked<A> {
 
     ghost view = { λ c. record { settings = c.settings; marks = c.marks; select = c.query; pieces = c.pieces.items } };
 
-    ghost invariant = { λ c. IsValidPlan (record { settings = c.settings; marks = c.marks; select = c.query; pieces = c.pieces.items }) };
+    ghost invariant = { λ c. IsValidPlan
+        (record { settings = c.settings; marks = c.marks; select = c.query; pieces = c.pieces.items }) };
 }
 
 impl<A: Allocator> Checked<A> {
@@ -85,7 +86,8 @@ pub fn check<A: Allocator + Copy>(
     certificate: &Certificate<A>,
 ) -> Result<Checked<A>, CheckError>
     requires { length marks.now.lows ≡ length settings.now.rules }
-    ensures { IsCheckOf (record { settings = settings.now; marks = marks.now; select = query.now; pieces = certificate.now }) result }
+    ensures { IsCheckOf
+        (record { settings = settings.now; marks = marks.now; select = query.now; pieces = certificate.now }) result }
 {
     if let Some((kind, piece)) = first_fault(settings, marks, query, certificate.pieces()) {
         return Err(CheckError::Fault(CheckFault { kind, piece }));

@@ -81,4 +81,5 @@ content_rows (NumberFill n) rows = rows
 -- the rows, filled; `earlier` is the last data before the first
 abbrev pub rows_following : Fill → List Function → Option Aggregate → List Row → List FilledRow
 rows_following fill fs earlier [] = []
-rows_following fill fs earlier (r ∷ rows) = content_row (row_content fill (last_data earlier r) r.aggregate) fs r.start ∷ rows_following fill fs (last_data earlier r) rows
+rows_following fill fs earlier (r ∷ rows) = content_row (row_content fill (last_data earlier r) r.aggregate) fs r.start
+    ∷ rows_following fill fs (last_data earlier r) rows

@@ -62,7 +62,8 @@ pub record IsScanOf (q : Query) (n : ℕ) (g : BucketGrid) (t : Option SeriesTes
 abbrev pub with_column_ref : AggregateParts → Query → List ColumnPoints → ℤ → ℤ → ColumnRef → Table → Table
 with_column_ref parts q cs a b s t =
     if list_all (meets s.series) q.conditions
-    then with_column_parts parts (bucket_grid q) (width q) (tag_values q.group_tags s.series) (points_at cs s.number a b) t
+    then with_column_parts parts
+    (bucket_grid q) (width q) (tag_values q.group_tags s.series) (points_at cs s.number a b) t
     else t
 
 abbrev pub with_column_refs : AggregateParts → Query → List ColumnPoints → ℤ → ℤ → List ColumnRef → Table → Table
@@ -84,12 +85,14 @@ pub record IsNarrowing (conditions : List Condition) (c : Condition) : Type 0 wh
 
 -- a cell that has data and matches the query
 abbrev pub is_cell_taken : Query → Rule → ℤ → ℤ → SeenCell → Bool
-is_cell_taken q r a b c = (matches q (representative r c.cell) && is_within a b (start_of r c.cell.index)) && not ((total_in c.parts).count == 0)
+is_cell_taken q r a b c = (matches q (representative r c.cell) && is_within a b (start_of r c.cell.index))
+    && not ((total_in c.parts).count == 0)
 
 abbrev pub with_rule_cell : Query → Rule → ℤ → ℤ → SeenCell → Table → Table
 with_rule_cell q r a b c t =
     if is_cell_taken q r a b c
-    then with_cell_part (width q) (group_of q (representative r c.cell)) (row_index_at (bucket_grid q) (start_of r c.cell.index)) (total_in c.parts) t
+    then with_cell_part (width q)
+    (group_of q (representative r c.cell)) (row_index_at (bucket_grid q) (start_of r c.cell.index)) (total_in c.parts) t
     else t
 
 abbrev pub with_cell_parts : Query → Rule → ℤ → ℤ → List SeenCell → Table → Table
@@ -98,12 +101,14 @@ with_cell_parts q r a b (c ∷ cs) t = with_cell_parts q r a b cs (with_rule_cel
 
 abbrev pub with_rule_cells : Query → ℤ → ℤ → Option RuleCells → Table → Table
 with_rule_cells q a b None t = t
-with_rule_cells q a b (Some r) t = with_cell_parts q r.rule a b (cells_within r (index_of r.rule a) (index_of r.rule b)) t
+with_rule_cells q a b (Some r) t =
+    with_cell_parts q r.rule a b (cells_within r (index_of r.rule a) (index_of r.rule b)) t
 
 -- ---- pieces
 
 abbrev pub with_source : AggregateParts → ViewState → Query → Source → ℤ → ℤ → Table → Table
-with_source parts seen q Raw a b t = with_column_refs parts q seen.columns a b (column_refs_where (is_of q.measurement q.field) seen.columns) t
+with_source parts seen q Raw a b t =
+    with_column_refs parts q seen.columns a b (column_refs_where (is_of q.measurement q.field) seen.columns) t
 with_source parts seen q (Rollup name) a b t = with_rule_cells q a b (rule_shown name seen.rules) t
 
 abbrev pub with_pieces : AggregateParts → ViewState → Query → List Piece → Table → Table
@@ -114,7 +119,8 @@ with_pieces parts seen q (p ∷ ps) t = with_pieces parts seen q ps (with_source
 
 abbrev pub rows_from : BucketGrid → ℤ → List Aggregate → List Row
 rows_from g k [] = []
-rows_from g k (a ∷ aggregates) = record { start = (k *ℤ g.interval) +ℤ g.offset; aggregate = a } ∷ rows_from g (k +ℤ pos 1) aggregates
+rows_from g k (a ∷ aggregates) =
+    record { start = (k *ℤ g.interval) +ℤ g.offset; aggregate = a } ∷ rows_from g (k +ℤ pos 1) aggregates
 
 abbrev pub group_on : BucketGrid → List Text × List Aggregate → Group
 group_on g e = record { values = e.0; rows = rows_from g (bucket_of g.from g.interval g.offset) e.1 }

@@ -24,7 +24,8 @@ is_same_source (Rollup name) (Rollup other) = same_text name other
 
 -- both have one source, the second starts where the first ends, and neither ends before it starts
 abbrev pub are_adjacent : Piece → Piece → Bool
-are_adjacent p b = is_same_source p.source b.source && (int_eq p.to b.from && (int_le p.from p.to && int_le b.from b.to))
+are_adjacent p b =
+    is_same_source p.source b.source && (int_eq p.to b.from && (int_le p.from p.to && int_le b.from b.to))
 
 -- from left to right: the next piece extends the one before it if they are adjacent
 abbrev pub joined_onto : Piece → List Piece → List Piece
@@ -59,8 +60,10 @@ has_small_parts seen (Rollup name) a b = are_small a b (rule_shown name seen.rul
 abbrev pub have_small_parts : ViewState → List Piece → Bool
 have_small_parts seen ps = list_all (λ (p : Piece). has_small_parts seen p.source p.from p.to) ps
 
--- the groups of the pieces one after another; or those of the joined pieces, if each row has room and each cell is small
+-- the groups of the pieces one after another; or those of the joined pieces, if each row has room and each cell is
+-- small
 abbrev pub AreGroupsOf : AggregateParts → ViewState → Query → List Piece → Table → Type 0
 AreGroupsOf parts seen q ps t =
     (t ≡ with_pieces parts seen q ps [])
-    ⊎ ((t ≡ with_pieces parts seen q (joined_pieces ps) []) × (have_room t ≡ true) × (have_small_parts seen (joined_pieces ps) ≡ true))
+    ⊎ ((t ≡ with_pieces parts seen q (joined_pieces ps) [])
+    × (have_room t ≡ true) × (have_small_parts seen (joined_pieces ps) ≡ true))

@@ -67,17 +67,20 @@ with_counted i (suc n) rows = with_part i (count_part (suc n)) rows
 
 abbrev pub with_point_parts : AggregateParts → BucketGrid → List (ℤ × ℤ) → List Aggregate → List Aggregate
 with_point_parts parts g [] rows = rows
-with_point_parts parts g (p ∷ ps) rows = with_point_parts parts g ps (with_part (row_index_at g p.0) (part_of_point parts p.0 p.1) rows)
+with_point_parts parts g (p ∷ ps) rows =
+    with_point_parts parts g ps (with_part (row_index_at g p.0) (part_of_point parts p.0 p.1) rows)
 
 -- a run of points: all times from low, inclusive, to high, exclusive, are in the row with this number. If there are
 -- any, the row can count the part and `left` more points. The part itself has at most 2^62.
-pub record IsRun (g : BucketGrid) (rows : List Aggregate) (left : ℕ) (low high : ℤ) (row_index : ℕ) (part : Aggregate) : Type 0 where
+pub record IsRun (g : BucketGrid)
+    (rows : List Aggregate) (left : ℕ) (low high : ℤ) (row_index : ℕ) (part : Aggregate) : Type 0 where
   pub within : (t : ℤ) → low ≤ℤ t → t <ℤ high → row_index ≡ min (row_index_at g t) 18446744073709551615
   pub bounded : low <ℤ high → ((get_or rows row_index empty_aggregate).count + part.count) + left ≤ 2 ^ 62
   pub few : part.count ≤ 2 ^ 62
 
 -- the first points of a list, all from low, inclusive, to high, exclusive, are merged into a part; the others are left
-pub record AreMerged (parts : AggregateParts) (low high : ℤ) (part next : Aggregate) (all left : List (ℤ × ℤ)) : Type 0 where
+pub record AreMerged (parts : AggregateParts)
+    (low high : ℤ) (part next : Aggregate) (all left : List (ℤ × ℤ)) : Type 0 where
   pub first : List (ℤ × ℤ)
   pub points : all ≡ first ++ left
   pub within : AllByRecursion (λ (p : ℤ × ℤ). is_within low high p.0 ≡ true) first

@@ -11,7 +11,8 @@ use Rattle.ts_exec.specs.Slots.{Slots}
 abbrev pub IsSlotOfGroup : List Text → Slots → Result ℕ ℕ → Type 0
 IsSlotOfGroup g slots row_index =
     MatchResult row_index (HoldsAt (λ (e : List Text × Option (List Aggregate)). group_cmp e.0 g ≡ Equal) slots)
-    (IsPartitionPoint (λ (e : List Text × Option (List Aggregate)). group_cmp e.0 g ≡ Less) (λ (e : List Text × Option (List Aggregate)). group_cmp e.0 g ≡ Greater) slots)
+    (IsPartitionPoint (λ (e : List Text × Option (List Aggregate)). group_cmp e.0 g ≡ Less)
+    (λ (e : List Text × Option (List Aggregate)). group_cmp e.0 g ≡ Greater) slots)
 
 -- slot i has the group
 pub record HoldsGroup (g : List Text) (slots : Slots) (i : ℕ) : Type 0 where

@@ -34,8 +34,10 @@ abbrev pub is_refused : List (Text × Text) → Text × Text → Bool
 is_refused pairs t = not (is_empty_text t.1) && (has_pair pairs t || has_pair pairs (t.0, []))
 
 abbrev pub meets_tests : List Condition → List (Text × Text) → Series → Bool
-meets_tests needed refused s = list_all (λ (t : Text × Text). not (is_refused refused t)) s.tags && list_all (meets s) needed
+meets_tests needed refused s =
+    list_all (λ (t : Text × Text). not (is_refused refused t)) s.tags && list_all (meets s) needed
 
 -- those that meet the tests are the series that meet the conditions
 abbrev pub AreTestsOf : List Condition → SeriesTests → Type 0
-AreTestsOf conditions tests = (s : Series) → AreDistinctTags s.tags → meets_tests tests.needed tests.refused s ≡ list_all (meets s) conditions
+AreTestsOf conditions tests = (s : Series)
+    → AreDistinctTags s.tags → meets_tests tests.needed tests.refused s ≡ list_all (meets s) conditions

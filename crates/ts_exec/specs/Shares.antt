@@ -47,21 +47,28 @@ abbrev pub point_share : BucketGrid → List Text → ℤ × ℤ → Share
 point_share grid g p = record { group = g; row_index = row_index_at grid p.0; part = aggregate_of_one p.0 p.1 }
 
 abbrev pub column_ref_shares : Query → List ColumnPoints → ℤ → ℤ → ColumnRef → List Share
-column_ref_shares q cs a b s = if list_all (meets s.series) q.conditions then map (point_share (bucket_grid q) (tag_values q.group_tags s.series)) (points_at cs s.number a b) else []
+column_ref_shares q cs a b s = if list_all (meets s.series) q.conditions
+    then map (point_share (bucket_grid q) (tag_values q.group_tags s.series)) (points_at cs s.number a b) else []
 
 abbrev pub column_refs_shares : Query → List ColumnPoints → ℤ → ℤ → List ColumnRef → List Share
 column_refs_shares q cs a b [] = []
 column_refs_shares q cs a b (s ∷ ss) = column_ref_shares q cs a b s ++ column_refs_shares q cs a b ss
 
 abbrev pub cell_share : Query → Rule → SeenCell → Share
-cell_share q r c = record { group = group_of q (representative r c.cell); row_index = row_index_at (bucket_grid q) (start_of r c.cell.index); part = total_in c.parts }
+cell_share q r c = record {
+  group = group_of q (representative r c.cell);
+  row_index = row_index_at (bucket_grid q) (start_of r c.cell.index);
+  part = total_in c.parts;
+}
 
 abbrev pub rule_shares : Query → ℤ → ℤ → Option RuleCells → List Share
 rule_shares q a b None = []
-rule_shares q a b (Some r) = map (cell_share q r.rule) (filter (is_cell_taken q r.rule a b) (cells_within r (index_of r.rule a) (index_of r.rule b)))
+rule_shares q a b (Some r) = map
+    (cell_share q r.rule) (filter (is_cell_taken q r.rule a b) (cells_within r (index_of r.rule a) (index_of r.rule b)))
 
 abbrev pub source_shares : ViewState → Query → Source → ℤ → ℤ → List Share
-source_shares seen q Raw a b = column_refs_shares q seen.columns a b (column_refs_where (is_of q.measurement q.field) seen.columns)
+source_shares seen q Raw a b =
+    column_refs_shares q seen.columns a b (column_refs_where (is_of q.measurement q.field) seen.columns)
 source_shares seen q (Rollup name) a b = rule_shares q a b (rule_shown name seen.rules)
 
 abbrev pub pieces_shares : ViewState → Query → List Piece → List Share

@@ -68,7 +68,8 @@ pub(crate) fn is_candidate<A: Allocator>(
     cell: &ViewCell<'_, A>,
 ) -> bool
     requires { start.now ≡ start_of rule.now cell.now.cell.index }
-    ensures { (result && list_all (meets (representative rule.now cell.now.cell).column.series) query.now.query.conditions) ≡ is_cell_taken query.now.query rule.now from to cell.now }
+    ensures { (result && list_all (meets (representative rule.now cell.now.cell).column.series)
+        query.now.query.conditions) ≡ is_cell_taken query.now.query rule.now from to cell.now }
 {
     if !is_within(query.from(), query.to(), start) {
         return false;
@@ -103,7 +104,8 @@ fn is_taken<A: Allocator + Copy>(
 /// between the buckets of two times, the first inclusive, the second exclusive.
 pub(crate) fn bucket_start<A: Allocator>(rule: &Rule<A>, index: &i128) -> i128
     requires interval { pos 1 ≤ℤ rule.now.interval }
-    requires within { (from : ℤ) × (to : ℤ) × FitsSigned w64 from × FitsSigned w64 to × (is_within (index_of rule.now from) (index_of rule.now to) index.now ≡ true) }
+    requires within { (from : ℤ) × (to : ℤ) × FitsSigned w64 from
+        × FitsSigned w64 to × (is_within (index_of rule.now from) (index_of rule.now to) index.now ≡ true) }
     ensures { result ≡ start_of rule.now index.now }
 {
     rule.buckets().start(*index)
@@ -159,8 +161,10 @@ pub(crate) fn add_cells<'a, A: Allocator + Copy + 'a, V: View<A> + 'a>(
     requires number { number < length (V.seen view.now).rules }
     requires interval { pos 1 ≤ℤ rule.now.interval }
     requires once { AllDistinct rule.now.kept_tags }
-    ensures value { OnOk result (groups.new ≡ with_cell_parts scan.old rule.now from to (view_cells_at (V.seen view.now).rules number (index_of rule.now from) (index_of rule.now to)) groups.old) }
-    ensures small { IfOk result (λ b. b ≡ list_all is_small (view_cells_at (V.seen view.now).rules number (index_of rule.now from) (index_of rule.now to))) }
+    ensures value { OnOk result (groups.new ≡ with_cell_parts scan.old rule.now from to
+        (view_cells_at (V.seen view.now).rules number (index_of rule.now from) (index_of rule.now to)) groups.old) }
+    ensures small { IfOk result (λ b. b ≡ list_all is_small
+        (view_cells_at (V.seen view.now).rules number (index_of rule.now from) (index_of rule.now to))) }
     ensures same { scan.new ≡ scan.old }
 {
     let kept = kept_tags(

@@ -43,7 +43,8 @@ fn count_next<A: Allocator, V: View<A>>(
 ) -> i64
     requires column { range.now.column < length (V.seen range.now.view.now).columns }
     requires some { from <ℤ range.now.to }
-    ensures value { rows.new ≡ with_point_parts CountAlone buckets.old (points_at (V.seen range.now.view.now).columns range.now.column from result) rows.old }
+    ensures value { rows.new ≡ with_point_parts CountAlone buckets.old
+        (points_at (V.seen range.now.view.now).columns range.now.column from result) rows.old }
     ensures more { from <ℤ result }
     ensures end { result ≤ℤ range.now.to }
     ensures same { buckets.new ≡ buckets.old }
@@ -71,7 +72,8 @@ fn count<A: Allocator, V: View<A>>(
     range: &ColumnRange<'_, V>,
 )
     requires { range.now.column < length (V.seen range.now.view.now).columns }
-    ensures value { rows.new ≡ with_point_parts CountAlone buckets.old (points_at (V.seen range.now.view.now).columns range.now.column range.now.from range.now.to) rows.old }
+    ensures value { rows.new ≡ with_point_parts CountAlone buckets.old
+        (points_at (V.seen range.now.view.now).columns range.now.column range.now.from range.now.to) rows.old }
     ensures same { buckets.new ≡ buckets.old }
 {
     let mut from = range.from;
@@ -89,7 +91,8 @@ pub(crate) fn add_points<A: Allocator, V: View<A>>(
     points: Points<'_>,
 )
     requires column { range.now.column < length (V.seen range.now.view.now).columns }
-    requires points { points_at (V.seen range.now.view.now).columns range.now.column range.now.from range.now.to ≡ points }
+    requires points { points_at
+        (V.seen range.now.view.now).columns range.now.column range.now.from range.now.to ≡ points }
     ensures value { rows.new ≡ with_point_parts parts buckets.old points.entry rows.old }
     ensures same { buckets.new ≡ buckets.old }
 {

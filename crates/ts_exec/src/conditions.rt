@@ -62,7 +62,8 @@ fn keep<'q, A: Allocator + Copy>(
     kept: &mut Vec<&'q Condition<A>, A>,
     condition: &'q Condition<A>,
 ) -> Result<bool, AllocError>
-    ensures { IfOk result (λ fits. (s : Series) → (meets_all (borrowed kept.old.items) s && meets s condition.now) ≡ (fits && meets_all (borrowed kept.new.items) s)) }
+    ensures { IfOk result (λ fits. (s : Series) → (meets_all (borrowed kept.old.items) s && meets s condition.now)
+        ≡ (fits && meets_all (borrowed kept.new.items) s)) }
 {
     if let Some(last) = kept.last() {
         if contradicts(last, condition) {
@@ -81,7 +82,8 @@ pub(crate) fn reduced<'q, A: Allocator + Copy>(
     alloc: A,
     conditions: &'q [Condition<A>],
 ) -> Result<Option<Vec<&'q Condition<A>, A>>, AllocError>
-    ensures { IfOk result (λ r. MatchOption r (IsMetByNone conditions.now) (λ v. AreMetAlike (borrowed v.items) conditions.now)) }
+    ensures { IfOk result
+        (λ r. MatchOption r (IsMetByNone conditions.now) (λ v. AreMetAlike (borrowed v.items) conditions.now)) }
 {
     let all = sorted(alloc, conditions)?;
     let mut kept = Vec::with_capacity(alloc, all.len())?;

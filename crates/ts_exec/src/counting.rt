@@ -29,7 +29,8 @@ fn raw_points<A: Allocator + Copy, V: View<A>>(
     from: i64,
     to: i64,
 ) -> u64
-    ensures { result ≡ min (points_of_shares (source_shares (V.seen view.now) query.now.query Raw from to)) 18446744073709551615 }
+    ensures { result
+        ≡ min (points_of_shares (source_shares (V.seen view.now) query.now.query Raw from to)) 18446744073709551615 }
 {
     let mut count: u64 = 0;
     for column in view.columns_of(query.measurement(), query.field()) {
@@ -64,7 +65,8 @@ fn cell_points<A: Allocator + Copy>(
 ) -> u64
     requires interval { pos 1 ≤ℤ rule.now.interval }
     requires within { is_within (index_of rule.now from) (index_of rule.now to) cell.now.cell.index ≡ true }
-    ensures { result ≡ (if is_cell_taken query.now.query rule.now from to cell.now then (total_in cell.now.parts).count else 0) }
+    ensures { result
+        ≡ (if is_cell_taken query.now.query rule.now from to cell.now then (total_in cell.now.parts).count else 0) }
 {
     let start = bucket_start(rule, &cell.index);
     if is_candidate(rule, query, from, to, &start, cell)
@@ -87,7 +89,10 @@ fn rollup_points<A: Allocator + Copy, V: View<A>>(
 ) -> u64
     requires number { number < length (V.seen view.now).rules }
     requires interval { pos 1 ≤ℤ rule.now.interval }
-    ensures { result ≡ min (points_of_shares (map (cell_share query.now.query rule.now) (filter (is_cell_taken query.now.query rule.now from to) (view_cells_at (V.seen view.now).rules number (index_of rule.now from) (index_of rule.now to))))) 18446744073709551615 }
+    ensures { result ≡ min (points_of_shares (map (cell_share query.now.query rule.now)
+        (filter (is_cell_taken query.now.query rule.now from to)
+        (view_cells_at (V.seen view.now).rules number (index_of rule.now from) (index_of rule.now to)))))
+        18446744073709551615 }
 {
     let first = index_of(rule, i128::from(from));
     let end = index_of(rule, i128::from(to));
@@ -100,7 +105,8 @@ fn rollup_points<A: Allocator + Copy, V: View<A>>(
 
 /// Returns the number of points of a piece that match a query.
 fn piece_points<A: Allocator + Copy, V: View<A>>(view: &V, query: &Query<A>, piece: &Piece) -> u64
-    ensures { result ≡ min (points_of_shares (source_shares (V.seen view.now) query.now.query piece.now.source piece.now.from piece.now.to)) 18446744073709551615 }
+    ensures { result ≡ min (points_of_shares (source_shares
+        (V.seen view.now) query.now.query piece.now.source piece.now.from piece.now.to)) 18446744073709551615 }
 {
     match &piece.source {
         PieceSource::Raw => raw_points(view, query, piece.from, piece.to),
@@ -123,7 +129,8 @@ fn pieces_points<A: Allocator + Copy, V: View<A>>(
     query: &Query<A>,
     pieces: &[Piece],
 ) -> u64
-    ensures { result ≡ min (points_of_shares (pieces_shares (V.seen view.now) query.now.query pieces.now)) 18446744073709551615 }
+    ensures { result
+        ≡ min (points_of_shares (pieces_shares (V.seen view.now) query.now.query pieces.now)) 18446744073709551615 }
 {
     let mut count: u64 = 0;
     for piece in pieces {

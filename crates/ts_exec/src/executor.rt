@@ -51,7 +51,8 @@ fn groups_joined<'a, A: Allocator + Copy + 'a, V: View<A> + 'a>(
     query: &Query<A>,
     pieces: &[Piece],
 ) -> Result<(Vec<GroupRows<'a, A>, A>, bool), AllocError>
-    ensures given { IfOk result (λ v. v.0.items ≡ with_pieces parts (V.seen view.now) query.now.query (joined_pieces pieces.now) []) }
+    ensures given { IfOk result
+        (λ v. v.0.items ≡ with_pieces parts (V.seen view.now) query.now.query (joined_pieces pieces.now) []) }
     ensures small { IfOk result (λ v. v.1 ≡ have_small_parts (V.seen view.now) (joined_pieces pieces.now)) }
     ensures rows { IfOk result (λ v. AllByRecursion (HasRows (width query.now.query)) v.0.items) }
     ensures query { IsOk result → IsQuery query.now.query }
@@ -123,7 +124,8 @@ fn groups_selected<'a, A: Allocator + Copy + 'a, V: View<A> + 'a>(
     pieces: &[Piece],
 ) -> Result<Vec<GroupRows<'a, A>, A>, AllocError>
     requires { IsValid (V.seen view.now).settings (V.seen view.now).marks query.now.query pieces.now }
-    ensures values { IfOk result (λ v. HaveSameValues (functions_of query.now.columns) (map (group_with query.now.query) v.items) (given (V.seen view.now) query.now.query pieces.now)) }
+    ensures values { IfOk result (λ v. HaveSameValues (functions_of query.now.columns)
+        (map (group_with query.now.query) v.items) (given (V.seen view.now) query.now.query pieces.now)) }
     ensures rows { IfOk result (λ v. AllByRecursion (HasRows (width query.now.query)) v.items) }
     ensures query { IsOk result → IsQuery query.now.query }
 {

@@ -279,7 +279,8 @@ impl Model for Bounded {
 
     ghost invariant = { λ b. (b.count ≤ 2 ^ 62) × IsSpread b.count b.sum (bounds b.min b.max) };
 
-    ghost inverse = { λ v. let e : Extremes = unwrap_or v.extremes wide_extremes in record { count = v.count; sum = v.sum; min = e.min; max = e.max } };
+    ghost inverse = { λ v. let e : Extremes = unwrap_or v.extremes wide_extremes in
+        record { count = v.count; sum = v.sum; min = e.min; max = e.max } };
 }
 
 impl Bounded {

@@ -189,7 +189,8 @@ impl<'a, A: Allocator + Copy> GroupValuesBuf<'a, A> {
         group: &'a [String<A>],
     ) -> Result<(), AllocError>
         requires { (own : List Text) × (kept.now ≡ kept_indices 0 (texts tags.now) own) }
-        ensures { OnOk result ((own : List Text) → kept.now ≡ kept_indices 0 (texts tags.now) own → self.new ≡ map (value_among (zip own (texts group.now))) (texts tags.now)) }
+        ensures { OnOk result ((own : List Text) → kept.now ≡ kept_indices 0 (texts tags.now) own
+            → self.new ≡ map (value_among (zip own (texts group.now))) (texts tags.now)) }
     {
         self.tags = tags.len();
         self.set.clear();

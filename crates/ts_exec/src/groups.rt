@@ -230,7 +230,8 @@ impl<'a, A: Allocator + Copy> Groups<'a, A> {
         range: &ColumnRange<'_, V>,
     ) -> Result<(), AllocError>
         requires { range.now.column < length (V.seen range.now.view.now).columns }
-        ensures value { OnOk result (self.new ≡ with_column_parts parts buckets.old width values.now (points_at (V.seen range.now.view.now).columns range.now.column range.now.from range.now.to) self.old) }
+        ensures value { OnOk result (self.new ≡ with_column_parts parts buckets.old width values.now
+            (points_at (V.seen range.now.view.now).columns range.now.column range.now.from range.now.to) self.old) }
         ensures same { buckets.new ≡ buckets.old }
     {
         let points = range.view.raw_range(range.column, range.from, range.to);

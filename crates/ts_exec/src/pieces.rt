@@ -21,8 +21,10 @@ fn add_piece<'a, A: Allocator + Copy + 'a, V: View<A> + 'a>(
     view: &'a V,
     piece: &Piece,
 ) -> Result<bool, AllocError>
-    ensures value { OnOk result (groups.new ≡ with_source parts (V.seen view.now) scan.old piece.now.source piece.now.from piece.now.to groups.old) }
-    ensures small { IfOk result (λ b. b ≡ has_small_parts (V.seen view.now) piece.now.source piece.now.from piece.now.to) }
+    ensures value { OnOk result (groups.new
+        ≡ with_source parts (V.seen view.now) scan.old piece.now.source piece.now.from piece.now.to groups.old) }
+    ensures small { IfOk result
+        (λ b. b ≡ has_small_parts (V.seen view.now) piece.now.source piece.now.from piece.now.to) }
     ensures same { scan.new ≡ scan.old }
 {
     match &piece.source {
@@ -68,7 +70,8 @@ pub(crate) fn add_joined_pieces<'a, A: Allocator + Copy + 'a, V: View<A> + 'a>(
     view: &'a V,
     pieces: &[Piece],
 ) -> Result<bool, AllocError>
-    ensures value { OnOk result (groups.new ≡ with_pieces parts (V.seen view.now) scan.old (joined_pieces pieces.now) groups.old) }
+    ensures value { OnOk result
+        (groups.new ≡ with_pieces parts (V.seen view.now) scan.old (joined_pieces pieces.now) groups.old) }
     ensures small { IfOk result (λ b. b ≡ have_small_parts (V.seen view.now) (joined_pieces pieces.now)) }
 {
     let mut small = true;

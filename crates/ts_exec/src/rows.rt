@@ -80,8 +80,11 @@ fn first_block<F: Fold>(
     from: i64,
     points: &mut Points<'_>,
 ) -> Option<BucketRun<F>>
-    ensures run { IfSome result (λ run. IsRun buckets.old rows.now (length points.new) run.low run.high run.row_index (F.folded run.fold)) }
-    ensures value { IfSome result (λ run. with_point_parts F.parts buckets.old points.new (with_part run.row_index (F.folded run.fold) rows.now) ≡ with_point_parts F.parts buckets.old points.old rows.now) }
+    ensures run { IfSome result
+        (λ run. IsRun buckets.old rows.now (length points.new) run.low run.high run.row_index (F.folded run.fold)) }
+    ensures value { IfSome result (λ run. with_point_parts F.parts buckets.old points.new
+        (with_part run.row_index (F.folded run.fold) rows.now)
+        ≡ with_point_parts F.parts buckets.old points.old rows.now) }
     ensures none { IfNone result (points.new ≡ points.old) }
     ensures same { buckets.new ≡ buckets.old }
 {
@@ -108,8 +111,11 @@ fn first_run<F: Fold>(
     from: i64,
     points: &mut Points<'_>,
 ) -> Option<BucketRun<F>>
-    ensures run { IfSome result (λ run. IsRun buckets.old rows.now (length points.new) run.low run.high run.row_index (F.folded run.fold)) }
-    ensures value { IfSome result (λ run. with_point_parts F.parts buckets.old points.new (with_part run.row_index (F.folded run.fold) rows.now) ≡ with_point_parts F.parts buckets.old points.old rows.now) }
+    ensures run { IfSome result
+        (λ run. IsRun buckets.old rows.now (length points.new) run.low run.high run.row_index (F.folded run.fold)) }
+    ensures value { IfSome result (λ run. with_point_parts F.parts buckets.old points.new
+        (with_part run.row_index (F.folded run.fold) rows.now)
+        ≡ with_point_parts F.parts buckets.old points.old rows.now) }
     ensures none { IfNone result (points.old ≡ []) }
     ensures same { buckets.new ≡ buckets.old }
 {
@@ -145,8 +151,10 @@ fn extend_runs<F: Fold>(
     others: u64,
 ) -> BucketRun<F>
     requires few { length points + others < 2 ^ 64 }
-    requires run { IsRun buckets.old rows.old (length points + others) run.low run.high run.row_index (F.folded run.fold) }
-    ensures value { with_part result.row_index (F.folded result.fold) rows.new ≡ with_point_parts F.parts buckets.old points.entry (with_part run.row_index (F.folded run.fold) rows.old) }
+    requires run { IsRun buckets.old rows.old
+        (length points + others) run.low run.high run.row_index (F.folded run.fold) }
+    ensures value { with_part result.row_index (F.folded result.fold) rows.new
+        ≡ with_point_parts F.parts buckets.old points.entry (with_part run.row_index (F.folded run.fold) rows.old) }
     ensures run { IsRun buckets.old rows.new others result.low result.high result.row_index (F.folded result.fold) }
     ensures rows { length rows.new ≡ length rows.old }
     ensures same { buckets.new ≡ buckets.old }
@@ -182,7 +190,8 @@ fn continue_run<F: Fold>(
 )
     requires room { 0 < length room.old }
     requires run { IsRun buckets.old rows.old (length points) run.low run.high run.row_index (F.folded run.fold) }
-    ensures value { rows.new ≡ with_point_parts F.parts buckets.old points.entry (with_part run.row_index (F.folded run.fold) rows.old) }
+    ensures value { rows.new
+        ≡ with_point_parts F.parts buckets.old points.entry (with_part run.row_index (F.folded run.fold) rows.old) }
     ensures same { buckets.new ≡ buckets.old }
 {
     // For the proof: the number of rows fits a `usize`.

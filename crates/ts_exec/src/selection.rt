@@ -56,7 +56,9 @@ fn candidates<'a, A: Allocator + Copy + 'a, V: View<A> + 'a>(
     query: &Query<A>,
     view: &'a V,
 ) -> Result<Vec<ViewColumn<'a, A>, A>, AllocError>
-    ensures { IfOk result (λ v. selected_column_refs query.now.query.conditions v.items ≡ selected_column_refs query.now.query.conditions (column_refs_where (is_of query.now.query.measurement query.now.query.field) (V.seen view.now).columns)) }
+    ensures { IfOk result
+        (λ v. selected_column_refs query.now.query.conditions v.items ≡ selected_column_refs query.now.query.conditions
+        (column_refs_where (is_of query.now.query.measurement query.now.query.field) (V.seen view.now).columns)) }
 {
     let columns = view.columns_of(query.measurement(), query.field());
     match narrowing(&columns, query.conditions(), columns.len() / 2) {
@@ -79,7 +81,8 @@ pub(crate) fn selected_columns<'a, A: Allocator + Copy + 'a, V: View<A> + 'a>(
     query: &Query<A>,
     view: &'a V,
 ) -> Result<Vec<ViewColumn<'a, A>, A>, AllocError>
-    ensures { IfOk result (λ v. v.items ≡ selected_column_refs query.now.query.conditions (column_refs_where (is_of query.now.query.measurement query.now.query.field) (V.seen view.now).columns)) }
+    ensures { IfOk result (λ v. v.items ≡ selected_column_refs query.now.query.conditions
+        (column_refs_where (is_of query.now.query.measurement query.now.query.field) (V.seen view.now).columns)) }
 {
     let Some(tests) = conditions_of(alloc, query.conditions())? else {
         return Ok(Vec::new(alloc));

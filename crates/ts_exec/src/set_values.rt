@@ -56,7 +56,8 @@ pub(crate) fn push_own<'a, A: Allocator>(
     own: &'a [(String<A>, String<A>)],
 ) -> Result<(), AllocError>
     requires { IsStrictlySortedBy text_cmp (texts tags.now) }
-    ensures { OnOk result (seen_set set.new.items ≡ seen_set set.old.items ++ own_values (texts tags.now) (owned_pairs own.now)) }
+    ensures { OnOk result
+        (seen_set set.new.items ≡ seen_set set.old.items ++ own_values (texts tags.now) (owned_pairs own.now)) }
 {
     for tag in own {
         push_found(set, tag_index(tags, tag.0.as_str()), tag.1.as_str())?;

@@ -88,8 +88,10 @@ impl<'a, A: Allocator + Copy> Slot<'a, A> {
         points: Points<'_>,
     ) -> Result<(), AllocError>
         requires column { range.now.column < length (V.seen range.now.view.now).columns }
-        requires points { points_at (V.seen range.now.view.now).columns range.now.column range.now.from range.now.to ≡ points }
-        ensures rows { OnOk result (self.new.1 ≡ Some (with_point_parts parts buckets.old points.entry (rows_or width self.old.1))) }
+        requires points { points_at
+            (V.seen range.now.view.now).columns range.now.column range.now.from range.now.to ≡ points }
+        ensures rows { OnOk result
+            (self.new.1 ≡ Some (with_point_parts parts buckets.old points.entry (rows_or width self.old.1))) }
         ensures key { self.new.0 ≡ self.old.0 }
         ensures same { buckets.new ≡ buckets.old }
     {

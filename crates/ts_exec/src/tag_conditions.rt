@@ -87,7 +87,8 @@ fn are_kept_allowed<A: Allocator>(
     group: &[String<A>],
 ) -> bool
     requires { ArePairsSorted refused.now }
-    ensures { result ≡ list_all (λ t. not (is_refused (borrowed_pairs refused.now) t)) (zip (map string_bytes kept.now) (map string_bytes group.now)) }
+    ensures { result ≡ list_all (λ t. not (is_refused (borrowed_pairs refused.now) t))
+        (zip (map string_bytes kept.now) (map string_bytes group.now)) }
 {
     if refused.is_empty() {
         return true;
@@ -107,7 +108,8 @@ fn is_met_by_each<A: Allocator>(
     cell: &ViewCell<'_, A>,
     conditions: &[&Condition<A>],
 ) -> bool
-    ensures { result ≡ list_all (λ c. meets (representative rule.now cell.now.cell).column.series c.now) conditions.now }
+    ensures { result
+        ≡ list_all (λ c. meets (representative rule.now cell.now.cell).column.series c.now) conditions.now }
 {
     conditions
         .iter()
@@ -120,7 +122,9 @@ fn add<'q, A: Allocator + Copy>(
     refused: &mut Vec<(&'q str, &'q str), A>,
     condition: &'q Condition<A>,
 ) -> Result<(), AllocError>
-    ensures { OnOk result ((s : Series) → AreDistinctTags s.tags → (meets_tests (borrowed needed.old.items) (borrowed_pairs refused.old.items) s && meets s condition.now) ≡ meets_tests (borrowed needed.new.items) (borrowed_pairs refused.new.items) s) }
+    ensures { OnOk result ((s : Series) → AreDistinctTags s.tags
+        → (meets_tests (borrowed needed.old.items) (borrowed_pairs refused.old.items) s && meets s condition.now)
+        ≡ meets_tests (borrowed needed.new.items) (borrowed_pairs refused.new.items) s) }
 {
     if !holds_empty(condition) {
         needed.push(condition)?;
@@ -136,7 +140,8 @@ impl<'q, A: Allocator + Copy> TagConditions<'q, A> {
         alloc: A,
         conditions: &[&'q Condition<A>],
     ) -> Result<TagConditions<'q, A>, AllocError>
-        ensures { IfOk result (λ t. (s : Series) → AreDistinctTags s.tags → meets_tests t.needed t.refused s ≡ meets_all (borrowed conditions.now) s) }
+        ensures { IfOk result (λ t. (s : Series)
+            → AreDistinctTags s.tags → meets_tests t.needed t.refused s ≡ meets_all (borrowed conditions.now) s) }
     {
         let mut needed = Vec::new(alloc);
         let mut refused = Vec::new(alloc);
@@ -157,7 +162,8 @@ impl<'q, A: Allocator + Copy> TagConditions<'q, A> {
 
     /// Returns true if a cell meets the conditions.
     pub(crate) fn are_met_by(&self, rule: &Rule<A>, cell: &ViewCell<'_, A>) -> bool
-        ensures { result ≡ meets_tests self.now.needed self.now.refused (representative rule.now cell.now.cell).column.series }
+        ensures { result
+            ≡ meets_tests self.now.needed self.now.refused (representative rule.now cell.now.cell).column.series }
     {
         are_kept_allowed(self.refused.as_slice(), rule.kept_tags(), cell.group)
             && is_met_by_each(rule, cell, self.needed.as_slice())

@@ -93,19 +93,32 @@ module _ (now : ℤ) (old : WholeState) (query body : Text) where
     not_text : (IsUtf8 body → ⊥) → Writes (refusing BodyNotText) old
     bad_precision : IsUtf8 body → precision_in query ≡ None → Writes (refusing BadPrecision) old
     wants_memory : IsUtf8 body → Writes (refusing OutOfMemory) old
-    writes : (precision : TimeUnit) (outcomes : List LineOutcome) (new : WholeState) → IsUtf8 body → precision_in query ≡ Some precision → TakesLines precision now old (body_lines body) outcomes new → Writes (batch_reply (refusals_of outcomes)) new
+    writes : (precision : TimeUnit) (outcomes : List LineOutcome) (new : WholeState)
+        → IsUtf8 body → precision_in query ≡ Some precision
+        → TakesLines precision now old (body_lines body) outcomes new → Writes (batch_reply (refusals_of outcomes)) new
     -- out of memory at a line; the lines before it are written, and this one in part
-    stops : (precision : TimeUnit) (new : WholeState) → IsUtf8 body → precision_in query ≡ Some precision → StopsAtLine precision now old (body_lines body) new → Writes (refusing OutOfMemory) new
+    stops : (precision : TimeUnit) (new : WholeState) → IsUtf8 body → precision_in query ≡ Some precision
+        → StopsAtLine precision now old (body_lines body) new → Writes (refusing OutOfMemory) new
 
   pub data Queries : Replied → Type 0 where
     not_text : (IsUtf8 body → ⊥) → Queries (refusing BodyNotText)
     bad_epoch : IsUtf8 body → epoch_parameter (value_in (codes "epoch") query body) ≡ None → Queries (refusing BadEpoch)
-    bad_explain : (epoch : Epoch) → IsUtf8 body → epoch_parameter (value_in (codes "epoch") query body) ≡ Some epoch → explain_parameter (value_in (codes "explain") query body) ≡ None → Queries (refusing BadExplain)
-    missing : (epoch : Epoch) (explain : Bool) → IsUtf8 body → epoch_parameter (value_in (codes "epoch") query body) ≡ Some epoch → explain_parameter (value_in (codes "explain") query body) ≡ Some explain → value_in (codes "q") query body ≡ None → Queries (refusing MissingQuery)
+    bad_explain : (epoch : Epoch) → IsUtf8 body → epoch_parameter (value_in (codes "epoch") query body) ≡ Some epoch
+        → explain_parameter (value_in (codes "explain") query body) ≡ None → Queries (refusing BadExplain)
+    missing : (epoch : Epoch) (explain : Bool) → IsUtf8 body → epoch_parameter (value_in (codes "epoch") query body)
+        ≡ Some epoch → explain_parameter (value_in (codes "explain") query body) ≡ Some explain
+        → value_in (codes "q") query body ≡ None → Queries (refusing MissingQuery)
     wants_memory : IsUtf8 body → Queries (refusing OutOfMemory)
-    answers : (epoch : Epoch) (text : Text) (good : Bool) (answer : Text) → IsUtf8 body → epoch_parameter (value_in (codes "epoch") query body) ≡ Some epoch → explain_parameter (value_in (codes "explain") query body) ≡ Some false → value_in (codes "q") query body ≡ Some text
-        → IsReply old.store.opening old.store.history now text (value_in (codes "cert") query body) epoch good answer → Queries (answer_reply good answer)
-    explains : (epoch : Epoch) (text : Text) (good : Bool) (answer : Text) → IsUtf8 body → epoch_parameter (value_in (codes "epoch") query body) ≡ Some epoch → explain_parameter (value_in (codes "explain") query body) ≡ Some true → value_in (codes "q") query body ≡ Some text
+    answers : (epoch : Epoch) (text : Text) (good : Bool) (answer : Text)
+        → IsUtf8 body → epoch_parameter (value_in (codes "epoch") query body) ≡ Some epoch
+        → explain_parameter (value_in (codes "explain") query body) ≡ Some false
+        → value_in (codes "q") query body ≡ Some text
+        → IsReply old.store.opening old.store.history now text (value_in (codes "cert") query body) epoch good answer
+        → Queries (answer_reply good answer)
+    explains : (epoch : Epoch) (text : Text) (good : Bool) (answer : Text)
+        → IsUtf8 body → epoch_parameter (value_in (codes "epoch") query body) ≡ Some epoch
+        → explain_parameter (value_in (codes "explain") query body) ≡ Some true
+        → value_in (codes "q") query body ≡ Some text
         → IsExplanation old.store.opening old.store.history now text good answer → Queries (answer_reply good answer)
 
 -- ---- /maintain
@@ -114,8 +127,10 @@ module _ (now : ℤ) (old : WholeState) (query body : Text) where
 pub data Maintains (now : ℤ) (old : WholeState) (query : Text) : Replied → WholeState → Type 0 where
   bad_steps : steps_of_parameter query ≡ None → Maintains now old query (refusing BadSteps) old
   wants_memory : Maintains now old query (refusing OutOfMemory) old
-  steps : (n : ℕ) (opened new : WholeState) → steps_of_parameter query ≡ Some n → OpensRun now old opened → RunsSteps n opened new
-      → Maintains now old query (answer_reply true (run_text n (left_in opened) (marks_of opened.store.opening opened.store.history).raw)) new
+  steps : (n : ℕ) (opened new : WholeState)
+      → steps_of_parameter query ≡ Some n → OpensRun now old opened → RunsSteps n opened new
+      → Maintains now old query
+      (answer_reply true (run_text n (left_in opened) (marks_of opened.store.opening opened.store.history).raw)) new
 
 -- ---- /rules
 
@@ -131,8 +146,10 @@ dropped_body name = codes "{\"dropped\":\"" ++ (name ++ codes "\"}")
 pub data PostsRule (old : WholeState) (body : Text) : Replied → WholeState → Type 0 where
   not_text : (IsUtf8 body → ⊥) → PostsRule old body (refusing BodyNotText) old
   wants_memory : IsUtf8 body → PostsRule old body (refusing OutOfMemory) old
-  refuses : (fault : SettingsFault) → IsUtf8 body → rule_for (settings_in old.store) body ≡ Err fault → PostsRule old body (bad_reply (error_json (settings_fault_text fault))) old
-  adds : (r : Rule) (new : WholeState) → IsUtf8 body → rule_for (settings_in old.store) body ≡ Ok r → AddsRuleTo old r new → PostsRule old body (answer_reply true (added_text r.name (low_in old.store r))) new
+  refuses : (fault : SettingsFault) → IsUtf8 body → rule_for (settings_in old.store) body ≡ Err fault
+      → PostsRule old body (bad_reply (error_json (settings_fault_text fault))) old
+  adds : (r : Rule) (new : WholeState) → IsUtf8 body → rule_for (settings_in old.store) body ≡ Ok r
+      → AddsRuleTo old r new → PostsRule old body (answer_reply true (added_text r.name (low_in old.store r))) new
 
 -- the name of a rule, as a parameter of the target
 abbrev pub name_in : Text → Option Text
@@ -142,17 +159,24 @@ name_in query = first_named (codes "name") (parameters query)
 pub data DeletesRule (old : WholeState) (query : Text) : Replied → WholeState → Type 0 where
   missing : name_in query ≡ None → DeletesRule old query (refusing MissingName) old
   wants_memory : DeletesRule old query (refusing OutOfMemory) old
-  refuses : (name : Text) → name_in query ≡ Some name → is_named (settings_in old.store).rules name ≡ false → DeletesRule old query (bad_reply (error_json unknown_rule_text)) old
-  drops : (name : Text) → name_in query ≡ Some name → IsTrue (is_named (settings_in old.store).rules name) → DeletesRule old query (answer_reply true (dropped_body name)) (state_without_rule name old)
+  refuses : (name : Text) → name_in query ≡ Some name → is_named (settings_in old.store).rules name ≡ false
+      → DeletesRule old query (bad_reply (error_json unknown_rule_text)) old
+  drops : (name : Text) → name_in query ≡ Some name → IsTrue (is_named (settings_in old.store).rules name)
+      → DeletesRule old query (answer_reply true (dropped_body name)) (state_without_rule name old)
 
 -- The effect of a request that isn't refused by its head, after its body was read.
 pub data Acts (now : ℤ) (old : WholeState) (query body : Text) : Route → Method → Replied → WholeState → Type 0 where
   pings : (method : Method) → Acts now old query body to.Ping method done_reply old
-  writes : (method : Method) (reply : Replied) (new : WholeState) → Writes now old query body reply new → Acts now old query body to.Write method reply new
-  queries : (method : Method) (reply : Replied) → Queries now old query body reply → Acts now old query body to.Query method reply old
-  maintains : (method : Method) (reply : Replied) (new : WholeState) → Maintains now old query reply new → Acts now old query body to.Maintain method reply new
-  adds : (reply : Replied) (new : WholeState) → PostsRule old body reply new → Acts now old query body to.Rules by.Post reply new
-  drops : (reply : Replied) (new : WholeState) → DeletesRule old query reply new → Acts now old query body to.Rules by.Delete reply new
+  writes : (method : Method) (reply : Replied) (new : WholeState)
+      → Writes now old query body reply new → Acts now old query body to.Write method reply new
+  queries : (method : Method) (reply : Replied)
+      → Queries now old query body reply → Acts now old query body to.Query method reply old
+  maintains : (method : Method) (reply : Replied) (new : WholeState)
+      → Maintains now old query reply new → Acts now old query body to.Maintain method reply new
+  adds : (reply : Replied) (new : WholeState)
+      → PostsRule old body reply new → Acts now old query body to.Rules by.Post reply new
+  drops : (reply : Replied) (new : WholeState)
+      → DeletesRule old query reply new → Acts now old query body to.Rules by.Delete reply new
 
 -- A request with this status leaves the store as it is, whatever the store stands for, if this holds.
 abbrev pub LeavesStore : Route → Text → Text → Status → Type 0

@@ -14,7 +14,8 @@ module _ (precision : TimeUnit) (now : ℤ) where
   -- Lines one after another, with the outcome of each.
   abbrev pub TakesLines : WholeState → List Text → List LineOutcome → WholeState → Type 0
   TakesLines old [] [] new = new ≡ old
-  TakesLines old (text ∷ texts) (o ∷ os) new = (mid : WholeState) × TakesText precision now old text o mid × TakesLines mid texts os new
+  TakesLines old (text ∷ texts) (o ∷ os) new =
+      (mid : WholeState) × TakesText precision now old text o mid × TakesLines mid texts os new
   TakesLines old [] (o ∷ os) new = ⊥
   TakesLines old (text ∷ texts) [] new = ⊥
 
@@ -55,4 +56,5 @@ refusals_of outcomes = refusals_from 1 (map refusal_text outcomes)
 
 -- the first refused line, and the number of refused lines
 abbrev pub partial_text : ℕ × Text → ℕ → Text
-partial_text first n = codes "partial write: line " ++ (decimal first.0 ++ (codes ": " ++ (first.1 ++ (codes "; dropped=" ++ decimal n))))
+partial_text first n =
+    codes "partial write: line " ++ (decimal first.0 ++ (codes ": " ++ (first.1 ++ (codes "; dropped=" ++ decimal n))))

@@ -19,8 +19,10 @@ IfTaken Cut P = ⊤
 IfTaken NoMemory P = ⊤
 
 -- the bytes after the head, and those read then, begin with the body or end inside it
-pub record IsBodyTaken {A E : Type 0} (old : Input) (after : Text) (len : ℕ) (result : Result (Body A) E) (new : Input) : Type 0 where
-  pub body : IfOk result (λ body. (got : Text) × Consumes old.remaining new.remaining got × TellsBody len (after ++ (got ++ unwrap_or new.remaining [])) body)
+pub record IsBodyTaken {A E : Type 0}
+    (old : Input) (after : Text) (len : ℕ) (result : Result (Body A) E) (new : Input) : Type 0 where
+  pub body : IfOk result (λ body. (got : Text)
+      × Consumes old.remaining new.remaining got × TellsBody len (after ++ (got ++ unwrap_or new.remaining [])) body)
   pub ends : IfOk result (λ body. IfTaken body (new.ends ≡ old.ends))
   pub failures : new.failures ≡ old.failures + one_if_err result
   pub reads : new.reads ≤ old.reads + len

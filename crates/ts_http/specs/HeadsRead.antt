@@ -17,11 +17,13 @@ abbrev pub request_of : Text → Input → Text
 request_of came left = came ++ unwrap_or left.remaining []
 
 -- one read into a buffer, after its first `count` bytes
-pub record IsReadAfter {E : Type 0} (old : Input) (count : ℕ) (buffer : Text) (result : Result ℕ E) (buffer' : Text) (new : Input) : Type 0 where
+pub record IsReadAfter {E : Type 0}
+    (old : Input) (count : ℕ) (buffer : Text) (result : Result ℕ E) (buffer' : Text) (new : Input) : Type 0 where
   pub size : length buffer' ≡ length buffer
   pub kept : take count buffer' ≡ take count buffer
   pub within : IfOk result (λ n. count + n ≤ length buffer)
-  pub came : IfOk result (λ n. (got : Text) × (take (count + n) buffer' ≡ take count buffer ++ got) × (length got ≡ n) × Consumes old.remaining new.remaining got)
+  pub came : IfOk result (λ n. (got : Text) × (take (count + n) buffer' ≡ take count buffer ++ got)
+      × (length got ≡ n) × Consumes old.remaining new.remaining got)
   pub end : IfOk result (λ n. n ≡ 0 → IsAtEnd new.remaining)
   pub ends : IfOk result (λ n. 0 < n → new.ends ≡ old.ends)
   pub failures : new.failures ≡ old.failures + one_if_err result
@@ -32,7 +34,8 @@ abbrev pub TellsHead : Text → Text → List HeaderSpan → HeadRead → Type 0
 TellsHead bytes came spans read.Nothing = ReadsHead bytes Nothing
 TellsHead bytes came spans (read.Fault fault) = ReadsHead bytes (Fault fault)
 TellsHead bytes came spans (read.Whole found) =
-    IsRequestWithin came spans found × ((head : RequestHead) × IsRequestAt came spans found head × IsWholeHead bytes head (drop found.len bytes))
+    IsRequestWithin came spans found
+    × ((head : RequestHead) × IsRequestAt came spans found head × IsWholeHead bytes head (drop found.len bytes))
 
 -- of a whole head
 abbrev pub IfWhole : HeadRead → Type 0 → Type 0
@@ -41,7 +44,8 @@ IfWhole (read.Fault fault) P = ⊤
 IfWhole (read.Whole found) P = P
 
 -- a head is read into a buffer, whose first bytes are the request's; once it is whole, nothing more is read
-pub record IsHeadRead {E : Type 0} (old : Input) (result : Result (ℕ × HeadRead) E) (buffer : Text) (spans : List HeaderSpan) (new : Input) : Type 0 where
+pub record IsHeadRead {E : Type 0} (old : Input)
+    (result : Result (ℕ × HeadRead) E) (buffer : Text) (spans : List HeaderSpan) (new : Input) : Type 0 where
   pub within : IfOk result (λ r. r.0 ≤ length buffer)
   pub bytes : IfOk result (λ r. Consumes old.remaining new.remaining (take r.0 buffer))
   pub head : IfOk result (λ r. TellsHead (request_of (take r.0 buffer) new) (take r.0 buffer) spans r.1)
@@ -50,11 +54,14 @@ pub record IsHeadRead {E : Type 0} (old : Input) (result : Result (ℕ × HeadRe
   pub reads : new.reads ≤ old.reads + head_limit
 
 -- the rest of a body is read after its first `count` bytes; the result is true if the body is whole
-pub record IsBodyRead {E : Type 0} (old : Input) (count : ℕ) (body : Text) (result : Result Bool E) (body' : Text) (new : Input) : Type 0 where
+pub record IsBodyRead {E : Type 0}
+    (old : Input) (count : ℕ) (body : Text) (result : Result Bool E) (body' : Text) (new : Input) : Type 0 where
   pub size : length body' ≡ length body
-  pub whole : IfOk result (λ whole. OnTrue whole ((got : Text) × (body' ≡ take count body ++ got) × Consumes old.remaining new.remaining got))
+  pub whole : IfOk result (λ whole. OnTrue whole ((got : Text)
+      × (body' ≡ take count body ++ got) × Consumes old.remaining new.remaining got))
   pub ends : IfOk result (λ whole. OnTrue whole (new.ends ≡ old.ends))
-  pub cut : IfOk result (λ whole. OnFalse whole ((got : Text) × (count + length got < length body) × Consumes old.remaining new.remaining got × IsAtEnd new.remaining))
+  pub cut : IfOk result (λ whole. OnFalse whole ((got : Text)
+      × (count + length got < length body) × Consumes old.remaining new.remaining got × IsAtEnd new.remaining))
   pub failures : new.failures ≡ old.failures + one_if_err result
   pub reads : new.reads + count ≤ old.reads + length body
 

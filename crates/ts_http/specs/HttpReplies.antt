@@ -38,10 +38,12 @@ allow_text (b ∷ bs) = codes "Allow: " ++ ((b ∷ bs) ++ line_end)
 -- type and length of the body, if there is one
 abbrev pub length_text : Option ℕ → Text
 length_text None = []
-length_text (Some n) = codes "Content-Type: application/json" ++ (line_end ++ (codes "Content-Length: " ++ (decimal n ++ line_end)))
+length_text (Some n) =
+    codes "Content-Type: application/json" ++ (line_end ++ (codes "Content-Length: " ++ (decimal n ++ line_end)))
 
 abbrev pub reply_head : Status → Text → Option ℕ → Text
-reply_head s allow n = codes "HTTP/1.1 " ++ (status_text s ++ (line_end ++ (allow_text allow ++ (length_text n ++ (codes "Connection: close" ++ (line_end ++ line_end))))))
+reply_head s allow n = codes "HTTP/1.1 " ++ (status_text s
+    ++ (line_end ++ (allow_text allow ++ (length_text n ++ (codes "Connection: close" ++ (line_end ++ line_end))))))
 
 abbrev pub reply_text : Status → Text → Option Text → Text
 reply_text s allow body = reply_head s allow (option_map length body) ++ unwrap_or body []
@@ -102,4 +104,5 @@ unless_head to_head body = if to_head then None else Some body
 
 -- the reply to a refused request
 abbrev pub refusal_reply : Bool → Refusal → Text
-refusal_reply to_head r = reply_text (refusal_status r) (refusal_allow r) (unless_head to_head (error_json (refusal_message r)))
+refusal_reply to_head r =
+    reply_text (refusal_status r) (refusal_allow r) (unless_head to_head (error_json (refusal_message r)))

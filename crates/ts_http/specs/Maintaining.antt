@@ -31,7 +31,8 @@ pub data OpensRun (now : ℤ) (old : WholeState) : WholeState → Type 0 where
 -- At most n steps of an open run: n if more are left; else as many as are left, of which the last ends the run.
 pub data RunsSteps (n : ℕ) (old : WholeState) : WholeState → Type 0 where
   goes_on : (new : WholeState) → n < left_in old → TakesSteps n old new → RunsSteps n old new
-  ends : (taken : ℕ) (mid new : WholeState) → left_in old ≡ taken + 1 → left_in old ≤ n → TakesSteps taken old mid → StepsOnce mid Done new → RunsSteps n old new
+  ends : (taken : ℕ) (mid new : WholeState) → left_in old ≡ taken + 1
+      → left_in old ≤ n → TakesSteps taken old mid → StepsOnce mid Done new → RunsSteps n old new
 
 -- ---- the reply: true if the run ended, the raw mark, and the number of steps taken
 
@@ -40,7 +41,8 @@ bool_text true = codes "true"
 bool_text false = codes "false"
 
 abbrev pub progress_text : Bool → ℤ → ℕ → Text
-progress_text done raw taken = codes "{\"done\":" ++ (bool_text done ++ (codes ",\"raw\":" ++ (signed_decimal raw ++ (codes ",\"steps\":" ++ (decimal taken ++ codes "}")))))
+progress_text done raw taken = codes "{\"done\":" ++ (bool_text done
+    ++ (codes ",\"raw\":" ++ (signed_decimal raw ++ (codes ",\"steps\":" ++ (decimal taken ++ codes "}")))))
 
 -- that of at most n steps of a run that had this number left
 abbrev pub run_text : ℕ → ℕ → ℤ → Text

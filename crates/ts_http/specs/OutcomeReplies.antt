@@ -36,23 +36,28 @@ StaysUnlessDone old outcome new = ((reply_of false outcome).0 ≡ status.Success
 
 -- a /write in each state that its store was in
 abbrev pub WritesAs : ℤ → Text → Text → StoreData → RequestOutcome → StoreData → Type 0
-WritesAs now query body old outcome new = FromEach old new (λ s s'. Writes now s query body (reply_of false outcome) s') × (LeavesStore to.Write query body (reply_of false outcome).0 → new ≡ old)
+WritesAs now query body old outcome new = FromEach old new (λ s s'. Writes now s query body (reply_of false outcome) s')
+    × (LeavesStore to.Write query body (reply_of false outcome).0 → new ≡ old)
 
 -- a /query in each state that its store is in
 abbrev pub QueriesAs : ℤ → Text → Text → StoreData → RequestOutcome → Type 0
-QueriesAs now query body k outcome = (s : WholeState) → IsWholeStateOf s k → Queries now s query body (reply_of false outcome)
+QueriesAs now query body k outcome = (s : WholeState)
+    → IsWholeStateOf s k → Queries now s query body (reply_of false outcome)
 
 -- a /maintain in each state that its store was in
 abbrev pub MaintainsAs : ℤ → Text → StoreData → RequestOutcome → StoreData → Type 0
-MaintainsAs now query old outcome new = FromEach old new (λ s s'. Maintains now s query (reply_of false outcome) s') × StaysUnlessDone old outcome new
+MaintainsAs now query old outcome new =
+    FromEach old new (λ s s'. Maintains now s query (reply_of false outcome) s') × StaysUnlessDone old outcome new
 
 -- a POST of /rules in each state that its store was in
 abbrev pub AddsAs : Text → StoreData → RequestOutcome → StoreData → Type 0
-AddsAs body old outcome new = FromEach old new (λ s s'. PostsRule s body (reply_of false outcome) s') × StaysUnlessDone old outcome new
+AddsAs body old outcome new =
+    FromEach old new (λ s s'. PostsRule s body (reply_of false outcome) s') × StaysUnlessDone old outcome new
 
 -- a DELETE of /rules in each state that its store was in
 abbrev pub DropsAs : Text → StoreData → RequestOutcome → StoreData → Type 0
-DropsAs query old outcome new = FromEach old new (λ s s'. DeletesRule s query (reply_of false outcome) s') × StaysUnlessDone old outcome new
+DropsAs query old outcome new =
+    FromEach old new (λ s s'. DeletesRule s query (reply_of false outcome) s') × StaysUnlessDone old outcome new
 
 -- dropping the rule with a name, in each state that the store was in
 abbrev pub DropsNamed : Text → StoreData → RequestOutcome → StoreData → Type 0
@@ -61,7 +66,8 @@ DropsNamed name old outcome new = (query : Text) → name_in query ≡ Some name
 -- a request in each state that its store was in
 abbrev pub ActsAs : ℤ → Route → Method → Text → Text → StoreData → RequestOutcome → StoreData → Type 0
 ActsAs now route method query body old outcome new =
-    FromEach old new (λ s s'. Acts now s query body route method (reply_of false outcome) s') × (LeavesStore route query body (reply_of false outcome).0 → new ≡ old)
+    FromEach old new (λ s s'. Acts now s query body route method (reply_of false outcome) s')
+    × (LeavesStore route query body (reply_of false outcome).0 → new ≡ old)
 
 -- the reply to queries, or out of memory
 abbrev pub answered_reply : {E : Type 0} → Result QueryReply E → Replied

@@ -41,8 +41,13 @@ is_taken head = refused (route_in head) (method_in head) (fields_of head) ≡ No
 pub data Asks (bytes : Text) : Request → Type 0 where
   nothing : ReadsHead bytes Nothing → Asks bytes NoRequest
   no_head : (fault : HeadFault) → ReadsHead bytes (Fault fault) → Asks bytes (Refuses (Head fault) to.Other false)
-  refuses : (head : RequestHead) (rest : Text) (r : Refusal) → IsWholeHead bytes head rest → refused_in head r → Asks bytes (Refuses r (route_in head) (is_head (method_in head)))
-  cut : (head : RequestHead) (rest : Text) → IsWholeHead bytes head rest → is_taken head → length rest < body_length (method_in head) (fields_of head) → Asks bytes (Refuses BodyEndsEarly (route_in head) false)
+  refuses : (head : RequestHead) (rest : Text) (r : Refusal) → IsWholeHead bytes head rest
+      → refused_in head r → Asks bytes (Refuses r (route_in head) (is_head (method_in head)))
+  cut : (head : RequestHead) (rest : Text) → IsWholeHead bytes head rest → is_taken head → length rest
+      < body_length (method_in head) (fields_of head) → Asks bytes (Refuses BodyEndsEarly (route_in head) false)
   -- out of memory for a body that isn't empty
-  wants_memory : (head : RequestHead) (rest : Text) → IsWholeHead bytes head rest → is_taken head → 0 < body_length (method_in head) (fields_of head) → Asks bytes (Refuses OutOfMemory (route_in head) false)
-  wants : (head : RequestHead) (rest body others : Text) → IsWholeHead bytes head rest → is_taken head → rest ≡ body ++ others → length body ≡ body_length (method_in head) (fields_of head) → Asks bytes (Wants (route_in head) (method_in head) (target_query head.target) body)
+  wants_memory : (head : RequestHead) (rest : Text) → IsWholeHead bytes head rest → is_taken head
+      → 0 < body_length (method_in head) (fields_of head) → Asks bytes (Refuses OutOfMemory (route_in head) false)
+  wants : (head : RequestHead) (rest body others : Text) → IsWholeHead bytes head rest
+      → is_taken head → rest ≡ body ++ others → length body ≡ body_length (method_in head) (fields_of head)
+      → Asks bytes (Wants (route_in head) (method_in head) (target_query head.target) body)

@@ -95,7 +95,8 @@ has_field name fields = list_any (is_field_named name) fields
 -- the values of the fields with a name
 abbrev pub parameter_values : Text → Fields → List Text
 parameter_values name [] = []
-parameter_values name (field ∷ fields) = if is_field_named name field then field.1 ∷ parameter_values name fields else parameter_values name fields
+parameter_values name (field ∷ fields) =
+    if is_field_named name field then field.1 ∷ parameter_values name fields else parameter_values name fields
 
 -- ---- the length of the body
 
@@ -131,7 +132,8 @@ is_coded field = is_field_named (codes "content-encoding") field && not (same_ig
 -- the reason why the body of a POST isn't read
 abbrev pub body_refused : Route → Fields → Option Refusal
 body_refused route fields =
-    unless (not (has_field (codes "transfer-encoding") fields) && (not (is_write route) || is_given (lengths_of fields))) LengthRequired
+    unless (not (has_field (codes "transfer-encoding") fields)
+    && (not (is_write route) || is_given (lengths_of fields))) LengthRequired
     (unless (is_good_length (lengths_of fields)) BadLength
     (unless (nat_le (length_given (lengths_of fields)) body_limit) BodyTooLarge
     (unless (not (list_any is_coded fields)) EncodingNotSupported None)))

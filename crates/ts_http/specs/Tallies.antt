@@ -25,5 +25,8 @@ pub record TallyIs (outcomes : List (Option Text)) (t : BatchTally) : Type 0 whe
 
 -- the effect of the lines of a body on a store that was in this state
 abbrev pub WritesLines : TimeUnit → ℤ → WholeState → Text → {E : Type 0} → Result BatchTally E → StoreData → Type 0
-WritesLines precision now s body (Ok tally) new = (outcomes : List LineOutcome) × (s' : WholeState) × TakesLines precision now s (body_lines body) outcomes s' × TallyIs (map refusal_text outcomes) tally × IsWholeStateOf s' new
-WritesLines precision now s body (Err e) new = (s' : WholeState) × StopsAtLine precision now s (body_lines body) s' × IsWholeStateOf s' new
+WritesLines precision now s body (Ok tally) new =
+    (outcomes : List LineOutcome) × (s' : WholeState) × TakesLines precision now s (body_lines body) outcomes s'
+    × TallyIs (map refusal_text outcomes) tally × IsWholeStateOf s' new
+WritesLines precision now s body (Err e) new =
+    (s' : WholeState) × StopsAtLine precision now s (body_lines body) s' × IsWholeStateOf s' new

@@ -115,7 +115,8 @@ pub(crate) fn number_of(value: &[u8]) -> usize
 /// Returns the length of the body of a POST in bytes, or the reason why it isn't read.
 pub(crate) fn body_of(came: &[u8], spans: &[HeaderSpan], route: Route) -> Result<usize, Refusal>
     requires { AllByRecursion (IsHeaderWithin (length came.now)) spans.now }
-    ensures { IsBodyAnswer (map (header_bytes came.now) spans.now) (body_refused route (map (header_bytes came.now) spans.now)) result }
+    ensures { IsBodyAnswer
+        (map (header_bytes came.now) spans.now) (body_refused route (map (header_bytes came.now) spans.now)) result }
 {
     let lengths = lengths(came, spans);
     if has_field(came, spans, b"transfer-encoding")

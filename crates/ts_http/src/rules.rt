@@ -54,7 +54,8 @@ fn fault_body(json: Global, fault: SettingsFault) -> Result<String, AllocError>
 
 /// Returns the outcome for a rule with a fault, or out of memory.
 fn refused(json: Global, fault: SettingsFault) -> RequestOutcome
-    ensures { (reply_of false result ≡ bad_reply (error_json (settings_fault_text fault))) ⊎ (result ≡ RequestOutcome.Refused Refusal.OutOfMemory) }
+    ensures { (reply_of false result ≡ bad_reply (error_json (settings_fault_text fault)))
+        ⊎ (result ≡ RequestOutcome.Refused Refusal.OutOfMemory) }
 {
     match fault_body(json, fault) {
         Ok(body) => RequestOutcome::Answered(Status::BadRequest, body),

@@ -198,7 +198,8 @@ fn act_on_body<R: Read, A: Allocator + Copy>(
 ) -> Result<RequestOutcome, ReadFailed>
     requires allowed { is_allowed head.now.route head.now.method ≡ true }
     requires len { len ≤ body_limit }
-    ensures acted { IsActedOn now head.now.route head.now.method head.now.query.now head.now.after.now len store.old source.old result store.new source.new }
+    ensures acted { IsActedOn now head.now.route
+        head.now.method head.now.query.now head.now.after.now len store.old source.old result store.new source.new }
     ensures each { EachReadCounts source.old source.new }
 {
     if len == 0 {

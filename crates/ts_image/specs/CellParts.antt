@@ -24,7 +24,8 @@ abbrev pub extremes_of_parts : ExtremesParts → Extremes
 extremes_of_parts e = record { min = e.min; max = e.max; first = point_of e.first; last = point_of e.last }
 
 abbrev pub cell_of_parts : {A : Type 0} → CellParts A → ImageCell
-cell_of_parts c = record { cell = cell_key_of c.key; count = c.count; sum = c.sum; extremes = extremes_of_parts c.extremes }
+cell_of_parts c =
+    record { cell = cell_key_of c.key; count = c.count; sum = c.sum; extremes = extremes_of_parts c.extremes }
 
 abbrev pub cells_of_parts : {A : Type 0} → Vec (CellParts A) A → List ImageCell
 cells_of_parts v = map cell_of_parts v.items

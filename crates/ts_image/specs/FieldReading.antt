@@ -35,7 +35,8 @@ one_if_failed (Err TooManyReads) = 0
 one_if_failed (Err OutOfMemory) = 0
 
 -- the effect on the counts of the source and of the read buffer
-pub record CallsSource {T : Type 0} (old : Ahead) (source : Input) (result : Result T FieldFault) (new : Ahead) (source' : Input) : Type 0 where
+pub record CallsSource {T : Type 0}
+    (old : Ahead) (source : Input) (result : Result T FieldFault) (new : Ahead) (source' : Input) : Type 0 where
   pub end : EndIsEnd new source'
   pub allowed : new.limit ≡ old.limit
   pub within : old.reads ≤ old.limit → new.reads ≤ new.limit
@@ -46,7 +47,8 @@ pub record CallsSource {T : Type 0} (old : Ahead) (source : Input) (result : Res
   pub each : EachReadCounts source source'
 
 -- these bytes were consumed
-pub record UsesBytes (old : FieldsRead) (source : Input) (bytes : List ℕ) (new : FieldsRead) (source' : Input) : Type 0 where
+pub record UsesBytes (old : FieldsRead)
+    (source : Input) (bytes : List ℕ) (new : FieldsRead) (source' : Input) : Type 0 where
   pub used : Consumes (bytes_to_come old source) (bytes_to_come new source') bytes
   pub at : new.at ≡ old.at + length bytes
 
@@ -59,7 +61,8 @@ pub record FindsEnd (old : FieldsRead) (source : Input) (new : FieldsRead) (sour
 -- the buffer is filled with the next bytes, or the input ends before
 abbrev pub FillsBuffer : FieldsRead → Input → Result (Unit {0}) FieldFault → List ℕ → FieldsRead → Input → Type 0
 FillsBuffer old source (Ok u) buffer new source' = UsesBytes old source buffer new source'
-FillsBuffer old source (Err (Misshapen n)) buffer new source' = (n ≡ old.at) × (IsKnown old source → length (cursor_of old source).rest < length buffer)
+FillsBuffer old source (Err (Misshapen n)) buffer new source' =
+    (n ≡ old.at) × (IsKnown old source → length (cursor_of old source).rest < length buffer)
 FillsBuffer old source (Err Device) buffer new source' = Unit {0}
 FillsBuffer old source (Err TooManyReads) buffer new source' = Unit {0}
 FillsBuffer old source (Err OutOfMemory) buffer new source' = Unit {0}
@@ -73,13 +76,15 @@ GivesReading view (Err TooManyReads) q read = Unit {0}
 GivesReading view (Err OutOfMemory) q read = Unit {0}
 
 -- reads a value by its format, if the bytes to come are known
-pub record ReadsField {X Y : Type 0} (format : Format Y) (view : X → Y) (old : FieldsRead) (source : Input) (result : Result X FieldFault) (new : FieldsRead) (source' : Input) : Type 0 where
+pub record ReadsField {X Y : Type 0} (format : Format Y) (view : X → Y) (old : FieldsRead)
+    (source : Input) (result : Result X FieldFault) (new : FieldsRead) (source' : Input) : Type 0 where
   pub stays : IsKnown old source → MatchResult result (λ x. IsKnown new source') (λ e. Unit {0})
   pub value : IsKnown old source → GivesReading view result (cursor_of new source') (format.read (cursor_of old source))
   pub calls : CallsSource old.ahead source result new.ahead source'
 
 -- refills the empty buffer: there are more bytes, or the input ends
-pub record FillsAhead (old : FieldsRead) (source : Input) (more : Bool) (new : FieldsRead) (source' : Input) : Type 0 where
+pub record FillsAhead (old : FieldsRead)
+    (source : Input) (more : Bool) (new : FieldsRead) (source' : Input) : Type 0 where
   pub bytes : Keeps (bytes_to_come old source) (bytes_to_come new source')
   pub at : new.at ≡ old.at
   pub some : more ≡ nat_lt 0 (length new.ahead.buffered)

@@ -6,7 +6,8 @@ use Rattle.ts_core.specs.io.OutputBuffering.{IsBuffered}
 use Rattle.ts_image.specs.Formats.{Format, spelling, times}
 
 -- Writes the value's spelling, and has one only if the value fits the format.
-pub record PutsField {X T E : Type 0} (format : Format X) (value : X) (old : Output) (buffered : Text) (result : Result T E) (new : Output) (buffered' : Text) : Type 0 where
+pub record PutsField {X T E : Type 0} (format : Format X)
+    (value : X) (old : Output) (buffered : Text) (result : Result T E) (new : Output) (buffered' : Text) : Type 0 where
   pub sent : IsBuffered old buffered result (spelling format value) new buffered'
   pub fits : OnOk result (format.fits value)
 

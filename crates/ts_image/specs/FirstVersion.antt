@@ -36,18 +36,24 @@ pub record HasFirstImage (opening : Settings) (h : History) (k : StoreData) : Ty
 
 -- the image has no contradiction
 abbrev pub FirstImagesArePossible : Type 0
-FirstImagesArePossible = (opening : Settings) (h : History) (k : StoreData) (d : ImageData) → HasFirstImage opening h k → IsPictureOf k d → IsOrderly d → IsPossible V1 d
+FirstImagesArePossible = (opening : Settings) (h : History) (k : StoreData) (d : ImageData)
+    → HasFirstImage opening h k → IsPictureOf k d → IsOrderly d → IsPossible V1 d
 
 -- the data fits the form of version 1 if it fits that of version 2
 abbrev pub FirstImagesFit : Type 0
-FirstImagesFit = (opening : Settings) (h : History) (k : StoreData) (order : List SavedSeries) → HasFirstImage opening h k → (image V2).fits (store_image k order) → (image V1).fits (store_image k order)
+FirstImagesFit = (opening : Settings) (h : History) (k : StoreData) (order : List SavedSeries)
+    → HasFirstImage opening h k → (image V2).fits (store_image k order) → (image V1).fits (store_image k order)
 
 -- From a source with these bytes a store is loaded that represents the history. Only the device, the limit of reads or
 -- memory may prevent it.
 abbrev pub GivesStore : Settings → History → List ℕ → Type 0
 GivesStore opening h bytes =
-    (source source' : Input) (reads : ℕ) (result : Result StoreData LoadFault) → source.remaining ≡ Some bytes → LoadsStore source reads result source' → MatchResult result (λ k. StandsFor opening h (state_of k)) (λ e. IsOfBytes e → ⊥)
+    (source source' : Input) (reads : ℕ) (result : Result StoreData LoadFault)
+    → source.remaining ≡ Some bytes → LoadsStore source reads result source'
+    → MatchResult result (λ k. StandsFor opening h (state_of k)) (λ e. IsOfBytes e → ⊥)
 
 -- the image, in each order in which it may be written, is loaded
 abbrev pub FirstImagesAreLoaded : Type 0
-FirstImagesAreLoaded = (opening : Settings) (h : History) (k : StoreData) (order : List SavedSeries) → HasFirstImage opening h k → IsOrder k order → (image V1).fits (store_image k order) → GivesStore opening h (image_text V1 (store_image k order))
+FirstImagesAreLoaded = (opening : Settings) (h : History) (k : StoreData) (order : List SavedSeries)
+    → HasFirstImage opening h k → IsOrder k order
+    → (image V1).fits (store_image k order) → GivesStore opening h (image_text V1 (store_image k order))

@@ -34,7 +34,8 @@ pub record IsFormat {X : Type 0} (f : Format X) : Type 0 where
   pub some : X
   pub some_fits : f.fits some
   pub reads_value : (p q : Cursor) (x : X) → AreBytes p.rest → f.read p ≡ Ok (x, q) → ReadsValue f p x q
-  pub again : (p : Cursor) (x : X) (rest : List ℕ) → f.fits x → p.rest ≡ spelling f x ++ rest → f.read p ≡ Ok (x, record { at = p.at + length (spelling f x); rest = rest })
+  pub again : (p : Cursor) (x : X) (rest : List ℕ) → f.fits x
+      → p.rest ≡ spelling f x ++ rest → f.read p ≡ Ok (x, record { at = p.at + length (spelling f x); rest = rest })
   pub fails : (p : Cursor) (n : ℕ) → AreBytes p.rest → f.read p ≡ Err n → Reaches f p n
   pub bound : (p : Cursor) (n : ℕ) → Reaches f p n → n ≤ reach (f.read p)
 

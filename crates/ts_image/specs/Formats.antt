@@ -34,7 +34,8 @@ spelling f x = concat (f.fields x)
 -- ---- one field
 
 abbrev pub read_number : Width → Cursor → Read ℕ
-read_number w p = if nat_lt (length p.rest) (byte_len w) then Err p.at else Ok (from_be_bytes w (take (byte_len w) p.rest), advanced (byte_len w) p)
+read_number w p = if nat_lt (length p.rest) (byte_len w)
+    then Err p.at else Ok (from_be_bytes w (take (byte_len w) p.rest), advanced (byte_len w) p)
 
 -- an unsigned number, its highest byte first
 abbrev pub number : Width → Format ℕ
@@ -42,7 +43,12 @@ number w = record { fits = λ n. n < 2 ^ bits w; fields = λ n. to_be_bytes w n 
 
 -- a signed number, in two's complement
 abbrev pub signed_number : Width → Format ℤ
-signed_number w = record { fits = FitsSigned w; fields = λ z. to_be_bytes w (cast_unsigned w z) ∷ []; read = λ p. read_number w p >>= λ n. Ok (cast_signed w n.0, n.1) }
+signed_number w = record {
+  fits = FitsSigned w;
+  fields = λ z. to_be_bytes w (cast_unsigned w z)
+      ∷ [];
+  read = λ p. read_number w p >>= λ n. Ok (cast_signed w n.0, n.1);
+}
 
 -- n bytes are there, and they are UTF-8
 abbrev pub is_text : ℕ → List ℕ → Bool
@@ -53,7 +59,12 @@ read_text p n = if is_text n.0 n.1.rest then Ok (take n.0 n.1.rest, advanced n.0
 
 -- a text: its length, and its UTF-8 bytes. The two are one field
 abbrev pub text : Format Text
-text = record { fits = λ t. IsUtf8 t × (length t < 2 ^ 64); fields = λ t. (to_be_bytes w64 (length t) ++ t) ∷ []; read = λ p. read_number w64 p >>= read_text p }
+text = record {
+  fits = λ t. IsUtf8 t × (length t < 2 ^ 64);
+  fields = λ t. (to_be_bytes w64 (length t) ++ t)
+      ∷ [];
+  read = λ p. read_number w64 p >>= read_text p;
+}
 
 -- no field: always this value
 abbrev pub nothing : {X : Type 0} → X → Format X
@@ -71,7 +82,11 @@ and f g = record {
 
 -- the same fields for another type, converted there and back
 abbrev pub iso : {A X : Type 0} → Format A → (A → X) → (X → A) → Format X
-iso f to from = record { fits = λ x. f.fits (from x); fields = λ x. f.fields (from x); read = λ p. f.read p >>= λ a. Ok (to a.0, a.1) }
+iso f to from = record {
+  fits = λ x. f.fits (from x);
+  fields = λ x. f.fields (from x);
+  read = λ p. f.read p >>= λ a. Ok (to a.0, a.1);
+}
 
 abbrev pub read_along : {X Y : Type 0} → (Y → Format X) → List Y → Cursor → Read (List X)
 read_along f [] p = Ok ([], p)
@@ -79,7 +94,11 @@ read_along f (y ∷ ys) p = (f y).read p >>= λ x. read_along f ys x.1 >>= λ xs
 
 -- a value per member of a list, which its format may depend on
 abbrev pub along : {X Y : Type 0} → (Y → Format X) → List Y → Format (List X)
-along {X} {Y} f ys = record { fits = AllZip (λ y. (f y).fits) ys; fields = λ xs. flat_map (λ (p : Y × X). (f p.0).fields p.1) (zip ys xs); read = read_along f ys }
+along {X} {Y} f ys = record {
+  fits = AllZip (λ y. (f y).fits) ys;
+  fields = λ xs. flat_map (λ (p : Y × X). (f p.0).fields p.1) (zip ys xs);
+  read = read_along f ys;
+}
 
 -- n values
 abbrev pub times : {X : Type 0} → ℕ → Format X → Format (List X)

@@ -26,7 +26,8 @@ StaysKnown (Ok head.Other) new source' = Unit {0}
 StaysKnown (Ok head.None) new source' = Unit {0}
 StaysKnown (Err e) new source' = Unit {0}
 
-pub record ReadsImageHead (old : FieldsRead) (source : Input) (result : Result Head FieldFault) (new : FieldsRead) (source' : Input) : Type 0 where
+pub record ReadsImageHead (old : FieldsRead)
+    (source : Input) (result : Result Head FieldFault) (new : FieldsRead) (source' : Input) : Type 0 where
   pub stays : IsKnown old source → StaysKnown result new source'
   pub value : IsKnown old source → GivesHead result (cursor_of old source) (cursor_of new source')
   pub calls : CallsSource old.ahead source result new.ahead source'

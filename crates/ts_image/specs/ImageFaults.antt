@@ -19,7 +19,9 @@ IsFaultOf bytes NotAnImage = take 4 bytes ≢ image_mark
 -- they are of another version
 IsFaultOf bytes OtherVersion = (b : ℕ) × (rest : List ℕ) × (bytes ≡ image_mark ++ (b ∷ rest)) × (b ≢ 1) × (b ≢ 2)
 -- they aren't of the form; the version's byte may be missing
-IsFaultOf bytes (Misshapen n) = ((bytes ≡ image_mark) × (n ≡ 4)) ⊎ ((v : Version) × (rest : List ℕ) × (bytes ≡ image_mark ++ (version_byte v ∷ rest)) × IsMisshapen (image v) (body rest) n)
+IsFaultOf bytes (Misshapen n) = ((bytes ≡ image_mark) × (n ≡ 4))
+    ⊎ ((v : Version)
+    × (rest : List ℕ) × (bytes ≡ image_mark ++ (version_byte v ∷ rest)) × IsMisshapen (image v) (body rest) n)
 -- they are of the form and contradictory
 IsFaultOf bytes Contradiction = (v : Version) × (d : ImageData) × IsImageOf v d bytes × (IsPossible v d → ⊥)
 -- errors of devices, of limits and of memory don't depend on the bytes
@@ -40,4 +42,5 @@ IsOfBytes OutOfMemory = ⊥
 -- an image without contradictions has no fault, and is of no other version and no other data
 abbrev pub AreUnambiguous : Type 0
 AreUnambiguous = (v : Version) (d : ImageData) (bytes : List ℕ) → IsImageOf v d bytes → IsPossible v d →
-    ((fault : LoadFault) → IsOfBytes fault → IsFaultOf bytes fault → ⊥) × ((w : Version) (e : ImageData) → IsImageOf w e bytes → (w ≡ v) × (e ≡ d))
+    ((fault : LoadFault) → IsOfBytes fault → IsFaultOf bytes fault → ⊥)
+    × ((w : Version) (e : ImageData) → IsImageOf w e bytes → (w ≡ v) × (e ≡ d))

@@ -18,7 +18,14 @@ use Rattle.ts_image.specs.CellParts.{marks_of_parts, all_cells_of}
 use Rattle.ts_image.specs.ImageFaults.{IsImageOf, IsFaultOf}
 
 abbrev pub image_of : {A : Type 0} → ImageParts A → ImageData
-image_of i = record { settings = settings_of_parts i.settings; marks = marks_of_parts i.marks; runs = i.runs; accepted = i.accepted; series = all_series_of i.series; cells = all_cells_of i.cells }
+image_of i = record {
+  settings = settings_of_parts i.settings;
+  marks = marks_of_parts i.marks;
+  runs = i.runs;
+  accepted = i.accepted;
+  series = all_series_of i.series;
+  cells = all_cells_of i.cells;
+}
 
 -- the view of a call's result is the reading of all bytes that are left
 abbrev pub GivesWhole : {X Y : Type 0} → (X → Y) → Result X FieldFault → Result Y ℕ → Type 0
@@ -29,7 +36,8 @@ GivesWhole view (Err field.TooManyReads) read = Unit {0}
 GivesWhole view (Err field.OutOfMemory) read = Unit {0}
 
 -- reads a value up to the end of the input
-pub record ReadsWhole {X Y : Type 0} (format : Format Y) (view : X → Y) (old : FieldsRead) (source : Input) (result : Result X FieldFault) (new : FieldsRead) (source' : Input) : Type 0 where
+pub record ReadsWhole {X Y : Type 0} (format : Format Y) (view : X → Y) (old : FieldsRead)
+    (source : Input) (result : Result X FieldFault) (new : FieldsRead) (source' : Input) : Type 0 where
   pub value : IsKnown old source → GivesWhole view result (read_whole format (cursor_of old source))
   pub ended : IfOk result (λ x. new.ahead.ended ≡ true)
   pub calls : CallsSource old.ahead source result new.ahead source'
@@ -46,7 +54,8 @@ one_if_device_failed (Err TooManyReads) = 0
 one_if_device_failed (Err OutOfMemory) = 0
 
 -- a source is read to its end with a wanted result, or it has this fault
-pub record Loads {T : Type 0} (IsWanted : T → Type 0) (source : Input) (reads : ℕ) (result : Result T LoadFault) (source' : Input) : Type 0 where
+pub record Loads {T : Type 0} (IsWanted : T → Type 0)
+    (source : Input) (reads : ℕ) (result : Result T LoadFault) (source' : Input) : Type 0 where
   pub ok : IfOk result IsWanted
   pub err : IfErr result (λ e. IfSome source.remaining (λ bytes. AreBytes bytes → IsFaultOf bytes e))
   -- once the end was read, the source has no byte left

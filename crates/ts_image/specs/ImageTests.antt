@@ -26,7 +26,14 @@ IsKeyName t = (t ≢ []) × (t ≢ time_word)
 -- ---- settings and marks
 
 abbrev pub rule_in : ImageRule → Rule
-rule_in r = record { name = r.name; measurement = r.measurement; interval = r.interval; offset = r.offset; kept_tags = r.kept_tags; duration = unsigned_abs r.duration }
+rule_in r = record {
+  name = r.name;
+  measurement = r.measurement;
+  interval = r.interval;
+  offset = r.offset;
+  kept_tags = r.kept_tags;
+  duration = unsigned_abs r.duration;
+}
 
 abbrev pub settings_of_image : ImageSettings → Settings
 settings_of_image s = record { raw_duration = unsigned_abs s.raw_duration; rules = map rule_in s.rules }
@@ -121,7 +128,8 @@ abbrev pub count_frozen : List ImageCell → ℕ
 count_frozen cs = sum_by (λ (c : ImageCell). c.count) cs
 
 -- the counts of a rule's frozen parts and the raw points of its measurement are at most this number
-pub record HasCountedFacts (accepted : ℕ) (ss : List ImageSeries) (r : ImageRule) (cells : List ImageCell) : Type 0 where
+pub record HasCountedFacts (accepted : ℕ)
+    (ss : List ImageSeries) (r : ImageRule) (cells : List ImageCell) : Type 0 where
   pub enough : count_frozen cells + points_of_measurement r.measurement ss ≤ accepted
 
 -- the counts of each rule are at most the accepted facts

@@ -58,50 +58,75 @@ flag V2 = number w8
 
 abbrev pub image_rule : Format ImageRule
 image_rule =
-    iso (also text (also text (also (signed_number w64) (also (signed_number w64) (also (signed_number w64) (list_of w8 text))))))
-    (λ a. record { name = a.0; measurement = a.1.0; interval = a.1.1.0; offset = a.1.1.1.0; duration = a.1.1.1.1.0; kept_tags = a.1.1.1.1.1 })
+    iso
+    (also text
+    (also text (also (signed_number w64) (also (signed_number w64) (also (signed_number w64) (list_of w8 text))))))
+    (λ a. record {
+      name = a.0;
+      measurement = a.1.0;
+      interval = a.1.1.0;
+      offset = a.1.1.1.0;
+      duration = a.1.1.1.1.0;
+      kept_tags = a.1.1.1.1.1;
+    })
     (λ r. (r.name, (r.measurement, (r.interval, (r.offset, (r.duration, r.kept_tags))))))
 
 abbrev pub image_settings : Format ImageSettings
-image_settings = iso (also (signed_number w64) (list_of w8 image_rule)) (λ a. record { raw_duration = a.0; rules = a.1 }) (λ s. (s.raw_duration, s.rules))
+image_settings = iso (also (signed_number w64) (list_of w8 image_rule))
+    (λ a. record { raw_duration = a.0; rules = a.1 }) (λ s. (s.raw_duration, s.rules))
 
 -- the raw mark, and a low index per rule
 abbrev pub image_marks : List ImageRule → Format Marks
-image_marks rules = iso (also (signed_number w64) (along (λ (r : ImageRule). signed_number w64) rules)) (λ a. record { raw = a.0; lows = a.1 }) (λ m. (m.raw, m.lows))
+image_marks rules = iso (also (signed_number w64) (along (λ (r : ImageRule). signed_number w64) rules))
+    (λ a. record { raw = a.0; lows = a.1 }) (λ m. (m.raw, m.lows))
 
 abbrev pub image_series_key : Format Series
-image_series_key = iso (also text (list_of w8 (also text text))) (λ a. record { measurement = a.0; tags = a.1 }) (λ s. (s.measurement, s.tags))
+image_series_key = iso (also text (list_of w8 (also text text)))
+    (λ a. record { measurement = a.0; tags = a.1 }) (λ s. (s.measurement, s.tags))
 
 abbrev pub image_point : Format (ℤ × ℤ)
 image_point = also (signed_number w64) (signed_number w64)
 
 abbrev pub image_column : Version → Format ImageColumn
-image_column v = iso (also text (also (flag v) (list_of w64 image_point))) (λ a. record { field = a.0; waits = a.1.0; points = a.1.1 }) (λ c. (c.field, (c.waits, c.points)))
+image_column v = iso (also text (also (flag v) (list_of w64 image_point)))
+    (λ a. record { field = a.0; waits = a.1.0; points = a.1.1 }) (λ c. (c.field, (c.waits, c.points)))
 
 abbrev pub image_series : Version → Format ImageSeries
-image_series v = iso (also image_series_key (list_of w64 (image_column v))) (λ a. record { series = a.0; columns = a.1 }) (λ s. (s.series, s.columns))
+image_series v = iso (also image_series_key (list_of w64 (image_column v)))
+    (λ a. record { series = a.0; columns = a.1 }) (λ s. (s.series, s.columns))
 
 -- the bucket's index, the field, and a value for each kept tag
 abbrev pub image_cell_key : ImageRule → Format Cell
-image_cell_key r = iso (also (signed_number w64) (also text (along (λ (tag : Text). text) r.kept_tags))) (λ a. record { index = a.0; field = a.1.0; group = a.1.1 }) (λ k. (k.index, (k.field, k.group)))
+image_cell_key r = iso (also (signed_number w64) (also text (along (λ (tag : Text). text) r.kept_tags)))
+    (λ a. record { index = a.0; field = a.1.0; group = a.1.1 }) (λ k. (k.index, (k.field, k.group)))
 
 -- min, max, first time and value, last time and value
 abbrev pub image_extremes : Format Extremes
 image_extremes =
-    iso (also (signed_number w64) (also (signed_number w64) (also image_point image_point))) (λ a. record { min = a.0; max = a.1.0; first = a.1.1.0; last = a.1.1.1 })
+    iso (also (signed_number w64) (also (signed_number w64) (also image_point image_point)))
+    (λ a. record { min = a.0; max = a.1.0; first = a.1.1.0; last = a.1.1.1 })
     (λ e. (e.min, (e.max, (e.first, e.last))))
 
 abbrev pub image_cell : ImageRule → Format ImageCell
 image_cell r =
-    iso (also (image_cell_key r) (also (number w64) (also (signed_number w128) image_extremes))) (λ a. record { cell = a.0; count = a.1.0; sum = a.1.1.0; extremes = a.1.1.1 })
+    iso (also (image_cell_key r) (also (number w64) (also (signed_number w128) image_extremes)))
+    (λ a. record { cell = a.0; count = a.1.0; sum = a.1.1.0; extremes = a.1.1.1 })
     (λ c. (c.cell, (c.count, (c.sum, c.extremes))))
 
 -- settings; marks; 1 if a run is open, else 0; accepted facts; series with their columns; cells per rule
 abbrev pub image : Version → Format ImageData
 image v =
     iso
-    (and image_settings (λ s. also (image_marks s.rules) (also (flag v) (also (number w64) (also (list_of w32 (image_series v)) (along (λ (r : ImageRule). list_of w64 (image_cell r)) s.rules))))))
-    (λ a. record { settings = a.0; marks = a.1.0; runs = a.1.1.0; accepted = a.1.1.1.0; series = a.1.1.1.1.0; cells = a.1.1.1.1.1 })
+    (and image_settings (λ s. also (image_marks s.rules) (also (flag v) (also (number w64)
+    (also (list_of w32 (image_series v)) (along (λ (r : ImageRule). list_of w64 (image_cell r)) s.rules))))))
+    (λ a. record {
+      settings = a.0;
+      marks = a.1.0;
+      runs = a.1.1.0;
+      accepted = a.1.1.1.0;
+      series = a.1.1.1.1.0;
+      cells = a.1.1.1.1.1;
+    })
     (λ d. (d.settings, (d.marks, (d.runs, (d.accepted, (d.series, d.cells))))))
 
 -- ---- the bytes

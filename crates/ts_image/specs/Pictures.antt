@@ -26,7 +26,8 @@ abbrev pub columns_of_image : List ImageSeries → List ColumnPoints
 columns_of_image = flat_map (λ (s : ImageSeries). map (image_points_in s.series) s.columns)
 
 abbrev pub waiting_of_image : List ImageSeries → List Column
-waiting_of_image = flat_map (λ (s : ImageSeries). map (column_of_image s.series) (filter (λ (c : ImageColumn). c.waits == 1) s.columns))
+waiting_of_image = flat_map
+    (λ (s : ImageSeries). map (column_of_image s.series) (filter (λ (c : ImageColumn). c.waits == 1) s.columns))
 
 abbrev pub cell_part_of : ImageCell → Aggregate
 cell_part_of c = record { count = c.count; sum = c.sum; extremes = Some c.extremes }

@@ -12,8 +12,10 @@ use Rattle.ts_core.specs.store.StoreData.{CellMap, RuleData, StoreData, OfEachRu
 -- From the low index of a rule on, the frozen parts are the same, and each raw fact has its cell. Cells below it may
 -- differ, and an empty cell is as good as none.
 pub record HasSameParts (r : Rule) (low : ℤ) (facts : List Fact) (m n : CellMap) : Type 0 where
-  pub parts : (k : Cell) → low ≤ℤ k.index → (or_else no_parts (finmap.get n k)).frozen ≡ (or_else no_parts (finmap.get m k)).frozen
-  pub there : (f : Fact) → Among f facts → is_rolled r f ≡ true → low ≤ℤ (cell_of r f).index → finmap.get n (cell_of r f) ≡ None → ⊥
+  pub parts : (k : Cell)
+      → low ≤ℤ k.index → (or_else no_parts (finmap.get n k)).frozen ≡ (or_else no_parts (finmap.get m k)).frozen
+  pub there : (f : Fact)
+      → Among f facts → is_rolled r f ≡ true → low ≤ℤ (cell_of r f).index → finmap.get n (cell_of r f) ≡ None → ⊥
 
 -- the same for each rule
 abbrev pub HaveSameParts : List Fact → List RuleData → List RuleData → Type 0

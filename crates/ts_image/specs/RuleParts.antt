@@ -9,7 +9,14 @@ abbrev pub texts_of : {A : Type 0} → Vec (String A) A → List Text
 texts_of v = map string_bytes v.items
 
 abbrev pub rule_from_parts : {A : Type 0} → RuleParts A → ImageRule
-rule_from_parts r = record { name = string_bytes r.name; measurement = string_bytes r.measurement; interval = r.interval; offset = r.offset; duration = r.duration; kept_tags = texts_of r.kept_tags }
+rule_from_parts r = record {
+  name = string_bytes r.name;
+  measurement = string_bytes r.measurement;
+  interval = r.interval;
+  offset = r.offset;
+  duration = r.duration;
+  kept_tags = texts_of r.kept_tags;
+}
 
 abbrev pub rules_of_parts : {A : Type 0} → Vec (RuleParts A) A → List ImageRule
 rules_of_parts v = map rule_from_parts v.items

@@ -54,4 +54,5 @@ pub record IsWellFormed (k : StoreData) : Type 0 where
 
 -- the image of a store that represents a history has no contradiction
 abbrev pub SavedImagesArePossible : Type 0
-SavedImagesArePossible = (opening : Settings) (h : History) (k : StoreData) (d : ImageData) → StandsFor opening h (state_of k) → IsWellFormed k → IsPictureOf k d → IsOrderly d → IsPossible V2 d
+SavedImagesArePossible = (opening : Settings) (h : History) (k : StoreData) (d : ImageData)
+    → StandsFor opening h (state_of k) → IsWellFormed k → IsPictureOf k d → IsOrderly d → IsPossible V2 d

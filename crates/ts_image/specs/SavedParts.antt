@@ -7,7 +7,14 @@ use Rattle.ts_core.specs.store.Cells.{Cell}
 use Rattle.ts_image.specs.Images.{ImageRule, ImageSettings, ImageCell}
 
 abbrev pub image_rule_of : Rule → ImageRule
-image_rule_of r = record { name = r.name; measurement = r.measurement; interval = r.interval; offset = r.offset; duration = pos r.duration; kept_tags = r.kept_tags }
+image_rule_of r = record {
+  name = r.name;
+  measurement = r.measurement;
+  interval = r.interval;
+  offset = r.offset;
+  duration = pos r.duration;
+  kept_tags = r.kept_tags;
+}
 
 abbrev pub image_settings_of : Settings → ImageSettings
 image_settings_of s = record { raw_duration = pos s.raw_duration; rules = map image_rule_of s.rules }

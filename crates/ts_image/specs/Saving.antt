@@ -36,7 +36,11 @@ abbrev pub column_at : StoreData → SavedColumn → ColumnPoints
 column_at k c = slice_index_or k.columns c.number no_points
 
 abbrev pub image_column_of : StoreData → SavedColumn → ImageColumn
-image_column_of k c = record { field = c.field; waits = bit (is_waiting k.waiting (column_at k c).column); points = (column_at k c).points }
+image_column_of k c = record {
+  field = c.field;
+  waits = bit (is_waiting k.waiting (column_at k c).column);
+  points = (column_at k c).points;
+}
 
 abbrev pub image_series_of : StoreData → SavedSeries → ImageSeries
 image_series_of k s = record { series = s.series; columns = map (image_column_of k) s.columns }
@@ -86,8 +90,11 @@ IsOrder k order = SavesSeries k.series (map column_of k.columns) order
 
 -- Writes the image of a store in version 2. After a device error, a prefix of it was written. When out of memory,
 -- nothing was written.
-pub record IsSaved {T : Type 0} (k : StoreData) (old : Output) (result : Result T SaveFault) (new : Output) : Type 0 where
-  pub ok : OnOk result ((order : List SavedSeries) × IsOrder k order × (image V2).fits (store_image k order) × Appends old.contents new.contents (image_text V2 (store_image k order)))
-  pub device : result ≡ Err Device → (order : List SavedSeries) × IsOrder k order × AppendsFront old.contents new.contents (image_text V2 (store_image k order))
+pub record IsSaved {T : Type 0}
+    (k : StoreData) (old : Output) (result : Result T SaveFault) (new : Output) : Type 0 where
+  pub ok : OnOk result ((order : List SavedSeries) × IsOrder k order
+      × (image V2).fits (store_image k order) × Appends old.contents new.contents (image_text V2 (store_image k order)))
+  pub device : result ≡ Err Device → (order : List SavedSeries)
+      × IsOrder k order × AppendsFront old.contents new.contents (image_text V2 (store_image k order))
   pub memory : result ≡ Err OutOfMemory → new ≡ old
   pub failures : new.failures ≡ old.failures + one_if_device_fault result

@@ -47,7 +47,8 @@ abbrev pub waits_in : List ImageSeries → List Bool
 waits_in = flat_map (λ (s : ImageSeries). map is_column_waiting s.columns)
 
 abbrev pub with_image_columns : Series → List ImageColumn → Built → Built
-with_image_columns s cs b = record b { columns = b.columns ++ map (image_points_in s) cs; waits = b.waits ++ map is_column_waiting cs }
+with_image_columns s cs b =
+    record b { columns = b.columns ++ map (image_points_in s) cs; waits = b.waits ++ map is_column_waiting cs }
 
 abbrev pub key_in : ImageSeries → Series
 key_in s = s.series

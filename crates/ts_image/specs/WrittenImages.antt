@@ -17,4 +17,5 @@ pub record IsAcceptable (k : StoreData) (order : List SavedSeries) : Type 0 wher
   pub possible : IsPossible V2 (store_image k order)
 
 abbrev pub WrittenImagesAreAcceptable : Type 0
-WrittenImagesAreAcceptable = (opening : Settings) (h : History) (k : StoreData) (order : List SavedSeries) → StandsFor opening h (state_of k) → IsWellFormed k → IsOrder k order → IsAcceptable k order
+WrittenImagesAreAcceptable = (opening : Settings) (h : History) (k : StoreData) (order : List SavedSeries)
+    → StandsFor opening h (state_of k) → IsWellFormed k → IsOrder k order → IsAcceptable k order

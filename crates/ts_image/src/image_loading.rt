@@ -35,7 +35,8 @@ fn possible_settings<A: Allocator + Copy>(
     version: Version,
     parts: &ImageParts<A>,
 ) -> Result<Option<Settings<A>>, AllocError>
-    ensures { IfOk result (IsMadeIf (IsPossible version (image_of parts.now)) (settings_of_image (settings_of_parts parts.now.settings))) }
+    ensures { IfOk result (IsMadeIf
+        (IsPossible version (image_of parts.now)) (settings_of_image (settings_of_parts parts.now.settings))) }
 {
     match make_settings(alloc, &parts.settings)? {
         Some(settings) => {

@@ -19,7 +19,8 @@ EndsAs (Err fault) read = read ≡ Err fault
 
 -- the ends of the key and of the value of the tag at `start`, or its error
 abbrev pub EndsAsPair : Text → ℕ → Result (End × End) LineFault → Type 0
-EndsAsPair line start (Ok ends) = pair_at line start ≡ Ok ((piece_at Equals line start ends.0.at, piece_at Equals line (ends.0.at + 1) ends.1.at), ends.1.at)
+EndsAsPair line start (Ok ends) = pair_at line start
+    ≡ Ok ((piece_at Equals line start ends.0.at, piece_at Equals line (ends.0.at + 1) ends.1.at), ends.1.at)
 EndsAsPair line start (Err fault) = pair_at line start ≡ Err fault
 
 -- an end of a part that begins at `start`; it says if the part has an escape
@@ -28,14 +29,16 @@ pub record IsPartEnd (stops : Stops) (line : Text) (start : ℕ) (end : End) : T
   pub escape : end.has_escape ≡ list_any (is_stop stops) (slice_range line start end.at)
 
 -- a tag and those after it
-abbrev pub then_pairs : (ℕ → List (LinePart × LinePart)) → Result ((LinePart × LinePart) × ℕ) LineFault → List (LinePart × LinePart)
+abbrev pub then_pairs : (ℕ → List (LinePart × LinePart))
+    → Result ((LinePart × LinePart) × ℕ) LineFault → List (LinePart × LinePart)
 then_pairs after (Ok t) = t.0 ∷ after t.1
 then_pairs after (Err fault) = []
 
 -- the tags from `at`, each after a comma, up to the first error; at most n of them
 abbrev pub pairs_at : ℕ → Text → ℕ → List (LinePart × LinePart)
 pairs_at zero line at = []
-pairs_at (suc n) line at = if slice_index line at == 44 then then_pairs (pairs_at n line) (pair_at line (at + 1)) else []
+pairs_at (suc n) line at =
+    if slice_index line at == 44 then then_pairs (pairs_at n line) (pair_at line (at + 1)) else []
 
 -- the time of the parts, or the error
 abbrev pub time_only : Result Parts LineFault → Result ℤ LineFault

@@ -18,13 +18,15 @@ is_escapable stops byte = is_stop stops byte
 abbrev pub pair_len : Stops → Text → ℕ
 pair_len stops [] = 0
 pair_len stops (b ∷ []) = cond (is_stop stops b) 0 1
-pair_len stops (b ∷ c ∷ bs) = cond (is_stop stops b) 0 (cond (is_backslash b && is_escapable stops c) (pair_len stops bs + 2) (pair_len stops (c ∷ bs) + 1))
+pair_len stops (b ∷ c ∷ bs) = cond (is_stop stops b) 0
+    (cond (is_backslash b && is_escapable stops c) (pair_len stops bs + 2) (pair_len stops (c ∷ bs) + 1))
 
 -- text of a part, if each such pair gives its second byte
 abbrev pub pair_text : Stops → Text → Text
 pair_text stops [] = []
 pair_text stops (b ∷ []) = b ∷ []
-pair_text stops (b ∷ c ∷ bs) = cond (is_backslash b && is_stop stops c) (c ∷ pair_text stops bs) (b ∷ pair_text stops (c ∷ bs))
+pair_text stops (b ∷ c ∷ bs) =
+    cond (is_backslash b && is_stop stops c) (c ∷ pair_text stops bs) (b ∷ pair_text stops (c ∷ bs))
 
 -- both readings give the same lengths and texts
 pub record ReadsPairs : Type 0 where
@@ -46,7 +48,8 @@ unescaped_after Equals before e = e
 unescaped_after Plain before e = refl
 
 -- of the byte before the first, only a backslash matters
-pub len_from : (stops : Stops) (before : ℕ) (bs : Text) → is_backslash before ≡ false → part_len stops before bs ≡ part_len stops 0 bs
+pub len_from : (stops : Stops) (before : ℕ) (bs : Text)
+    → is_backslash before ≡ false → part_len stops before bs ≡ part_len stops 0 bs
 len_from stops before [] e = refl
 len_from stops before (b ∷ bs) e = rw (unescaped_after stops before e, unescaped_after stops 0 refl) refl
 
@@ -74,11 +77,14 @@ starts_bare stops b = rw (unescaped_after stops 0 refl) (and-true (is_stop stops
 
 -- ---- lengths
 
-len_by : (stops : Stops) (b c : ℕ) (bs : Text) (s w e : Bool) → is_stop stops b ≡ s → is_backslash b ≡ w → is_escapable stops c ≡ e
-    → part_len stops 0 bs ≡ pair_len stops bs → part_len stops 0 (c ∷ bs) ≡ pair_len stops (c ∷ bs) → part_len stops 0 (b ∷ c ∷ bs) ≡ pair_len stops (b ∷ c ∷ bs)
+len_by : (stops : Stops) (b c : ℕ) (bs : Text) (s w e : Bool)
+    → is_stop stops b ≡ s → is_backslash b ≡ w → is_escapable stops c ≡ e
+    → part_len stops 0 bs ≡ pair_len stops bs
+    → part_len stops 0 (c ∷ bs) ≡ pair_len stops (c ∷ bs) → part_len stops 0 (b ∷ c ∷ bs) ≡ pair_len stops (b ∷ c ∷ bs)
 len_by stops b c bs true w e s-is w-is e-is one two = rw (starts_bare stops b, s-is) refl
 len_by stops b c bs false true true s-is w-is e-is one two =
-    let rest : part_len stops c bs ≡ pair_len stops bs = len_from stops c bs (stop_is_other stops c (escapable_stop stops c e-is)) ∙ one in
+    let rest : part_len stops c bs ≡ pair_len stops bs =
+    len_from stops c bs (stop_is_other stops c (escapable_stop stops c e-is)) ∙ one in
     rw (starts_bare stops b, s-is, w-is, e-is, ends_escaped stops b c w-is e-is) (omega (arith, rest))
 len_by stops b c bs false true false s-is w-is e-is one two =
     let same : ends stops b c ≡ ends stops 0 c = ends_plainly stops b c e-is ∙ sym (starts_bare stops c) in
@@ -93,12 +99,14 @@ single stops b false e = rw (starts_bare stops b, e) refl
 same_lengths : (stops : Stops) (text : Text) → part_len stops 0 text ≡ pair_len stops text
 same_lengths stops [] = refl
 same_lengths stops (b ∷ []) = single stops b (is_stop stops b) refl
-same_lengths stops (b ∷ c ∷ bs) = len_by stops b c bs (is_stop stops b) (is_backslash b) (is_escapable stops c) refl refl refl (same_lengths stops bs) (same_lengths stops (c ∷ bs))
+same_lengths stops (b ∷ c ∷ bs) = len_by stops b c bs (is_stop stops b)
+    (is_backslash b) (is_escapable stops c) refl refl refl (same_lengths stops bs) (same_lengths stops (c ∷ bs))
 
 -- ---- texts
 
 text_by : (stops : Stops) (b c : ℕ) (bs : Text) (w e : Bool) → is_backslash b ≡ w → is_stop stops c ≡ e
-    → unescaped stops bs ≡ pair_text stops bs → unescaped stops (c ∷ bs) ≡ pair_text stops (c ∷ bs) → unescaped stops (b ∷ c ∷ bs) ≡ pair_text stops (b ∷ c ∷ bs)
+    → unescaped stops bs ≡ pair_text stops bs
+    → unescaped stops (c ∷ bs) ≡ pair_text stops (c ∷ bs) → unescaped stops (b ∷ c ∷ bs) ≡ pair_text stops (b ∷ c ∷ bs)
 text_by stops b c bs true true w-is e-is one two =
     let other : is_backslash c ≡ false = stop_is_other stops c e-is in
     rw (w-is, e-is, other) (ap (λ (t : Text). c ∷ t) one)
@@ -111,7 +119,8 @@ last_text stops b = rw (and-false (is_backslash b)) refl
 same_texts : (stops : Stops) (raw : Text) → unescaped stops raw ≡ pair_text stops raw
 same_texts stops [] = refl
 same_texts stops (b ∷ []) = last_text stops b
-same_texts stops (b ∷ c ∷ bs) = text_by stops b c bs (is_backslash b) (is_stop stops c) refl refl (same_texts stops bs) (same_texts stops (c ∷ bs))
+same_texts stops (b ∷ c ∷ bs) =
+    text_by stops b c bs (is_backslash b) (is_stop stops c) refl refl (same_texts stops bs) (same_texts stops (c ∷ bs))
 
 pub reads_pairs : ReadsPairs
 reads_pairs = record { lengths = same_lengths; texts = same_texts }

@@ -34,4 +34,5 @@ with_field (g ∷ gs) f = if bytes_eq g.0.text f.0.text then ((g.0, f.1) ∷ gs)
 unfoldable pub fields_at : ℕ → List (LinePart × ℤ) → Text → ℕ → Result (List (LinePart × ℤ) × ℕ) LineFault
 fields_at zero before line at = Err (fault_at OverLimit at)
 fields_at (suc n) before line at = next_field line at >>= λ f.
-    if slice_index line f.1 == 44 then fields_at n (with_field before f.0) line (f.1 + 1) else Ok (with_field before f.0, f.1)
+    if slice_index line f.1 == 44
+    then fields_at n (with_field before f.0) line (f.1 + 1) else Ok (with_field before f.0, f.1)

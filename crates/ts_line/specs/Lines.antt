@@ -27,7 +27,8 @@ trimmed line (suc n) = if is_bare_space line n then trimmed line n else suc n
 
 -- length of the text without one trailing carriage return
 abbrev pub without_return : Text → ℕ
-without_return line = if not (length line == 0) && slice_index line (length line - 1) == 13 then (length line - 1) else length line
+without_return line =
+    if not (length line == 0) && slice_index line (length line - 1) == 13 then (length line - 1) else length line
 
 -- the text without one trailing carriage return, then without trailing unescaped spaces
 unfoldable pub content : Text → Text
@@ -37,11 +38,13 @@ content source = take (trimmed source (without_return source)) source
 unfoldable pub measurement_at : Text → ℕ → Result (LinePart × ℕ) LineFault
 measurement_at line start =
     if nat_lt (start + 4096) (end_of Space line start) then Err (fault_at OverLimit (start + 4096)) else
-    (if end_of Comma line start == start then Err (fault_at NoMeasurement start) else Ok (piece_at Comma line start (end_of Comma line start), end_of Comma line start))
+    (if end_of Comma line start == start then Err (fault_at NoMeasurement start)
+    else Ok (piece_at Comma line start (end_of Comma line start), end_of Comma line start))
 
 -- the time of this number of units
 unfoldable pub time_of : ℤ → Text → Option ℤ
-time_of unit number = if is_from_to least_time greatest_time (signed_digits_value 10 number *ℤ unit) then Some (signed_digits_value 10 number *ℤ unit) else None
+time_of unit number = if is_from_to least_time greatest_time (signed_digits_value 10 number *ℤ unit)
+    then Some (signed_digits_value 10 number *ℤ unit) else None
 
 abbrev pub time_by : ℕ → Option ℤ → Result ℤ LineFault
 time_by start None = Err (fault_at TimestampRange start)
@@ -52,14 +55,16 @@ unfoldable pub time_at : ℤ → ℤ → Text → ℕ → Result ℤ LineFault
 time_at unit now line at =
     let start = spaces_end line at in
     let number = slice_range line start (length line) in
-    if start == length line then Ok now else (if is_number number then time_by start (time_of unit number) else Err (fault_at BadTimestamp start))
+    if start == length line then Ok now
+    else (if is_number number then time_by start (time_of unit number) else Err (fault_at BadTimestamp start))
 
 -- measurement, tags, fields and time of the line, parsed from `start`
 unfoldable pub parts_at : ℤ → ℤ → Text → ℕ → Result Parts LineFault
 parts_at unit now line start =
     measurement_at line start >>= λ m.
     tags_at 65 [] line m.1 >>= λ tags.
-    (if spaces_end line tags.1 == length line then Err (fault_at NoField tags.1) else fields_at 256 [] line (spaces_end line tags.1)) >>= λ fields.
+    (if spaces_end line tags.1 == length line
+    then Err (fault_at NoField tags.1) else fields_at 256 [] line (spaces_end line tags.1)) >>= λ fields.
     time_at unit now line fields.1 >>= λ time.
     Ok (record { measurement = m.0; tags = tags.0; fields = fields.0; time = time })
 
@@ -69,4 +74,5 @@ line_of unit now source =
     if nat_lt 65536 (length source) then Err (fault_at OverLimit 65536) else
     (let line = content source in
     let start = spaces_end line 0 in
-    if start == length line || slice_index line start == 35 then Ok None else (parts_at unit now line start >>= λ p. Ok (Some p)))
+    if start == length line || slice_index line start == 35
+    then Ok None else (parts_at unit now line start >>= λ p. Ok (Some p)))

@@ -5,7 +5,8 @@ use Rattle.ts_core.specs.facts.Facts.{Text}
 use Rattle.ts_line.specs.Parts.{LinePart}
 
 abbrev pub filter_slot : Text → ℕ
-filter_slot name = if nat_lt (length name) 2 then (slice_index name 0 % 64) else ((length name % 64) * 11 + slice_index name (length name - 2) * 3 + slice_index name (length name - 1)) % 64
+filter_slot name = if nat_lt (length name) 2 then (slice_index name 0 % 64)
+    else ((length name % 64) * 11 + slice_index name (length name - 2) * 3 + slice_index name (length name - 1)) % 64
 
 -- the slot of a name is set
 abbrev pub is_set : List Bool → Text → Bool

@@ -15,12 +15,15 @@ begins_escapable stops (b ∷ bs) = is_stop stops b
 -- the text without its escaping backslashes
 abbrev pub unescaped : Stops → Text → Text
 unescaped stops [] = []
-unescaped stops (b ∷ bs) = if is_backslash b && begins_escapable stops bs then unescaped stops bs else b ∷ unescaped stops bs
+unescaped stops (b ∷ bs) =
+    if is_backslash b && begins_escapable stops bs then unescaped stops bs else b ∷ unescaped stops bs
 
 -- the part of a line from `start` to `end`, if it has no escape
 abbrev pub plain_piece : Text → ℕ → ℕ → LinePart
-plain_piece line start end = record { start = start; raw = slice_range line start end; text = slice_range line start end }
+plain_piece line start end =
+    record { start = start; raw = slice_range line start end; text = slice_range line start end }
 
 -- the part of a line from `start` to `end`
 abbrev pub piece_at : Stops → Text → ℕ → ℕ → LinePart
-piece_at stops line start end = record { start = start; raw = slice_range line start end; text = unescaped stops (slice_range line start end) }
+piece_at stops line start end =
+    record { start = start; raw = slice_range line start end; text = unescaped stops (slice_range line start end) }

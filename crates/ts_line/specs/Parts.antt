@@ -30,7 +30,8 @@ series_of p = record {
 }
 
 abbrev pub fact_of : Parts → LinePart × ℤ → Fact
-fact_of p field = record { column = record { series = series_of p; field = field.0.text }; time = p.time; value = field.1 }
+fact_of p field =
+    record { column = record { series = series_of p; field = field.0.text }; time = p.time; value = field.1 }
 
 -- one fact per field
 abbrev pub line_facts : Parts → List Fact

@@ -41,13 +41,15 @@ tags_text (t ∷ ts) = codes "," ++ (t.0 ++ (codes "=" ++ (t.1 ++ tags_text ts))
 abbrev pub tags_from : ℕ → List (Text × Text) → List (LinePart × LinePart)
 tags_from at [] = []
 tags_from at (t ∷ ts) =
-    (written_piece Equals (at + 1) t.0, written_piece Equals (at + 1 + length t.0 + 1) t.1) ∷ tags_from (at + 1 + length t.0 + 1 + length t.1) ts
+    (written_piece Equals (at + 1) t.0, written_piece Equals (at + 1 + length t.0 + 1) t.1)
+    ∷ tags_from (at + 1 + length t.0 + 1 + length t.1) ts
 
 abbrev pub tag_key : Text × Text → Text
 tag_key t = unescaped Equals t.0
 
 abbrev pub AreTags : List (Text × Text) → Type 0
-AreTags tags = AllByRecursion (λ (t : Text × Text). IsWrittenPart Equals t.0 × IsWrittenPart Equals t.1 × (tag_key t ≡ codes "time" → ⊥)) tags
+AreTags tags = AllByRecursion (λ (t : Text × Text). IsWrittenPart Equals t.0
+    × IsWrittenPart Equals t.1 × (tag_key t ≡ codes "time" → ⊥)) tags
 
 -- ---- fields: a key and a number
 
@@ -59,7 +61,8 @@ more_fields_text [] = []
 more_fields_text (f ∷ fs) = codes "," ++ (field_spelling f ++ more_fields_text fs)
 
 abbrev pub IsWrittenField : Text × Text → Type 0
-IsWrittenField f = IsWrittenPart Equals f.0 × (unescaped Equals f.0 ≡ codes "time" → ⊥) × (is_number f.1 ≡ true) × FitsSigned w64 (signed_digits_value 10 f.1)
+IsWrittenField f = IsWrittenPart Equals f.0
+    × (unescaped Equals f.0 ≡ codes "time" → ⊥) × (is_number f.1 ≡ true) × FitsSigned w64 (signed_digits_value 10 f.1)
 
 -- a field whose first byte is at offset `at`
 abbrev pub field_from : ℕ → Text × Text → LinePart × ℤ
@@ -68,7 +71,8 @@ field_from at f = (written_piece Equals at f.0, signed_digits_value 10 f.1)
 -- `before` with more fields, if the comma of the first is at offset `at`; of one name the last value counts
 abbrev pub with_fields : List (LinePart × ℤ) → ℕ → List (Text × Text) → List (LinePart × ℤ)
 with_fields before at [] = before
-with_fields before at (f ∷ fs) = with_fields (with_field before (field_from (at + 1) f)) (at + 1 + length (field_spelling f)) fs
+with_fields before at (f ∷ fs) =
+    with_fields (with_field before (field_from (at + 1) f)) (at + 1 + length (field_spelling f)) fs
 
 -- ---- the whole line
 
@@ -98,7 +102,8 @@ pub record IsSpelling (unit now : ℤ) (source : Text) (parts : Parts) : Type 0 
   pub time : ℤ
   pub after : Text
   pub return : Text
-  pub spelled : source ≡ before ++ (measurement ++ (tags_text tags ++ (codes " " ++ (gap ++ (field_spelling first ++ (more_fields_text more ++ (stamp ++ (after ++ return))))))))
+  pub spelled : source ≡ before ++ (measurement ++ (tags_text tags
+      ++ (codes " " ++ (gap ++ (field_spelling first ++ (more_fields_text more ++ (stamp ++ (after ++ return))))))))
   pub before_is : are_spaces before ≡ true
   pub gap_is : are_spaces gap ≡ true
   pub after_is : are_spaces after ≡ true
@@ -118,7 +123,9 @@ pub record IsSpelling (unit now : ℤ) (source : Text) (parts : Parts) : Type 0 
   pub told : parts ≡ record {
     measurement = written_piece Comma (length before) measurement;
     tags = tags_from (length before + length measurement) tags;
-    fields = with_fields (field_from (length before + length measurement + length (tags_text tags) + 1 + length gap) first ∷ [])
-        (length before + length measurement + length (tags_text tags) + 1 + length gap + length (field_spelling first)) more;
+    fields = with_fields
+        (field_from (length before + length measurement + length (tags_text tags) + 1 + length gap) first ∷ [])
+        (length before
+        + length measurement + length (tags_text tags) + 1 + length gap + length (field_spelling first)) more;
     time = time;
   }

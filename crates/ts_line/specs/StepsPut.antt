@@ -17,14 +17,17 @@ put_by put (Ok read) = Ok (put read.0, read.1)
 put_by put (Err fault) = Err fault
 
 -- a call inserts the field at `start` into `before`, which gives `after` and sets the slots of its names
-pub record InsertsNextField (before after : List (LinePart × ℤ)) (slots : List Bool) (line : Text) (start : ℕ) (result : Result ℕ ReadLineError) : Type 0 where
+pub record InsertsNextField (before after : List (LinePart × ℤ))
+    (slots : List Bool) (line : Text) (start : ℕ) (result : Result ℕ ReadLineError) : Type 0 where
   pub value : GivesIfMemory (λ end. (after, end)) result (put_by (with_field before) (next_field line start))
   pub marked : IfOk result (λ _. AreInFilter slots after)
   pub boundary : IfOk result (λ end. IsCharBoundary line end)
 
 -- a call appends the tag at `start` to `before`, which gives `after` and sets the slots of its keys
-pub record PushesNextTag (before after : List (LinePart × LinePart)) (slots : List Bool) (line : Text) (start : ℕ) (result : Result ℕ ReadLineError) : Type 0 where
-  pub value : GivesIfMemory (λ end. (after, end)) result (put_by (λ tag. before ++ tag ∷ []) (next_tag before line start))
+pub record PushesNextTag (before after : List (LinePart × LinePart))
+    (slots : List Bool) (line : Text) (start : ℕ) (result : Result ℕ ReadLineError) : Type 0 where
+  pub value : GivesIfMemory
+      (λ end. (after, end)) result (put_by (λ tag. before ++ tag ∷ []) (next_tag before line start))
   pub marked : IfOk result (λ _. AreKeysInFilter slots after)
   pub few : IfOk result (λ _. length after ≤ 64)
   pub offset : IfOk result (λ end. IsOffsetFrom line (start + 1) end)

@@ -16,7 +16,8 @@ unfoldable pub pair_at : Text → ℕ → Result ((LinePart × LinePart) × ℕ)
 pair_at line start =
     let key_end = end_of Equals line start in
     let value_end = end_of Equals line (key_end + 1) in
-    if key_end == start || not (slice_index line key_end == 61) || value_end == key_end + 1 || slice_index line value_end == 61
+    if key_end == start
+    || not (slice_index line key_end == 61) || value_end == key_end + 1 || slice_index line value_end == 61
     then Err (fault_at BadTag start)
     else Ok ((piece_at Equals line start key_end, piece_at Equals line (key_end + 1) value_end), value_end)
 

@@ -15,7 +15,8 @@ use Rattle.ts_core.specs.text.Steps.{◌>>=◌}
 
 -- a text that satisfies `is_front`, and one more byte
 abbrev pub ends_in : ℕ → (Text → Bool) → Text → Bool
-ends_in last is_front text = not (length text == 0) && slice_index text (length text - 1) == last && is_front (take (length text - 1) text)
+ends_in last is_front text =
+    not (length text == 0) && slice_index text (length text - 1) == last && is_front (take (length text - 1) text)
 
 abbrev pub is_integer : Text → Bool
 is_integer = ends_in 105 is_number
@@ -24,8 +25,10 @@ abbrev pub is_unsigned : Text → Bool
 is_unsigned = ends_in 117 are_digits
 
 unfoldable pub is_boolean : Text → Bool
-is_boolean text = bytes_eq text (codes "t") || bytes_eq text (codes "T") || bytes_eq text (codes "true") || bytes_eq text (codes "True") || bytes_eq text (codes "TRUE")
-    || bytes_eq text (codes "f") || bytes_eq text (codes "F") || bytes_eq text (codes "false") || bytes_eq text (codes "False") || bytes_eq text (codes "FALSE")
+is_boolean text = bytes_eq text (codes "t") || bytes_eq text (codes "T")
+    || bytes_eq text (codes "true") || bytes_eq text (codes "True") || bytes_eq text (codes "TRUE")
+    || bytes_eq text (codes "f") || bytes_eq text (codes "F")
+    || bytes_eq text (codes "false") || bytes_eq text (codes "False") || bytes_eq text (codes "FALSE")
 
 -- the rest after one or more leading digits
 abbrev pub after_digits : Bool → Text → Option Text
@@ -76,11 +79,13 @@ integer_by start (Some n) = Ok n
 unfoldable pub integer_value : ℕ → Text → Result ℤ LineFault
 integer_value start text =
     if is_integer text then integer_by start (whole_of (take (length text - 1) text)) else
-    (if is_unsigned text || is_boolean text || is_float text then Err (fault_at FieldType start) else Err (fault_at BadField start))
+    (if is_unsigned text || is_boolean text || is_float text
+    then Err (fault_at FieldType start) else Err (fault_at BadField start))
 
 -- the value at `at` of the field at `start`, and the offset after it
 unfoldable pub value_begun_at : ℕ → Text → ℕ → Result (ℤ × ℕ) LineFault
 value_begun_at start line at =
     if slice_index line at == 34
-    then (if then_is (after_quotes false (drop (at + 1) line)) is_value_end then Err (fault_at FieldType start) else Err (fault_at BadField start))
+    then (if then_is (after_quotes false (drop (at + 1) line)) is_value_end
+    then Err (fault_at FieldType start) else Err (fault_at BadField start))
     else (integer_value start (slice_range line at (end_of Plain line at)) >>= λ n. Ok (n, end_of Plain line at))

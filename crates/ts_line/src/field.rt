@@ -136,7 +136,8 @@ fn insert_any<'a, A: Allocator + Copy>(
 #[inline(always)]
 fn plain_field(line: &str, start: usize) -> Option<(usize, (i64, usize))>
     requires { IsCharBoundary line.now start }
-    ensures value { IfSome result (λ x. next_field line.now start ≡ Ok ((plain_piece line.now start x.0, x.1.0), x.1.1)) }
+    ensures value { IfSome result
+        (λ x. next_field line.now start ≡ Ok ((plain_piece line.now start x.0, x.1.0), x.1.1)) }
     ensures name { IfSome result (λ x. IsOffsetFrom line.now start x.0) }
     ensures boundary { IfSome result (λ x. IsCharBoundary line.now x.1.1) }
 {

@@ -193,7 +193,12 @@ impl<'a, A: Allocator> Line<'a, A> {
         time: Time,
     ) -> Self
         requires { AreParts measurement tags.items fields.items }
-        ensures { result ≡ record { measurement = measurement.entry; tags = tags.entry.items; fields = fields.entry.items; time = time } }
+        ensures { result ≡ record {
+          measurement = measurement.entry;
+          tags = tags.entry.items;
+          fields = fields.entry.items;
+          time = time;
+        } }
     {
         Line {
             measurement,

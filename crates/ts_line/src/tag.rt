@@ -142,7 +142,8 @@ fn push_any<'a, A: Allocator + Copy>(
 #[inline(always)]
 fn plain_pair(line: &str, start: usize) -> Option<(usize, usize)>
     requires { IsCharBoundary line.now start }
-    ensures value { IfSome result (λ x. pair_at line.now start ≡ Ok ((plain_piece line.now start x.0, plain_piece line.now (x.0 + 1) x.1), x.1)) }
+    ensures value { IfSome result
+        (λ x. pair_at line.now start ≡ Ok ((plain_piece line.now start x.0, plain_piece line.now (x.0 + 1) x.1), x.1)) }
     ensures key { IfSome result (λ x. IsOffsetFrom line.now start x.0) }
     ensures equals { IfSome result (λ x. slice_index line.now x.0 ≡ 61) }
     ensures rest { IfSome result (λ x. IsOffsetFrom line.now (x.0 + 1) x.1) }

@@ -135,7 +135,8 @@ fn integer_value(start: usize, text: &str) -> Result<i64, LineFault>
 /// Returns the error of a field whose value begins with a double quote: `FieldType` if it is a string, else `BadField`.
 /// `text` begins after the quote.
 fn quoted(start: usize, text: &[u8]) -> LineFault
-    ensures { result ≡ (if then_is (after_quotes false text.now) is_value_end then fault_at LineFaultKind.FieldType start else fault_at LineFaultKind.BadField start) }
+    ensures { result ≡ (if then_is (after_quotes false text.now) is_value_end
+        then fault_at LineFaultKind.FieldType start else fault_at LineFaultKind.BadField start) }
 {
     match after_quotes(text) {
         Some(rest) if is_value_end(rest) => LineFaultKind::FieldType.at(start),

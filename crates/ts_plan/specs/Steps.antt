@@ -63,11 +63,13 @@ Ascends (s ∷ ss) = AllByRecursion (λ (x : Step). Upto s x) ss × Ascends ss
 
 -- start of the rule's first bucket from a on, if that is b or earlier
 abbrev pub IsFirstStart : Rule → ℤ → ℤ → Option ℤ → Type 0
-IsFirstStart r a b start = MatchOption start ((x : ℤ) → IsBoundary r x → a ≤ℤ x → b <ℤ x) (λ p. IsBoundary r p × (a ≤ℤ p) × (p ≤ℤ b) × ((x : ℤ) → IsBoundary r x → a ≤ℤ x → p ≤ℤ x))
+IsFirstStart r a b start = MatchOption start ((x : ℤ) → IsBoundary r x → a ≤ℤ x → b <ℤ x)
+    (λ p. IsBoundary r p × (a ≤ℤ p) × (p ≤ℤ b) × ((x : ℤ) → IsBoundary r x → a ≤ℤ x → p ≤ℤ x))
 
 -- end of the bucket at p, if it is within the range
 abbrev pub IsNextInstant : QueryContext → MarkedRule → ℤ → Option ℤ → Type 0
-IsNextInstant t r p q = MatchOption q (t.query.to <ℤ (p +ℤ r.rule.interval)) (λ e. (e ≡ p +ℤ r.rule.interval) × (e ≤ℤ t.query.to))
+IsNextInstant t r p q =
+    MatchOption q (t.query.to <ℤ (p +ℤ r.rule.interval)) (λ e. (e ≡ p +ℤ r.rule.interval) × (e ≤ℤ t.query.to))
 
 abbrev pub step_of : ℤ → ℕ → ℤ → Step
 step_of p n e = record { from = p; rule = n; to = e }

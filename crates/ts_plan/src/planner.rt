@@ -45,7 +45,8 @@ fn plan_over<A: Allocator + Copy>(
     requires sound { AllByRecursion (IsStep context.now) steps.old }
     requires complete { (x : Step) → IsStep context.now x → Among x steps.old }
     requires order { Ascends steps.old }
-    ensures { IfOk result (λ plan. MatchOption plan (ReachesEnd context.now context.now.query.from → ⊥) (λ pieces. IsPlanOf context.now pieces.items)) }
+    ensures { IfOk result (λ plan. MatchOption plan (ReachesEnd context.now context.now.query.from → ⊥)
+        (λ pieces. IsPlanOf context.now pieces.items)) }
 {
     let begin = prune_steps(context, steps);
     let kept = steps_from(steps, begin);

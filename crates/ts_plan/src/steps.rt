@@ -55,7 +55,8 @@ fn is_usable<A: Allocator>(
     step: &Step,
 ) -> bool
     requires { pos 1 ≤ℤ marked.now.rule.interval }
-    ensures { result ≡ (int_le marked.now.low (index_of marked.now.rule step.now.from) && (aligned || is_in_one_bucket context.now.query step.now.from step.now.to)) }
+    ensures { result ≡ (int_le marked.now.low (index_of marked.now.rule step.now.from)
+        && (aligned || is_in_one_bucket context.now.query step.now.from step.now.to)) }
 {
     if index_of(marked.rule, i128::from(step.from.nanos())) < marked.low {
         return false;
@@ -76,7 +77,8 @@ fn push_step<A: Allocator>(
     requires rule { pos 1 ≤ℤ marked.now.rule.interval }
     requires aligned { aligned ≡ is_aligned marked.now.rule context.now.query }
     ensures next { IfOk result (λ next. IsNextInstant context.now marked.now from next) }
-    ensures steps { IfOk result (λ next. steps.new.items ≡ with_usable_step context.now marked.now number from next steps.old.items) }
+    ensures steps { IfOk result
+        (λ next. steps.new.items ≡ with_usable_step context.now marked.now number from next steps.old.items) }
 {
     let width = i128::from(marked.rule.interval());
     match from.checked_add(width, Instant::new(context.end())) {

@@ -29,7 +29,8 @@ fn whole_between<A: Allocator>(rule: &Rule<A>, from: i64, to: i64) -> u128
 /// Returns the number of the rule's whole buckets in the query's range, or 0 if the rule is of another measurement.
 fn whole_buckets_of<A: Allocator>(rule: &Rule<A>, query: &Query<A>) -> u128
     requires { pos 1 ≤ℤ rule.now.interval }
-    ensures { result ≡ (if same_text rule.now.measurement query.now.query.measurement then whole_between rule.now query.now.query.from query.now.query.to else 0) }
+    ensures { result ≡ (if same_text rule.now.measurement query.now.query.measurement
+        then whole_between rule.now query.now.query.from query.now.query.to else 0) }
 {
     if rule.measurement() == query.measurement() {
         whole_between(rule, query.from(), query.to())

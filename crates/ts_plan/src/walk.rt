@@ -76,7 +76,9 @@ fn follow<A: Allocator>(
     requires pending { ArePending context.now pending }
     requires step { IsStep context.now step.now }
     ensures pending { IfOk result (IsPendingPiece context.now) }
-    ensures pieces { IfOk result (λ h. (bs : List PieceValue) → pieces.new.items ++ merged_onto context.now (pending_piece context.now h) bs ≡ pieces.old.items ++ joined_after context.now pending (bucket_piece context.now step.now ∷ bs)) }
+    ensures pieces { IfOk result (λ h. (bs : List PieceValue)
+        → pieces.new.items ++ merged_onto context.now (pending_piece context.now h) bs
+        ≡ pieces.old.items ++ joined_after context.now pending (bucket_piece context.now step.now ∷ bs)) }
 {
     match pending {
         None => Ok(PendingPiece::of_step(context, step)),
@@ -117,7 +119,8 @@ fn end_walk<A: Allocator>(
     at: Instant,
 ) -> Result<(), AllocError>
     requires { ArePending context.now pending }
-    ensures { IfOk result (λ _. pieces.new.items ≡ pieces.old.items ++ joined_after context.now pending (walked context.now at [])) }
+    ensures { IfOk result
+        (λ _. pieces.new.items ≡ pieces.old.items ++ joined_after context.now pending (walked context.now at [])) }
 {
     push_pending(context, pieces, pending)?;
     let end = Instant::new(context.end());
@@ -141,7 +144,8 @@ pub(crate) fn walk<A: Allocator + Copy>(
 ) -> Result<Vec<Piece, A>, AllocError>
     requires plannable { IsPlannable context.now }
     requires steps { AllByRecursion (IsStep context.now) steps.now }
-    ensures { IfOk result (λ pieces. pieces.items ≡ joined context.now (walked context.now context.now.query.from steps.now)) }
+    ensures { IfOk result
+        (λ pieces. pieces.items ≡ joined context.now (walked context.now context.now.query.from steps.now)) }
 {
     let mut pieces = Vec::new(alloc);
     let mut pending = None;

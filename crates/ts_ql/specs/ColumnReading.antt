@@ -28,7 +28,8 @@ SelectsIf false rest columns t state s = SelectsThen rest t (select_step state t
 -- from this offset and state on, fewer than n tokens end the columns, by FROM
 abbrev pub SelectsWithin : ℕ → Text → List Projection → ℕ → State → Selected → Type 0
 SelectsWithin zero text columns at state s = ⊥
-SelectsWithin (suc n) text columns at state s = SelectsIf (has_from state) (SelectsWithin n text columns) columns (token_at text at) state s
+SelectsWithin (suc n) text columns at state s =
+    SelectsIf (has_from state) (SelectsWithin n text columns) columns (token_at text at) state s
 
 -- from this offset and state on, these are all columns of the statement
 abbrev pub Selects : Text → List Projection → ℕ → State → Selected → Type 0
@@ -44,4 +45,5 @@ IsOnBoundary r = IsCharBoundary r.text.now r.at
 
 -- after some columns, these are left to be read
 abbrev pub AreLeft : ColumnReader → List Projection → Type 0
-AreLeft r left = (columns : List Projection) × Selects r.text.now (columns ++ left) r.at r.state (selected_with columns r.call)
+AreLeft r left =
+    (columns : List Projection) × Selects r.text.now (columns ++ left) r.at r.state (selected_with columns r.call)

@@ -33,5 +33,6 @@ IsInterval i = i ≤ℤ pos 9223372036854775807
 -- this query; or `OutOfRange`, exactly if the range is too long for an interval, decided before anything is allocated
 abbrev pub IsCountQuery : Text → Text → ℤ → ℤ → Result Select ParseError → Type 0
 IsCountQuery measurement field a b (Ok query) = (query ≡ count_select measurement field a b) × IsInterval (b -ℤ a)
-IsCountQuery measurement field a b (Err (errors.Fault fault)) = (as_fault fault ≡ OutOfRange 0) × (IsInterval (b -ℤ a) → ⊥)
+IsCountQuery measurement field a b (Err (errors.Fault fault)) =
+    (as_fault fault ≡ OutOfRange 0) × (IsInterval (b -ℤ a) → ⊥)
 IsCountQuery measurement field a b (Err errors.OutOfMemory) = IsInterval (b -ℤ a)

@@ -20,7 +20,8 @@ is_date year month day =
 
 -- midnight of a day, in nanoseconds of the Unix epoch
 unfoldable pub midnight : ℕ → ℕ → ℕ → Option ℤ
-midnight year month day = if is_date year month day then Some (days_from_civil (pos year) month day *ℤ pos 86400000000000) else None
+midnight year month day =
+    if is_date year month day then Some (days_from_civil (pos year) month day *ℤ pos 86400000000000) else None
 
 -- YYYY-MM-DD
 unfoldable pub date_of : Text → Option ℤ
@@ -56,8 +57,9 @@ clock_nanos hour minute second nanos =
 unfoldable pub time_of_day : Text → Option ℕ
 time_of_day text =
     if nat_le 8 (length text) && slice_index text 2 == 58 && slice_index text 5 == 58
-    then option_and_then (λ hour. option_and_then (λ minute. option_and_then (λ second. option_and_then (λ nanos. clock_nanos hour minute second nanos)
-    (fraction (drop 8 text))) (digits (slice_range text 6 8))) (digits (slice_range text 3 5))) (digits (slice_range text 0 2))
+    then option_and_then (λ hour. option_and_then (λ minute. option_and_then (λ second.
+    option_and_then (λ nanos. clock_nanos hour minute second nanos) (fraction (drop 8 text)))
+    (digits (slice_range text 6 8))) (digits (slice_range text 3 5))) (digits (slice_range text 0 2))
     else None
 
 -- ---- both

@@ -45,7 +45,8 @@ item_at t g =
 abbrev pub with_interval : Lexeme → Grouped → Option ℤ → Grouping
 with_interval t g None = Err (OutOfRange t.start)
 with_interval t g (Some interval) =
-    if int_le (pos 1) interval then Ok (states.IntervalEnd, record g { buckets = of_interval interval }) else Err (OutOfRange t.start)
+    if int_le (pos 1) interval
+    then Ok (states.IntervalEnd, record g { buckets = of_interval interval }) else Err (OutOfRange t.start)
 
 -- a bucket offset whose first token is at `first`
 abbrev pub with_offset : ℕ → Grouped → Option ℤ → Grouping
@@ -53,7 +54,8 @@ with_offset first g None = Err (OutOfRange first)
 with_offset first g (Some offset) = Ok (states.OffsetEnd, record g { buckets = moved offset g.buckets })
 
 abbrev pub grouping_at : State → Kind → Lexeme → Grouped → Grouping
-grouping_at states.GroupBy kinds.Keyword t g = if is_word (codes "by") t.text then Ok (states.Item, g) else Err (unexpected t)
+grouping_at states.GroupBy kinds.Keyword t g =
+    if is_word (codes "by") t.text then Ok (states.Item, g) else Err (unexpected t)
 grouping_at states.Item kinds.Word t g = item_at t g
 grouping_at states.Item kinds.QuotedName t g = item_at t g
 grouping_at states.TimeOpen kinds.LeftParen t g = Ok (states.Interval, g)
@@ -66,7 +68,8 @@ grouping_at states.OffsetMinus kinds.Duration t g = with_offset g.first g (liter
 grouping_at states.OffsetEnd kinds.RightParen t g = Ok (states.AfterItem, g)
 grouping_at states.AfterTag kinds.DoubleColon t g = Ok (states.GroupTagType, g)
 grouping_at states.AfterTag kinds.Comma t g = Ok (states.Item, g)
-grouping_at states.GroupTagType kinds.Word t g = if is_word (codes "tag") t.text then Ok (states.AfterItem, g) else Err (unexpected t)
+grouping_at states.GroupTagType kinds.Word t g =
+    if is_word (codes "tag") t.text then Ok (states.AfterItem, g) else Err (unexpected t)
 grouping_at states.AfterItem kinds.Comma t g = Ok (states.Item, g)
 grouping_at state kind t g = Err (unexpected t)
 

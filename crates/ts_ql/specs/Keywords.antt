@@ -16,13 +16,15 @@ named l = text_spelled l.text
 -- supported keywords
 unfoldable pub is_clause_word : Text → Bool
 is_clause_word text =
-    is_word (codes "select") text || is_word (codes "from") text || is_word (codes "where") text || is_word (codes "group") text
+    is_word (codes "select") text
+    || is_word (codes "from") text || is_word (codes "where") text || is_word (codes "group") text
     || is_word (codes "by") text || is_word (codes "and") text || is_word (codes "as") text
 
 -- unsupported keywords
 unfoldable pub is_unsupported_keyword : Text → Bool
 is_unsupported_keyword text =
-    is_word (codes "or") text || is_word (codes "into") text || is_word (codes "order") text || is_word (codes "limit") text
+    is_word (codes "or") text
+    || is_word (codes "into") text || is_word (codes "order") text || is_word (codes "limit") text
     || is_word (codes "offset") text || is_word (codes "slimit") text || is_word (codes "soffset") text
 
 -- keywords can't be unquoted names
@@ -32,9 +34,12 @@ is_keyword text = is_clause_word text || is_unsupported_keyword text
 -- other words of unsupported InfluxQL
 unfoldable pub is_unsupported_word : Text → Bool
 is_unsupported_word text =
-    is_word (codes "show") text || is_word (codes "create") text || is_word (codes "alter") text || is_word (codes "drop") text
-    || is_word (codes "delete") text || is_word (codes "explain") text || is_word (codes "grant") text || is_word (codes "revoke") text
-    || is_word (codes "kill") text || is_word (codes "set") text || is_word (codes "tz") text || is_word (codes "linear") text
+    is_word (codes "show") text
+    || is_word (codes "create") text || is_word (codes "alter") text || is_word (codes "drop") text
+    || is_word (codes "delete") text
+    || is_word (codes "explain") text || is_word (codes "grant") text || is_word (codes "revoke") text
+    || is_word (codes "kill") text
+    || is_word (codes "set") text || is_word (codes "tz") text || is_word (codes "linear") text
 
 unfoldable pub function_called : Text → Option Function
 function_called text =

@@ -46,16 +46,20 @@ ReadsTokens (Examine (Some fault) ∷ rest) (t ∷ ts) reach = ⊥
 
 -- some tree spells the tokens, and its statements mean these queries
 abbrev pub Says : ℤ → List Lexeme → List Select → Type 0
-Says now ts queries = (script : Script) × ReadsTokens (spell now script) ts Whole × (script_queries now script ≡ map Ok queries)
+Says now ts queries =
+    (script : Script) × ReadsTokens (spell now script) ts Whole × (script_queries now script ≡ map Ok queries)
 
 -- the tokens begin some text without an error
 abbrev pub MayBecome : ℤ → List Lexeme → Type 0
-MayBecome now ts = (script : Script) × (ReadsTokens (spell now script) ts Within ⊎ ReadsTokens (spell now script) ts Whole)
+MayBecome now ts =
+    (script : Script) × (ReadsTokens (spell now script) ts Within ⊎ ReadsTokens (spell now script) ts Whole)
 
 -- some tree spells the tokens before this one, or these with this one, and then its next check fails with this error
 abbrev pub HasFault : ℤ → List Lexeme → Lexeme → Fault → Type 0
 HasFault now before token fault =
-    (script : Script) × (ReadsTokens (spell now script) before (At fault) ⊎ ReadsTokens (spell now script) (before ++ token ∷ []) (At fault))
+    (script : Script)
+    × (ReadsTokens (spell now script) before (At fault)
+    ⊎ ReadsTokens (spell now script) (before ++ token ∷ []) (At fault))
 
 -- The first error: the tokens before some token begin a valid text, but not with that token added. The error is that of
 -- the check that fails there, if any, or else that the token is unexpected.
@@ -106,7 +110,8 @@ RefusesAs fault errors.OutOfMemory = ⊥
 RefusesAs fault (errors.Fault e) = as_fault e ≡ fault
 
 -- a call returned, seen through `view`, the meaning of the text, or ran out of memory on a text that means queries
-pub record ReadsText {X : Type 0} (view : X → List Select) (now : ℤ) (text : Text) (result : Result X ParseError) : Type 0 where
+pub record ReadsText {X : Type 0} (view : X → List Select)
+    (now : ℤ) (text : Text) (result : Result X ParseError) : Type 0 where
   pub tells : Tells view now text result
   -- a text that means queries is parsed as these, unless the call ran out of memory
   pub queries : (queries : List Select) → TextSays now text queries → Gives view result (Ok queries)
@@ -117,7 +122,8 @@ pub record ReadsText {X : Type 0} (view : X → List Select) (now : ℤ) (text :
 pub record IsDecided (now : ℤ) (text : Text) : Type 0 where
   pub some : ((queries : List Select) × TextSays now text queries) ⊎ ((fault : Fault) × TextFault now text fault)
   pub not_both : (queries : List Select) (fault : Fault) → TextSays now text queries → TextFault now text fault → ⊥
-  pub one_meaning : (queries others : List Select) → TextSays now text queries → TextSays now text others → queries ≡ others
+  pub one_meaning : (queries others : List Select)
+      → TextSays now text queries → TextSays now text others → queries ≡ others
   pub one_fault : (fault other : Fault) → TextFault now text fault → TextFault now text other → fault ≡ other
 
 -- a duration is the sum of its terms, each a number times its unit
@@ -143,4 +149,5 @@ pub record TermsEndAt (text : Text) (from end : ℕ) : Type 0 where
 -- a duration ends at the last offset at which terms from its start end
 unfoldable pub DurationsEndLast : Type 0
 DurationsEndLast =
-    (text : Text) (from : ℕ) → TermsEndAt text from (duration_end text from) × ((end : ℕ) → TermsEndAt text from end → end ≤ duration_end text from)
+    (text : Text) (from : ℕ) → TermsEndAt text from (duration_end text from)
+    × ((end : ℕ) → TermsEndAt text from end → end ≤ duration_end text from)

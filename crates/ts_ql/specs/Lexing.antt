@@ -51,7 +51,8 @@ abbrev pub parts_end : ℕ → Bool → ℕ → Text → ℕ
 parts_end last counting at [] = last
 parts_end last counting at (b ∷ bs) =
     if is_ascii_digit b then parts_end last true (at + 1) bs
-    else if counting then (if unit_len b (slice_index bs 0) == 0 then last else parts_end (at + unit_len b (slice_index bs 0)) false (at + 1) bs)
+    else if counting then (if unit_len b (slice_index bs 0) == 0
+    then last else parts_end (at + unit_len b (slice_index bs 0)) false (at + 1) bs)
     else if nat_lt at last then parts_end last false (at + 1) bs else last
 
 -- offset after the duration at `from`, or `from` if there is none
@@ -104,17 +105,20 @@ operator_at text start = double_at text start (double (slice_index text start) (
 unfoldable pub number_token_at : Text → ℕ → Kind × ℕ
 number_token_at text start =
     if nat_lt start (duration_end text start) then (kinds.Duration, duration_end text start)
-    else if is_ascii_alphabetic (slice_index text (end_of_run Digit text start)) || slice_index text (end_of_run Digit text start) == 46 then (kinds.Bad, length text)
+    else if is_ascii_alphabetic (slice_index text (end_of_run Digit text start))
+    || slice_index text (end_of_run Digit text start) == 46 then (kinds.Bad, length text)
     else (kinds.Integer, end_of_run Digit text start)
 
 -- a string in quotes; a quoted name isn't empty
 abbrev pub closed_at : Text → ℕ → ℕ → Option ℕ → Kind × ℕ
 closed_at text quote start None = (kinds.Bad, length text)
 closed_at text quote start (Some close) =
-    if quote == 39 then (kinds.StringLiteral, close + 1) else if close == start + 1 then (kinds.Bad, length text) else (kinds.QuotedName, close + 1)
+    if quote == 39 then (kinds.StringLiteral, close + 1)
+    else if close == start + 1 then (kinds.Bad, length text) else (kinds.QuotedName, close + 1)
 
 unfoldable pub quoted_at : Text → ℕ → Kind × ℕ
-quoted_at text start = closed_at text (slice_index text start) start (closing_quote (slice_index text start) text (start + 1))
+quoted_at text start =
+    closed_at text (slice_index text start) start (closing_quote (slice_index text start) text (start + 1))
 
 -- the kind of the token at `start`, and the offset after it
 unfoldable pub shape_at : Text → ℕ → Kind × ℕ
@@ -133,7 +137,8 @@ is_quoted kind = false
 
 -- the token's bytes without quotes
 abbrev pub token_text : Text → ℕ → Kind × ℕ → Text
-token_text text start shape = if is_quoted shape.0 then slice_range text (start + 1) (shape.1 - 1) else slice_range text start shape.1
+token_text text start shape =
+    if is_quoted shape.0 then slice_range text (start + 1) (shape.1 - 1) else slice_range text start shape.1
 
 -- a word may be a keyword
 abbrev pub kind_of : Kind → Text → Kind

@@ -23,7 +23,16 @@ use Rattle.ts_ql.specs.Keywords.{function_called, named}
 
 -- the meaning of an empty statement
 abbrev pub no_meaning : Meaning
-no_meaning = record { columns = []; field = None; measurement = []; conditions = []; range = unbounded; buckets = None; tags = []; fill = fills.Null }
+no_meaning = record {
+  columns = [];
+  field = None;
+  measurement = [];
+  conditions = [];
+  range = unbounded;
+  buckets = None;
+  tags = [];
+  fill = fills.Null;
+}
 
 -- ---- SELECT and FROM
 
@@ -41,7 +50,11 @@ field_after None l = Some (named l)
 field_after (Some field) l = Some field
 
 abbrev pub after_call : Meaning → Call → Meaning
-after_call p a = record p { field = field_after p.field a.field; columns = p.columns ++ projection_of (function_of a.function) a.alias ∷ [] }
+after_call p a = record p {
+  field = field_after p.field a.field;
+  columns = p.columns
+      ++ projection_of (function_of a.function) a.alias ∷ [];
+}
 
 abbrev pub after_calls : Meaning → List Call → Meaning
 after_calls p [] = p
@@ -88,7 +101,8 @@ instant_value now i = changed_all (unwrap_or (base_value now i.base) (pos 0)) i.
 
 abbrev pub conditions_after : List Condition → Cond → List Condition
 conditions_after before (Compare l c i) = before
-conditions_after before (Match tag cast negated value) = before ++ record { tag = named tag; value = named value; negated = negated } ∷ []
+conditions_after before (Match tag cast negated value) =
+    before ++ record { tag = named tag; value = named value; negated = negated } ∷ []
 conditions_after before (Group opener c) = conditions_after before c
 conditions_after before (And a b) = conditions_after (conditions_after before a) b
 
@@ -132,7 +146,8 @@ offset_by b (Some s) = moved (unwrap_or (signed_value s) (pos 0)) b
 
 -- tags are sorted in byte order, without duplicates
 abbrev pub after_dimension : Meaning → Dimension → Meaning
-after_dimension p (Every time interval offset) = record p { buckets = offset_by (buckets_of (literal false interval.text)) offset }
+after_dimension p (Every time interval offset) =
+    record p { buckets = offset_by (buckets_of (literal false interval.text)) offset }
 after_dimension p (ByTag tag cast) = record p { tags = inserted_text (named tag) p.tags }
 
 abbrev pub after_dimensions : Meaning → List Dimension → Meaning
@@ -157,13 +172,16 @@ after_fill p (Some option) = record p { fill = fill_of option }
 
 abbrev pub statement_meaning : ℤ → Statement → Meaning
 statement_meaning now s =
-    after_fill (after_group (after_filter now (after_from (after_calls (after_call no_meaning s.first) s.more) s.source) s.filter) s.group) s.fill
+    after_fill (after_group (after_filter now
+    (after_from (after_calls (after_call no_meaning s.first) s.more) s.source) s.filter) s.group) s.fill
 
 -- results of a statement with this meaning and of those after it
 abbrev pub ending_queries : ℤ → ℕ → Meaning → Ending → List (Result Select Fault)
 ending_queries now start p Stop = statement_query start now p ∷ []
 ending_queries now start p RightParen = statement_query start now p ∷ []
-ending_queries now start p (Next s rest) = statement_query start now p ∷ ending_queries now s.select.start (statement_meaning now s) rest
+ending_queries now start p (Next s rest) =
+    statement_query start now p ∷ ending_queries now s.select.start (statement_meaning now s) rest
 
 abbrev pub script_queries : ℤ → Script → List (Result Select Fault)
-script_queries now script = ending_queries now script.first.select.start (statement_meaning now script.first) script.rest
+script_queries now script =
+    ending_queries now script.first.select.start (statement_meaning now script.first) script.rest

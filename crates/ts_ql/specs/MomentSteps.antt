@@ -73,7 +73,8 @@ no_moment = record { comparison = comparisons.Equal; first = 0; total = pos 0 }
 
 -- a complete time expression is a valid time
 abbrev pub moment_time : Moment → Result ℤ Fault
-moment_time m = if int_le least_time m.total && int_le m.total greatest_time then Ok m.total else Err (OutOfRange m.first)
+moment_time m =
+    if int_le least_time m.total && int_le m.total greatest_time then Ok m.total else Err (OutOfRange m.first)
 
 abbrev pub bounded_by : Comparison → Range → Result ℤ Fault → Result Range Fault
 bounded_by c r (Ok time) = Ok (bounded c time r)

@@ -111,10 +111,13 @@ kind_of_measure Count = kinds.Integer
 kind_of_measure Duration = kinds.Duration
 
 abbrev pub spell_base : ℤ → Base → List Item → List Item
-spell_base now (Number m l) rest = This (Of (kind_of_measure m)) l ∷ Examine (literal_fault l.start (literal false l.text)) ∷ rest
+spell_base now (Number m l) rest =
+    This (Of (kind_of_measure m)) l ∷ Examine (literal_fault l.start (literal false l.text)) ∷ rest
 spell_base now (Negative minus m l) rest =
-    This (Of kinds.Minus) minus ∷ This (Of (kind_of_measure m)) l ∷ Examine (literal_fault minus.start (literal true l.text)) ∷ rest
-spell_base now (Quoted l) rest = This (Of kinds.StringLiteral) l ∷ Examine (literal_fault l.start (base_value now (Quoted l))) ∷ rest
+    This (Of kinds.Minus) minus
+    ∷ This (Of (kind_of_measure m)) l ∷ Examine (literal_fault minus.start (literal true l.text)) ∷ rest
+spell_base now (Quoted l) rest =
+    This (Of kinds.StringLiteral) l ∷ Examine (literal_fault l.start (base_value now (Quoted l))) ∷ rest
 spell_base now (Now l) rest = This (Word (codes "now")) l ∷ Any (Of kinds.LeftParen) ∷ Any (Of kinds.RightParen) ∷ rest
 
 abbrev pub sign_of : Bool → Kind
@@ -125,10 +128,12 @@ sign_of false = kinds.Plus
 abbrev pub spell_changes : ℕ → ℤ → List Change → List Item → List Item
 spell_changes first total [] rest = Examine (time_fault first total) ∷ rest
 spell_changes first total (c ∷ cs) rest =
-    Any (Of (sign_of c.less)) ∷ This (Of kinds.Duration) c.by ∷ Examine (change_fault c) ∷ spell_changes first (total_after total c) cs rest
+    Any (Of (sign_of c.less))
+    ∷ This (Of kinds.Duration) c.by ∷ Examine (change_fault c) ∷ spell_changes first (total_after total c) cs rest
 
 abbrev pub spell_instant : ℤ → Instant → List Item → List Item
-spell_instant now i rest = spell_base now i.base (spell_changes (base_start i.base) (unwrap_or (base_value now i.base) (pos 0)) i.changes rest)
+spell_instant now i rest =
+    spell_base now i.base (spell_changes (base_start i.base) (unwrap_or (base_value now i.base) (pos 0)) i.changes rest)
 
 abbrev pub kind_of_comparison : Comparison → Kind
 kind_of_comparison comparisons.Equal = kinds.Equals
@@ -151,7 +156,8 @@ spell_cond now depth (Compare l c i) rest = This Time l ∷ Any (Of (kind_of_com
 spell_cond now depth (Match tag cast negated value) rest =
     This Tag tag ∷ spell_tag_type cast (Any (Of (equality negated)) ∷ This (Of kinds.StringLiteral) value ∷ rest)
 spell_cond now depth (Group opener c) rest =
-    This (Of kinds.LeftParen) opener ∷ Examine (depth_fault depth opener) ∷ spell_cond now (depth + 1) c (Any (Of kinds.RightParen) ∷ rest)
+    This (Of kinds.LeftParen) opener
+    ∷ Examine (depth_fault depth opener) ∷ spell_cond now (depth + 1) c (Any (Of kinds.RightParen) ∷ rest)
 spell_cond now depth (And a b) rest = spell_cond now depth a (Any (Keyword (codes "and")) ∷ spell_cond now depth b rest)
 
 abbrev pub spell_filter : ℤ → Option Cond → List Item → List Item
@@ -165,7 +171,8 @@ spell_number None m l rest = This (Of (kind_of_measure m)) l ∷ rest
 spell_number (Some minus) m l rest = This (Of kinds.Minus) minus ∷ This (Of (kind_of_measure m)) l ∷ rest
 
 abbrev pub spell_signed : Measure → Signed → List Item → List Item
-spell_signed m s rest = spell_number s.minus m s.number (Examine (literal_fault (signed_start s) (signed_value s)) ∷ rest)
+spell_signed m s rest =
+    spell_number s.minus m s.number (Examine (literal_fault (signed_start s) (signed_value s)) ∷ rest)
 
 abbrev pub spell_offset : Option Signed → List Item → List Item
 spell_offset None rest = rest
@@ -174,17 +181,20 @@ spell_offset (Some offset) rest = Any (Of kinds.Comma) ∷ spell_signed Duration
 abbrev pub spell_dimension : Meaning → Dimension → List Item → List Item
 spell_dimension p (Every time interval offset) rest =
     This Time time ∷ Examine (again_fault p.buckets time) ∷ Any (Of kinds.LeftParen)
-    ∷ This (Of kinds.Duration) interval ∷ Examine (interval_fault interval) ∷ spell_offset offset (Any (Of kinds.RightParen) ∷ rest)
+    ∷ This (Of kinds.Duration) interval
+    ∷ Examine (interval_fault interval) ∷ spell_offset offset (Any (Of kinds.RightParen) ∷ rest)
 spell_dimension p (ByTag tag cast) rest = This Tag tag ∷ spell_tag_type cast rest
 
 abbrev pub spell_dimensions : Meaning → List Dimension → List Item → List Item
 spell_dimensions p [] rest = rest
-spell_dimensions p (d ∷ ds) rest = Any (Of kinds.Comma) ∷ spell_dimension p d (spell_dimensions (after_dimension p d) ds rest)
+spell_dimensions p (d ∷ ds) rest =
+    Any (Of kinds.Comma) ∷ spell_dimension p d (spell_dimensions (after_dimension p d) ds rest)
 
 abbrev pub spell_group : Meaning → Option GroupBy → List Item → List Item
 spell_group p None rest = rest
 spell_group p (Some g) rest =
-    Any (Keyword (codes "group")) ∷ Any (Keyword (codes "by")) ∷ spell_dimension p g.first (spell_dimensions (after_dimension p g.first) g.more rest)
+    Any (Keyword (codes "group"))
+    ∷ Any (Keyword (codes "by")) ∷ spell_dimension p g.first (spell_dimensions (after_dimension p g.first) g.more rest)
 
 abbrev pub spell_option : FillOption → List Item → List Item
 spell_option NullOption rest = Any (Word (codes "null")) ∷ rest
@@ -194,7 +204,8 @@ spell_option (NumberOption s) rest = spell_signed Count s rest
 
 abbrev pub spell_fill : Option FillOption → List Item → List Item
 spell_fill None rest = rest
-spell_fill (Some option) rest = Any (Word (codes "fill")) ∷ Any (Of kinds.LeftParen) ∷ spell_option option (Any (Of kinds.RightParen) ∷ rest)
+spell_fill (Some option) rest =
+    Any (Word (codes "fill")) ∷ Any (Of kinds.LeftParen) ∷ spell_option option (Any (Of kinds.RightParen) ∷ rest)
 
 -- ---- statements
 
@@ -207,7 +218,8 @@ abbrev pub spell_statement : ℤ → ℕ → Statement → List Item → List It
 spell_statement now before s rest =
     This (Keyword (codes "select")) s.select ∷ Examine (count_fault before s.select)
     ∷ spell_call None s.first (spell_calls (after_call no_meaning s.first) s.more (Any (Keyword (codes "from"))
-    ∷ spell_from s.source (spell_filter now s.filter (spell_group (after_filter now (parts_to_source s) s.filter) s.group (spell_fill s.fill rest)))))
+    ∷ spell_from s.source (spell_filter now s.filter
+    (spell_group (after_filter now (parts_to_source s) s.filter) s.group (spell_fill s.fill rest)))))
 
 -- the end of a statement with this meaning, which is checked there as a whole
 abbrev pub spell_ending : ℤ → ℕ → ℕ → Meaning → Ending → List Item
@@ -220,4 +232,5 @@ spell_ending now before start p (Next s rest) =
 
 abbrev pub spell : ℤ → Script → List Item
 spell now script =
-    spell_statement now 0 script.first (spell_ending now 1 script.first.select.start (statement_meaning now script.first) script.rest)
+    spell_statement now 0 script.first
+    (spell_ending now 1 script.first.select.start (statement_meaning now script.first) script.rest)

@@ -128,7 +128,8 @@ builder_step now state t d = builder_at (clause_of state) now state t d
 -- ---- from clause to clause
 
 abbrev pub where_or_group : Text → Option State
-where_or_group text = if is_word (codes "where") text then Some states.Term else if is_word (codes "group") text then Some states.GroupBy else None
+where_or_group text = if is_word (codes "where") text
+    then Some states.Term else if is_word (codes "group") text then Some states.GroupBy else None
 
 abbrev pub group_alone : Text → Option State
 group_alone text = if is_word (codes "group") text then Some states.GroupBy else None
@@ -190,7 +191,8 @@ pub record Progress : Type 0 where
   pub queries : List Select
 
 abbrev pub progress : {A : Type 0} → Reader A → Progress
-progress r = record { state = r.state; count = r.count; start = r.start; builder = builder_state r.builder; queries = r.queries }
+progress r =
+    record { state = r.state; count = r.count; start = r.start; builder = builder_state r.builder; queries = r.queries }
 
 abbrev pub start_progress : Progress
 start_progress = record { state = states.Statement; count = 0; start = 0; builder = empty_builder; queries = [] }
@@ -211,7 +213,8 @@ HasColumnsOf text s = is_outside s.state ≡ true → HasColumns text s.start s.
 abbrev pub begun_at : Kind → Lexeme → Progress → Advance
 begun_at kinds.Keyword t s =
     if is_word (codes "select") t.text
-    then (if nat_le 16 s.count then Err (TooManyStatements t.start) else Ok (record s { state = states.Function; count = s.count + 1; start = t.start }))
+    then (if nat_le 16 s.count then Err (TooManyStatements t.start)
+    else Ok (record s { state = states.Function; count = s.count + 1; start = t.start }))
     else Err (unexpected t)
 begun_at kinds.End t s = if s.count == 0 then Err (unexpected t) else Ok (record s { state = states.Done })
 begun_at kind t s = Err (unexpected t)
@@ -224,7 +227,8 @@ after_end kinds.Semicolon = states.Statement
 after_end kind = states.Done
 
 abbrev pub ended_with : Kind → Progress → Result Select Fault → Advance
-ended_with kind s (Ok q) = Ok (record s { state = after_end kind; builder = empty_builder; queries = s.queries ++ q ∷ [] })
+ended_with kind s (Ok q) =
+    Ok (record s { state = after_end kind; builder = empty_builder; queries = s.queries ++ q ∷ [] })
 ended_with kind s (Err fault) = Err fault
 
 abbrev pub ended : ℤ → Kind → Progress → Advance
@@ -272,4 +276,5 @@ read_on (suc n) now text s at = goes_on (read_on n now text) (token_at text at) 
 
 -- the queries of a text, or its first error; a text has at most one token per byte, and one for its end
 unfoldable pub queries_of : ℤ → Text → Result (List Select) Fault
-queries_of now text = if nat_lt 65536 (length text) then Err (Syntax 65536) else read_on (length text + 1) now text start_progress 0
+queries_of now text =
+    if nat_lt 65536 (length text) then Err (Syntax 65536) else read_on (length text + 1) now text start_progress 0

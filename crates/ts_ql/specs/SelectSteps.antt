@@ -66,7 +66,8 @@ select_at states.Field kinds.QuotedName t s = with_call_field t s s.field
 select_at states.FieldEnd kinds.RightParen t s = Ok (states.AfterColumn, s)
 select_at states.FieldEnd kinds.DoubleColon t s = Ok (states.FieldType, s)
 select_at states.FieldType kinds.Word t s =
-    if is_word (codes "field") t.text || is_word (codes "integer") t.text then Ok (states.FieldClose, s) else Err (unexpected t)
+    if is_word (codes "field") t.text || is_word (codes "integer") t.text
+    then Ok (states.FieldClose, s) else Err (unexpected t)
 select_at states.FieldClose kinds.RightParen t s = Ok (states.AfterColumn, s)
 select_at states.AfterColumn kinds.Comma t s = Ok (states.Function, with_default s)
 select_at states.AfterColumn kinds.Keyword t s =
@@ -75,7 +76,8 @@ select_at states.AfterColumn kinds.Keyword t s =
 select_at states.Alias kinds.Word t s = Ok (states.AfterAlias, with_column (named t) s)
 select_at states.Alias kinds.QuotedName t s = Ok (states.AfterAlias, with_column (named t) s)
 select_at states.AfterAlias kinds.Comma t s = Ok (states.Function, s)
-select_at states.AfterAlias kinds.Keyword t s = if is_word (codes "from") t.text then Ok (states.Measurement, s) else Err (unexpected t)
+select_at states.AfterAlias kinds.Keyword t s =
+    if is_word (codes "from") t.text then Ok (states.Measurement, s) else Err (unexpected t)
 select_at states.Measurement kinds.Word t s = Ok (states.AfterMeasurement, record s { measurement = named t })
 select_at states.Measurement kinds.QuotedName t s = Ok (states.AfterMeasurement, record s { measurement = named t })
 select_at states.Measurement kinds.LeftParen t s = Err (unsupported t)

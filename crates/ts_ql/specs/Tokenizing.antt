@@ -19,7 +19,8 @@ tokens_after false rest end = rest end
 -- at most n tokens from an offset on, up to the end of the text
 abbrev pub tokens_from : ℕ → Text → ℕ → List Lexeme
 tokens_from zero text at = []
-tokens_from (suc n) text at = token_at text at ∷ tokens_after (is_end_of_text (token_at text at).kind) (tokens_from n text) (token_at text at).end
+tokens_from (suc n) text at =
+    token_at text at ∷ tokens_after (is_end_of_text (token_at text at).kind) (tokens_from n text) (token_at text at).end
 
 -- the tokens of a text; at most one per byte, and one for the end
 unfoldable pub tokens_of : Text → List Lexeme

@@ -48,21 +48,26 @@ with_condition value f = record f {
 
 -- the first token of a term, if it is no parenthesis
 abbrev pub term_at : Lexeme → Filtered → Filtering
-term_at t f = if is_time_column t.kind t.text then Ok (states.TimeSign, f) else Ok (states.TagEnd, record f { tag = text_spelled t.text })
+term_at t f = if is_time_column t.kind t.text
+    then Ok (states.TimeSign, f) else Ok (states.TagEnd, record f { tag = text_spelled t.text })
 
 abbrev pub where_at : State → Kind → Lexeme → Filtered → Filtering
-where_at states.Term kinds.LeftParen t f = if nat_lt f.depth 32 then Ok (states.Term, record f { depth = f.depth + 1 }) else Err (unsupported t)
+where_at states.Term kinds.LeftParen t f =
+    if nat_lt f.depth 32 then Ok (states.Term, record f { depth = f.depth + 1 }) else Err (unsupported t)
 where_at states.Term kinds.Word t f = term_at t f
 where_at states.Term kinds.QuotedName t f = term_at t f
 where_at states.TagEnd kinds.DoubleColon t f = Ok (states.TagType, f)
 where_at states.TagEnd kinds.Equals t f = Ok (states.TagValue, record f { negated = false })
 where_at states.TagEnd kinds.NotEqual t f = Ok (states.TagValue, record f { negated = true })
-where_at states.TagType kinds.Word t f = if is_word (codes "tag") t.text then Ok (states.TagSign, f) else Err (unexpected t)
+where_at states.TagType kinds.Word t f =
+    if is_word (codes "tag") t.text then Ok (states.TagSign, f) else Err (unexpected t)
 where_at states.TagSign kinds.Equals t f = Ok (states.TagValue, record f { negated = false })
 where_at states.TagSign kinds.NotEqual t f = Ok (states.TagValue, record f { negated = true })
 where_at states.TagValue kinds.StringLiteral t f = Ok (after_term f.depth, with_condition (text_spelled t.text) f)
-where_at states.AfterTerm kinds.Keyword t f = if is_word (codes "and") t.text then Ok (states.Term, f) else Err (unexpected t)
-where_at states.NestedTerm kinds.Keyword t f = if is_word (codes "and") t.text then Ok (states.Term, f) else Err (unexpected t)
+where_at states.AfterTerm kinds.Keyword t f =
+    if is_word (codes "and") t.text then Ok (states.Term, f) else Err (unexpected t)
+where_at states.NestedTerm kinds.Keyword t f =
+    if is_word (codes "and") t.text then Ok (states.Term, f) else Err (unexpected t)
 where_at states.NestedTerm kinds.RightParen t f =
     if nat_lt 0 f.depth then Ok (after_term (f.depth - 1), record f { depth = f.depth - 1 }) else Err (unexpected t)
 where_at state kind t f = Err (unexpected t)

@@ -61,7 +61,8 @@ impl<A: Allocator + Copy> GroupByClause<A> {
 
     /// Consumes the interval; returns the next state. Fails with `OutOfRange`.
     fn parse_interval<'a>(&mut self, token: &Token<'a>) -> Result<State, QlFault<'a>>
-        ensures { FindsWith result self.new (with_interval (lexeme token.now) self.old (literal false token.now.text.now)) }
+        ensures { FindsWith result self.new
+            (with_interval (lexeme token.now) self.old (literal false token.now.text.now)) }
     {
         match literal(false, token.text) {
             Some(interval) if interval >= 1 => {

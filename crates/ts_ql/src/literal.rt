@@ -84,7 +84,8 @@ fn next_spelled(chars: &mut Chars<'_>) -> Option<char>
     requires { IsUtf8 (chars_rest chars.old) }
     ensures rest { IsUtf8 (chars_rest chars.new) }
     ensures shorter { IfSome result (λ _. length (chars_rest chars.new) < length (chars_rest chars.old)) }
-    ensures value { MatchOption result (spelled_chars (chars_rest chars.old) ≡ []) (λ c. spelled_chars (chars_rest chars.old) ≡ c ∷ spelled_chars (chars_rest chars.new)) }
+    ensures value { MatchOption result (spelled_chars (chars_rest chars.old) ≡ [])
+        (λ c. spelled_chars (chars_rest chars.old) ≡ c ∷ spelled_chars (chars_rest chars.new)) }
 {
     let c = chars.next()?;
     if c != '\\' {

@@ -82,7 +82,8 @@ impl Moment {
     /// Subtracts a duration; returns the next state. Fails with `OutOfRange` at the token.
     fn subtract<'a>(&mut self, token: &Token<'a>) -> Result<State, QlFault<'a>>
         requires { unsigned_abs self.old.total ≤ 2 ^ 126 + 2 ^ 64 }
-        ensures { FindsWith result self.new (earlier_by (lexeme token.now) self.old (literal false token.now.text.now)) }
+        ensures { FindsWith result self.new
+            (earlier_by (lexeme token.now) self.old (literal false token.now.text.now)) }
     {
         let Some(value) = literal(false, token.text) else {
             return Err(QlFaultKind::OutOfRange.at(token.start));

@@ -58,7 +58,8 @@ impl<'a> SelectCall<'a> {
     /// Consumes the field of a function; returns the next state. Fails with `OutOfProfile` if another function has
     /// another field.
     fn parse_field(&mut self, token: &Token<'a>) -> Result<State, QlFault<'a>>
-        ensures { (columns : List Projection) → FindsWith result (selected_with columns self.new) (with_call_field (lexeme token.now) (selected_with columns self.old) (selected_with columns self.old).field) }
+        ensures { (columns : List Projection) → FindsWith result (selected_with columns self.new) (with_call_field
+            (lexeme token.now) (selected_with columns self.old) (selected_with columns self.old).field) }
     {
         match self.field {
             None => {
@@ -74,7 +75,8 @@ impl<'a> SelectCall<'a> {
     /// function.
     #[tactic(auto, unfolding(crate::specs::SelectSteps::select_step))]
     fn parse_function(&mut self, token: &Token<'a>) -> Result<State, QlFault<'a>>
-        ensures { (columns : List Projection) → FindsWith result (selected_with columns self.new) (select_step State.Function (lexeme token.now) (selected_with columns self.old)) }
+        ensures { (columns : List Projection) → FindsWith result (selected_with columns self.new)
+            (select_step State.Function (lexeme token.now) (selected_with columns self.old)) }
     {
         match token.kind {
             Kind::Word => match function_called(token.text) {
@@ -96,7 +98,8 @@ impl<'a> SelectCall<'a> {
         &self,
         token: &Token<'a>,
     ) -> Result<(State, Option<Column<'a>>), QlFault<'a>>
-        ensures { (columns : List Projection) → FindsColumn columns result self.now (select_step State.AfterColumn (lexeme token.now) (selected_with columns self.now)) }
+        ensures { (columns : List Projection) → FindsColumn columns result self.now
+            (select_step State.AfterColumn (lexeme token.now) (selected_with columns self.now)) }
     {
         match token.kind {
             Kind::Comma => Ok((State::Function, Some(self.column(None)))),
@@ -112,7 +115,8 @@ impl<'a> SelectCall<'a> {
     /// Consumes the measurement; returns the next state.
     #[tactic(auto, unfolding(crate::specs::SelectSteps::select_step))]
     fn parse_measurement(&mut self, token: &Token<'a>) -> Result<State, QlFault<'a>>
-        ensures { (columns : List Projection) → FindsWith result (selected_with columns self.new) (select_step State.Measurement (lexeme token.now) (selected_with columns self.old)) }
+        ensures { (columns : List Projection) → FindsWith result (selected_with columns self.new)
+            (select_step State.Measurement (lexeme token.now) (selected_with columns self.old)) }
     {
         match token.kind {
             Kind::Word | Kind::QuotedName => {
@@ -131,7 +135,8 @@ impl<'a> SelectCall<'a> {
         state: State,
         token: &Token<'a>,
     ) -> Result<(State, Option<Column<'a>>), QlFault<'a>>
-        ensures { (columns : List Projection) → FindsColumn columns result self.new (select_step state (lexeme token.now) (selected_with columns self.old)) }
+        ensures { (columns : List Projection) → FindsColumn columns result self.new
+            (select_step state (lexeme token.now) (selected_with columns self.old)) }
     {
         let next = match (state, token.kind) {
             (State::Function, _) => self.parse_function(token)?,

@@ -126,7 +126,8 @@ impl<'a, A: Allocator + Copy> StatementBuilder<'a, A> {
     ) -> Result<(Buckets, Span), QlFault<'a>>
         requires boundary { IsCharBoundary text.now start }
         requires columns { HasColumns text.now start (builder_state self.now).selection.columns }
-        ensures value { FindsAs (λ p. query_of (meaning (builder_state self.now)) p.0 p.1) result (statement_query start now (meaning (builder_state self.now))) }
+        ensures value { FindsAs (λ p. query_of (meaning (builder_state self.now)) p.0 p.1) result
+            (statement_query start now (meaning (builder_state self.now))) }
         ensures columns { IfOk result (λ _. repeats (builder_state self.now).selection.columns ≡ false) }
         ensures limits { IfOk result (λ p. IsLimited (query_of (meaning (builder_state self.now)) p.0 p.1).query) }
     {
@@ -177,7 +178,8 @@ impl<'a, A: Allocator + Copy> StatementBuilder<'a, A> {
     /// the time expression isn't a valid time.
     #[tactic(auto, unfolding(crate::specs::Reading::finish_time_step))]
     pub(crate) fn finish_time(&mut self, state: State, kind: Kind) -> Result<State, QlFault<'a>>
-        ensures value { FindsWith result (builder_state self.new) (finish_time_step state kind (builder_state self.old)) }
+        ensures value { FindsWith result
+            (builder_state self.new) (finish_time_step state kind (builder_state self.old)) }
         ensures moment { self.new.moment ≡ self.old.moment }
         ensures selection { self.new.selection ≡ self.old.selection }
     {
@@ -201,7 +203,8 @@ impl<'a, A: Allocator + Copy> StatementBuilder<'a, A> {
         token: &Token<'a>,
     ) -> Result<State, QlFault<'a>>
         requires { CanAddMore now self.old.moment }
-        ensures { FindsWith result (builder_state self.new) (builder_step now state (lexeme token.now) (builder_state self.old)) }
+        ensures { FindsWith result
+            (builder_state self.new) (builder_step now state (lexeme token.now) (builder_state self.old)) }
     {
         match state.clause() {
             Clause::Select => self.selection.parse_token(alloc, state, token),

@@ -49,7 +49,8 @@ pub record AreSoundBlocks {A : Type 0} (b : CodedBlocks A) : Type 0 where
 -- the point comes after all others and has capacity, or its block is encoded anew
 abbrev pub CanCommit : {A : Type 0} → CodedBlocks A → ℤ × ℤ → Option Rewritten → Type 0
 CanCommit b p None = AllEndBefore b.handles.items p.0 × HasRoom b
-CanCommit b p (Some r) = IsRewritten b.bytes.items b.handles.items b.cut p r × (vec_len b.handles < vec_capacity b.handles)
+CanCommit b p (Some r) =
+    IsRewritten b.bytes.items b.handles.items b.cut p r × (vec_len b.handles < vec_capacity b.handles)
 
 -- a point can be committed, by these new blocks if there are some
 pub record IsStaged {A : Type 0} (b : CodedBlocks A) (p : ℤ × ℤ) (new : Option Rewritten) : Type 0 where

@@ -21,5 +21,6 @@ is_of_field field x = x.1 == field
 pub record IsColumnTable (index : ℕ × ℕ → Option ℕ) (columns : List (ℕ × ℕ)) (members : List (List ℕ)) : Type 0 where
   pub once : AllDistinct columns
   pub found : (x : ℕ × ℕ) → index x ≡ last_with (0, 0) (λ y. same_numbers y x) columns (length columns)
-  pub grouped : (field : ℕ) → field < length members → slice_index_or members field [] ≡ numbers_where (is_of_field field) columns
+  pub grouped : (field : ℕ)
+      → field < length members → slice_index_or members field [] ≡ numbers_where (is_of_field field) columns
   pub made : (n : ℕ) (x : ℕ × ℕ) → IsAt columns n x → x.1 < length members

@@ -23,7 +23,8 @@ points_within points a b = filter (λ (p : ℤ × ℤ). is_within a b p.0) (map.
 
 -- the points of the bucket with this index, ordered by time
 abbrev pub points_in_bucket : PointMap → ℤ → ℤ → ℤ → List (ℤ × ℤ)
-points_in_bucket points index interval offset = filter (λ (p : ℤ × ℤ). int_eq (bucket_of p.0 interval offset) index) (map.entries points)
+points_in_bucket points index interval offset =
+    filter (λ (p : ℤ × ℤ). int_eq (bucket_of p.0 interval offset) index) (map.entries points)
 
 -- the points at or after the mark
 abbrev pub points_from : PointMap → ℤ → PointMap
@@ -35,4 +36,6 @@ pub record ColumnState : Type 0 where
   pub staged : Option (ℤ × ℤ)
 
 abbrev pub coded_column_state : Coded ColumnState
-coded_column_state = code_by (PointMap × Option (ℤ × ℤ)) (coded× (map.code coded_ℤ coded_ℤ) (coded_option (coded× coded_ℤ coded_ℤ))) (λ c. (c.points, c.staged)) (λ p. record { points = p.0; staged = p.1 }) (λ _. refl)
+coded_column_state =
+    code_by (PointMap × Option (ℤ × ℤ)) (coded× (map.code coded_ℤ coded_ℤ) (coded_option (coded× coded_ℤ coded_ℤ)))
+    (λ c. (c.points, c.staged)) (λ p. record { points = p.0; staged = p.1 }) (λ _. refl)

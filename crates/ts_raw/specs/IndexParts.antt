@@ -12,7 +12,8 @@ no_field = field_key [] []
 
 -- the column with these indices of series and field
 abbrev pub column_named : List Series → List FieldKey → ℕ × ℕ → Column
-column_named series fields x = record { series = slice_index_or series x.0 no_series; field = (slice_index_or fields x.1 no_field).field }
+column_named series fields x =
+    record { series = slice_index_or series x.0 no_series; field = (slice_index_or fields x.1 no_field).field }
 
 -- a series and a field with these indices exist, and are of one measurement
 pub record HasSeriesAndField (series : List Series) (fields : List FieldKey) (x : ℕ × ℕ) : Type 0 where

@@ -25,4 +25,5 @@ IsIndexOf t points index =
 
 -- exactly the first i points are before t
 abbrev pub IsStartOf : ℤ → List (ℤ × ℤ) → ℕ → Type 0
-IsStartOf t points i = IsPartitionPoint (λ (p : ℤ × ℤ). int_lt p.0 t ≡ true) (λ (p : ℤ × ℤ). int_lt p.0 t ≡ false) points i
+IsStartOf t points i =
+    IsPartitionPoint (λ (p : ℤ × ℤ). int_lt p.0 t ≡ true) (λ (p : ℤ × ℤ). int_lt p.0 t ≡ false) points i

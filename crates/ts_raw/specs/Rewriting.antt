@@ -39,12 +39,14 @@ cut_after zero cut = 0
 cut_after (suc at) cut = cut
 
 -- the new blocks hold the points of the old one, but for removed ones, with this point inserted or replaced
-pub record IsRewritten (bytes : List ℕ) (handles : List BlockHandle) (cut : ℕ) (p : ℤ × ℤ) (r : Rewritten) : Type 0 where
+pub record IsRewritten (bytes : List ℕ)
+    (handles : List BlockHandle) (cut : ℕ) (p : ℤ × ℤ) (r : Rewritten) : Type 0 where
   pub within : r.at < length handles
   pub old : BlockHandle
   pub split : handles ≡ take r.at handles ++ (old ∷ drop (r.at + 1) handles)
   pub blocks : AreBlocks bytes (blocks_of r)
-  pub points : coded_points bytes (blocks_of r) ≡ put int_cmp p.0 p.1 (drop (cut_in_block r.at cut) (block_points_at bytes old))
+  pub points : coded_points bytes (blocks_of r)
+      ≡ put int_cmp p.0 p.1 (drop (cut_in_block r.at cut) (block_points_at bytes old))
   pub apart : AreApart (handles_replaced r handles)
   pub earlier : AllEndBefore (take r.at handles) p.0
   pub reached : p.0 ≤ℤ old.last

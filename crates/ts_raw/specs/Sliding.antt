@@ -18,4 +18,5 @@ NoneStartBetween from to ms = AllByRecursion (λ (m : BlockHandle). (m.start < f
 
 -- the block at this index is the first in the bytes that starts at the offset or after it
 abbrev pub IsNextBlock : ℕ → List BlockHandle → ℕ → Type 0
-IsNextBlock from ms at = (at < length ms) × ((d : BlockHandle) → (from ≤ (slice_index_or ms at d).start) × NoneStartBetween from (slice_index_or ms at d).start ms)
+IsNextBlock from ms at = (at < length ms) × ((d : BlockHandle)
+    → (from ≤ (slice_index_or ms at d).start) × NoneStartBetween from (slice_index_or ms at d).start ms)

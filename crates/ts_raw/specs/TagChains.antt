@@ -15,7 +15,8 @@ use Rattle.ts_raw.specs.declared.index.tags.TagLink.{TagLink}
 
 -- the hash of a tag of a measurement
 unfoldable pub hash_of_tag : RandomState → Text → Text × Text → ℕ
-hash_of_tag seed measurement t = finish (with_text (with_text (with_text (initial_hasher seed) measurement) t.0) t.1) % 4_294_967_296
+hash_of_tag seed measurement t =
+    finish (with_text (with_text (with_text (initial_hasher seed) measurement) t.0) t.1) % 4_294_967_296
 
 -- hashes with the newest link of each, and all links
 pub record TagChains : Type 0 where
@@ -34,7 +35,8 @@ next_of l i = if nat_lt l.older i then Some l.older else None
 unfoldable pub Leads : List TagLink → ℕ → Option ℕ → ℕ → Type 0
 Leads links k None n = ⊥
 Leads links zero (Some i) n = ⊥
-Leads links (suc k) (Some i) n = ((slice_index_or links i no_link).series ≡ n) ⊎ Leads links k (next_of (slice_index_or links i no_link) i) n
+Leads links (suc k) (Some i) n =
+    ((slice_index_or links i no_link).series ≡ n) ⊎ Leads links k (next_of (slice_index_or links i no_link) i) n
 
 -- the newest link of a hash
 abbrev pub head_of : List (ℕ × ℕ) → ℕ → Option ℕ
@@ -54,14 +56,16 @@ KeepLeads before after = (hash n : ℕ) → LeadsTo before hash n → LeadsTo af
 
 -- the chains of all these tags lead to the series n
 abbrev pub AllLead : RandomState → TagChains → Text → List (Text × Text) → ℕ → Type 0
-AllLead seed chains measurement tags n = (t : Text × Text) → Among t tags → LeadsTo chains (hash_of_tag seed measurement t) n
+AllLead seed chains measurement tags n = (t : Text × Text)
+    → Among t tags → LeadsTo chains (hash_of_tag seed measurement t) n
 
 -- each series is found by each of its tags
 abbrev pub AreTagged : RandomState → List Series → TagChains → Type 0
 AreTagged seed series chains = (n : ℕ) (s : Series) → IsAt series n s → AllLead seed chains s.measurement s.tags n
 
 -- each series occurs once, with its hash, and is found by each of its tags
-pub record IsSeriesTable (seed : RandomState) (series : List Series) (hashes : List ℕ) (chains : TagChains) : Type 0 where
+pub record IsSeriesTable (seed : RandomState)
+    (series : List Series) (hashes : List ℕ) (chains : TagChains) : Type 0 where
   pub table : IsTable (hash_of_series seed) series hashes
   pub tagged : AreTagged seed series chains
 
@@ -73,4 +77,5 @@ pub record IsHashed (series : List Series) (hashes : List ℕ) (key : Series) (h
 
 -- the series of a measurement that have a tag are among these
 abbrev pub AreAmongTagged : List Series → Text → Text × Text → List ℕ → Type 0
-AreAmongTagged series measurement tag numbers = (n : ℕ) (s : Series) → IsAt series n s → s.measurement ≡ measurement → Among tag s.tags → Among n numbers
+AreAmongTagged series measurement tag numbers = (n : ℕ) (s : Series)
+    → IsAt series n s → s.measurement ≡ measurement → Among tag s.tags → Among n numbers

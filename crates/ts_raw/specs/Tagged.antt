@@ -20,12 +20,14 @@ IsRisingList [] = Unit {0}
 IsRisingList (n ∷ ns) = ((k : ℕ) → Among k ns → n < k) × IsRisingList ns
 
 -- the column n is of the series k and the field, and the series has the value of the tag
-pub record IsTaggedAt (series : List Series) (columns : List (ℕ × ℕ)) (field : ℕ) (tag value : Text) (k n : ℕ) : Type 0 where
+pub record IsTaggedAt (series : List Series)
+    (columns : List (ℕ × ℕ)) (field : ℕ) (tag value : Text) (k n : ℕ) : Type 0 where
   pub there : k < length series
   pub has : has_tag tag value (slice_index_or series k no_series) ≡ true
   pub at : IsAt columns n (k, field)
 
 -- exactly the columns of the field that are of these series and have the value of the tag
-pub record AreTaggedAt (series : List Series) (columns : List (ℕ × ℕ)) (field : ℕ) (tag value : Text) (numbers found : List ℕ) : Type 0 where
+pub record AreTaggedAt (series : List Series)
+    (columns : List (ℕ × ℕ)) (field : ℕ) (tag value : Text) (numbers found : List ℕ) : Type 0 where
   pub sound : (n : ℕ) → Among n found → (k : ℕ) × Among k numbers × IsTaggedAt series columns field tag value k n
   pub complete : (k n : ℕ) → Among k numbers → IsTaggedAt series columns field tag value k n → Among n found

@@ -51,7 +51,8 @@ pub(crate) fn can_grow(handles: &[BlockHandle], size: usize) -> bool
 /// Returns the nanoseconds from each time of a block to the next if a later time is appended, or 0 if they differ.
 fn spacing_after(handle: &BlockHandle, time: Time) -> u64
     requires { handle.now.last <ℤ time }
-    ensures { (points : List (ℤ × ℤ)) (value : ℤ) → handle.now.count ≡ length points → handle.now.last ≡ last_time points → AreApartBy handle.now.spacing points → AreApartBy result (points ++ (time, value) ∷ []) }
+    ensures { (points : List (ℤ × ℤ)) (value : ℤ) → handle.now.count ≡ length points → handle.now.last
+        ≡ last_time points → AreApartBy handle.now.spacing points → AreApartBy result (points ++ (time, value) ∷ []) }
 {
     let distance = time.nanos().abs_diff(handle.last.nanos());
     if handle.count > 1 && handle.spacing != distance {
@@ -68,7 +69,8 @@ fn push_last<A: Allocator>(bytes: &mut Vec<u8, A>, handle: &mut BlockHandle, poi
     requires ends { handle.old.end ≡ vec_len bytes.old }
     requires spare { vec_len bytes.old + 20 ≤ vec_capacity bytes.old }
     ensures kept { take handle.old.start bytes.new.items ≡ take handle.old.start bytes.old.items }
-    ensures block { IsEncoded handle.old.start bytes.new.items handle.new (block_points_at bytes.old.items handle.old ++ point.now ∷ []) }
+    ensures block { IsEncoded handle.old.start bytes.new.items handle.new
+        (block_points_at bytes.old.items handle.old ++ point.now ∷ []) }
 {
     let spacing = spacing_after(handle, point.0);
     let values = append(
@@ -97,9 +99,11 @@ impl<A: Allocator> CodedBlocks<A> {
         requires handles_spare { vec_len self.old.handles < vec_capacity self.old.handles }
         ensures coded { IsCoded self.new.bytes.items self.new.handles.items }
         ensures apart { AreApart self.new.handles.items }
-        ensures points { coded_points self.new.bytes.items self.new.handles.items ≡ coded_points self.old.bytes.items self.old.handles.items ++ point.now ∷ [] }
+        ensures points { coded_points self.new.bytes.items self.new.handles.items
+            ≡ coded_points self.old.bytes.items self.old.handles.items ++ point.now ∷ [] }
         ensures counts { KeepsCounts self.old self.new }
-        ensures blocks { blocks_at self.new.bytes.items self.new.handles.items ≡ blocks_at self.old.bytes.items self.old.handles.items ++ ((point.now ∷ []) ∷ []) }
+        ensures blocks { blocks_at self.new.bytes.items self.new.handles.items
+            ≡ blocks_at self.old.bytes.items self.old.handles.items ++ ((point.now ∷ []) ∷ []) }
     {
         let start = self.bytes.len();
         begin(&mut self.bytes, point);
@@ -124,9 +128,11 @@ impl<A: Allocator> CodedBlocks<A> {
         requires room { HasRoom self.old }
         ensures coded { IsCoded self.new.bytes.items self.new.handles.items }
         ensures apart { AreApart self.new.handles.items }
-        ensures points { coded_points self.new.bytes.items self.new.handles.items ≡ coded_points self.old.bytes.items self.old.handles.items ++ point.now ∷ [] }
+        ensures points { coded_points self.new.bytes.items self.new.handles.items
+            ≡ coded_points self.old.bytes.items self.old.handles.items ++ point.now ∷ [] }
         ensures counts { KeepsCounts self.old self.new }
-        ensures cut { (cut : ℕ) → CutFits cut (blocks_at self.old.bytes.items self.old.handles.items) → CutFits cut (blocks_at self.new.bytes.items self.new.handles.items) }
+        ensures cut { (cut : ℕ) → CutFits cut (blocks_at self.old.bytes.items self.old.handles.items)
+            → CutFits cut (blocks_at self.new.bytes.items self.new.handles.items) }
     {
         if !can_grow(self.handles.as_slice(), self.bytes.len()) {
             self.push_block(point);

@@ -25,7 +25,8 @@ fn near(edge: &i128) -> i64
 /// those in it.
 pub(crate) fn bounds_of(index: &i128, interval: i64, offset: i64) -> (i64, i64)
     requires { pos 1 ≤ℤ interval }
-    ensures { (points : List (ℤ × ℤ)) → AreTimed points → filter (λ p. is_within result.0 result.1 p.0) points ≡ filter (λ p. int_eq (bucket_of p.0 interval offset) index.now) points }
+    ensures { (points : List (ℤ × ℤ)) → AreTimed points → filter (λ p. is_within result.0 result.1 p.0) points
+        ≡ filter (λ p. int_eq (bucket_of p.0 interval offset) index.now) points }
 {
     let (first, next) = Buckets { interval, offset }.edges(*index);
     (near(&first), near(&next))

@@ -114,7 +114,8 @@ impl<A: Allocator + Copy> Index<A> {
     pub fn register(&mut self, key: &KeyRef<'_>) -> Result<SeriesId, IndexFault>
         ensures registered { IsRegistered self.old.series self.new.series result key.now }
         ensures columns { self.new.columns ≡ self.old.columns }
-        ensures full { (result ≡ Err IndexFault.TooManySeries) ↔ ((1_000_000 ≤ length self.old.series) × (Among key.now self.old.series → ⊥)) }
+        ensures full { (result ≡ Err IndexFault.TooManySeries)
+            ↔ ((1_000_000 ≤ length self.old.series) × (Among key.now self.old.series → ⊥)) }
         ensures sound { IsSoundIndex self.new }
     {
         let series = self.series.register(SERIES_LIMIT, key)?;
@@ -220,7 +221,8 @@ impl<A: Allocator + Copy> Index<A> {
         value: &str,
     ) -> Result<Vec<ColumnId, A>, AllocError>
         requires { value.now ≡ [] → ⊥ }
-        ensures { IfOk result (λ v. v.items ≡ numbers_where (is_tagged measurement.now field.now tag.now value.now) self.now.columns) }
+        ensures { IfOk result
+            (λ v. v.items ≡ numbers_where (is_tagged measurement.now field.now tag.now value.now) self.now.columns) }
     {
         match self.fields.lookup(measurement, field) {
             Some(field) => {
@@ -251,7 +253,8 @@ impl<A: Allocator + Copy> Index<A> {
     /// the field or the column doesn't fit 32 bits.
     pub fn add_column(&mut self, series: SeriesId, field: &str) -> Result<ColumnId, AllocError>
         requires { series < length self.old.series }
-        ensures registered { IsRegistered self.old.columns self.new.columns result (column_in self.old series field.now) }
+        ensures registered { IsRegistered self.old.columns self.new.columns result
+            (column_in self.old series field.now) }
         ensures series { self.new.series ≡ self.old.series }
         ensures sound { IsSoundIndex self.new }
     {
@@ -265,7 +268,8 @@ impl<A: Allocator + Copy> Index<A> {
     fn make_column(&mut self, series: SeriesId, field: &str) -> Result<ColumnId, AllocError>
         requires series { series < length self.old.series }
         requires absent { Among (column_in self.old series field.now) self.old.columns → ⊥ }
-        ensures registered { IsRegistered self.old.columns self.new.columns result (column_in self.old series field.now) }
+        ensures registered { IsRegistered self.old.columns self.new.columns result
+            (column_in self.old series field.now) }
         ensures series { self.new.series ≡ self.old.series }
         ensures sound { IsSoundIndex self.new }
     {

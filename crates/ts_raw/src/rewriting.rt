@@ -67,9 +67,11 @@ fn push_text<A: Allocator>(
     last: Time,
     summary: Agg,
 ) -> Result<BlockHandle, AllocError>
-    requires { (points : List (ℤ × ℤ)) × IsBlockOf text.now points × (values ≡ values_start points) × (count ≡ length points) × (last ≡ last_time points) × (summary ≡ aggregate_of_points points) }
+    requires { (points : List (ℤ × ℤ)) × IsBlockOf text.now points × (values ≡ values_start points)
+        × (count ≡ length points) × (last ≡ last_time points) × (summary ≡ aggregate_of_points points) }
     ensures kept { take (vec_len bytes.old) bytes.new.items ≡ bytes.old.items }
-    ensures block { IfOk result (λ handle. (points : List (ℤ × ℤ)) → IsBlockOf text.now points → IsEncoded (vec_len bytes.old) bytes.new.items handle points) }
+    ensures block { IfOk result (λ handle. (points : List (ℤ × ℤ))
+        → IsBlockOf text.now points → IsEncoded (vec_len bytes.old) bytes.new.items handle points) }
 {
     reserve_eighth(bytes, text.len())?;
     let start = bytes.len();
@@ -97,7 +99,8 @@ fn copy_with<A: Allocator + Copy>(
     requires few { handle.now.count < 256 }
     requires reached { point.now.0 ≤ℤ handle.now.last }
     ensures kept { take (vec_len bytes.old) bytes.new.items ≡ bytes.old.items }
-    ensures block { IfOk result (λ new. IsEncoded (vec_len bytes.old) bytes.new.items new (put int_cmp point.now.0 point.now.1 (block_points_at bytes.old.items handle.now))) }
+    ensures block { IfOk result (λ new. IsEncoded (vec_len bytes.old) bytes.new.items new
+        (put int_cmp point.now.0 point.now.1 (block_points_at bytes.old.items handle.now))) }
 {
     let alloc = *bytes.allocator();
     let block = text_of(bytes.as_slice(), handle);
@@ -134,7 +137,8 @@ fn copy_first<A: Allocator + Copy>(
     requires some { 0 < count }
     requires few { count < handle.now.count }
     ensures kept { take (vec_len bytes.old) bytes.new.items ≡ bytes.old.items }
-    ensures block { IfOk result (λ new. IsEncoded (vec_len bytes.old) bytes.new.items new (take count (block_points_at bytes.old.items handle.now))) }
+    ensures block { IfOk result (λ new. IsEncoded
+        (vec_len bytes.old) bytes.new.items new (take count (block_points_at bytes.old.items handle.now))) }
 {
     let alloc = *bytes.allocator();
     let block = text_of(bytes.as_slice(), handle);
@@ -152,7 +156,8 @@ fn copy_last<A: Allocator + Copy>(
     requires marked { IsBlockHandle bytes.old.items handle.now }
     requires few { count < handle.now.count }
     ensures kept { take (vec_len bytes.old) bytes.new.items ≡ bytes.old.items }
-    ensures block { IfOk result (λ new. IsEncoded (vec_len bytes.old) bytes.new.items new (drop count (block_points_at bytes.old.items handle.now))) }
+    ensures block { IfOk result (λ new. IsEncoded
+        (vec_len bytes.old) bytes.new.items new (drop count (block_points_at bytes.old.items handle.now))) }
 {
     let alloc = *bytes.allocator();
     let block = text_of(bytes.as_slice(), handle);
@@ -176,7 +181,8 @@ fn halve<A: Allocator + Copy>(
     requires marked { IsBlockHandle bytes.old.items handle.now }
     requires some { 1 < handle.now.count }
     ensures kept { take (vec_len bytes.old) bytes.new.items ≡ bytes.old.items }
-    ensures halves { IfOk result (λ two. AreHalves (vec_len bytes.old) bytes.new.items two.0 two.1 (block_points_at bytes.old.items handle.now)) }
+    ensures halves { IfOk result (λ two. AreHalves
+        (vec_len bytes.old) bytes.new.items two.0 two.1 (block_points_at bytes.old.items handle.now)) }
 {
     let count = handle.count / 2;
     let first = copy_first(bytes, handle, count)?;
@@ -193,12 +199,16 @@ fn rewrite_half<A: Allocator + Copy>(
     at: usize,
     point: &(Time, i64),
 ) -> Result<Rewritten, AllocError>
-    requires { (from : ℕ) × (points : List (ℤ × ℤ)) × AreHalves from bytes.old.items first.now second.now points × (point.now.0 ≤ℤ last_time points) }
+    requires { (from : ℕ) × (points : List (ℤ × ℤ))
+        × AreHalves from bytes.old.items first.now second.now points × (point.now.0 ≤ℤ last_time points) }
     ensures kept { take (vec_len bytes.old) bytes.new.items ≡ bytes.old.items }
     ensures at { IfOk result (λ new. new.at ≡ at) }
     ensures blocks { IfOk result (λ new. AreBlocks bytes.new.items (blocks_of new)) }
-    ensures behind { IfOk result (λ new. (from : ℕ) (points : List (ℤ × ℤ)) → AreHalves from bytes.old.items first.now second.now points → LieFrom from (blocks_of new)) }
-    ensures points { IfOk result (λ new. (from : ℕ) (points : List (ℤ × ℤ)) → AreHalves from bytes.old.items first.now second.now points → coded_points bytes.new.items (blocks_of new) ≡ put int_cmp point.now.0 point.now.1 points) }
+    ensures behind { IfOk result (λ new. (from : ℕ) (points : List (ℤ × ℤ))
+        → AreHalves from bytes.old.items first.now second.now points → LieFrom from (blocks_of new)) }
+    ensures points { IfOk result (λ new. (from : ℕ) (points : List (ℤ × ℤ))
+        → AreHalves from bytes.old.items first.now second.now points
+        → coded_points bytes.new.items (blocks_of new) ≡ put int_cmp point.now.0 point.now.1 points) }
 {
     if point.0 <= first.last {
         let new = copy_with(bytes, first, point)?;
@@ -230,7 +240,8 @@ fn rewrite_all<A: Allocator + Copy>(
     ensures at { IfOk result (λ new. new.at ≡ at) }
     ensures blocks { IfOk result (λ new. AreBlocks bytes.new.items (blocks_of new)) }
     ensures behind { IfOk result (λ new. LieFrom (vec_len bytes.old) (blocks_of new)) }
-    ensures points { IfOk result (λ new. coded_points bytes.new.items (blocks_of new) ≡ put int_cmp point.now.0 point.now.1 (block_points_at bytes.old.items handle.now)) }
+    ensures points { IfOk result (λ new. coded_points bytes.new.items (blocks_of new)
+        ≡ put int_cmp point.now.0 point.now.1 (block_points_at bytes.old.items handle.now)) }
 {
     if handle.count <= HALVED_POINTS {
         let first = copy_with(bytes, handle, point)?;
@@ -260,7 +271,8 @@ pub(crate) fn rewrite<A: Allocator + Copy>(
     ensures at { IfOk result (λ new. new.at ≡ at) }
     ensures blocks { IfOk result (λ new. AreBlocks bytes.new.items (blocks_of new)) }
     ensures behind { IfOk result (λ new. LieFrom (vec_len bytes.old) (blocks_of new)) }
-    ensures points { IfOk result (λ new. coded_points bytes.new.items (blocks_of new) ≡ put int_cmp point.now.0 point.now.1 (drop skip (block_points_at bytes.old.items handle.now))) }
+    ensures points { IfOk result (λ new. coded_points bytes.new.items (blocks_of new)
+        ≡ put int_cmp point.now.0 point.now.1 (drop skip (block_points_at bytes.old.items handle.now))) }
 {
     if skip == 0 {
         return rewrite_all(bytes, handle, at, point);
@@ -319,7 +331,8 @@ impl<A: Allocator> CodedBlocks<A> {
         requires sound { AreSoundBlocks self.old }
         requires staged { (p : ℤ × ℤ) × IsTime p.0 × IsStaged self.old p (Some new.now) }
         ensures sound { AreSoundBlocks self.new }
-        ensures points { (p : ℤ × ℤ) → IsStaged self.old p (Some new.now) → points_of_blocks self.new ≡ put int_cmp p.0 p.1 (points_of_blocks self.old) }
+        ensures points { (p : ℤ × ℤ) → IsStaged self.old p (Some new.now)
+            → points_of_blocks self.new ≡ put int_cmp p.0 p.1 (points_of_blocks self.old) }
     {
         self.total = replace_handles(&mut self.handles, self.total, new);
         self.cut = cut_left(new.at, self.cut);

@@ -77,7 +77,8 @@ impl<A: Allocator + Copy> CodedBlocks<A> {
         requires within { at < length self.old.handles.items }
         ensures same { AreSame self.old self.new }
         ensures spare { OnOk result (vec_len self.new.handles < vec_capacity self.new.handles) }
-        ensures rewritten { IfOk result (λ new. IsRewritten self.new.bytes.items self.new.handles.items self.new.cut point.now new) }
+        ensures rewritten { IfOk result
+            (λ new. IsRewritten self.new.bytes.items self.new.handles.items self.new.cut point.now new) }
     {
         reserve_eighth(&mut self.handles, 1)?;
         let handle = self.handles[at];
@@ -97,7 +98,8 @@ impl<A: Allocator + Copy> CodedBlocks<A> {
         requires within { at < length self.old.handles.items }
         ensures same { AreSame self.old self.new }
         ensures spare { OnOk result (vec_len self.new.handles < vec_capacity self.new.handles) }
-        ensures rewritten { IfOk result (λ new. IsRewritten self.new.bytes.items self.new.handles.items self.new.cut point.now new.value) }
+        ensures rewritten { IfOk result
+            (λ new. IsRewritten self.new.bytes.items self.new.handles.items self.new.cut point.now new.value) }
     {
         let new = self.stage_among(at, point)?;
         let alloc = *self.bytes.allocator();

@@ -30,19 +30,26 @@ use Rattle.ts_reply.specs.Replies.{TellsOutcomes, refusal_reply_text}
 
 -- Outcome of a query: its rows over all facts ever accepted if it has a plan, else the error of planning.
 pub data IsPlannedOutcome (opening : Settings) (h : History) (s : Select) : Outcome → Type 0 where
-  answered : (plan : List Piece) → IsPlanFor (settings_of opening h) (marks_of opening h) s.query (Ok plan) → IsPlannedOutcome opening h s (rows_over (latest_of h) s)
-  refused : (fault : PlanFault) → IsPlanFor (settings_of opening h) (marks_of opening h) s.query (Err (errors.Fault fault)) → IsPlannedOutcome opening h s (Fault (plan_fault_text fault))
+  answered : (plan : List Piece) → IsPlanFor (settings_of opening h) (marks_of opening h) s.query (Ok plan)
+      → IsPlannedOutcome opening h s (rows_over (latest_of h) s)
+  refused : (fault : PlanFault)
+      → IsPlanFor (settings_of opening h) (marks_of opening h) s.query (Err (errors.Fault fault))
+      → IsPlannedOutcome opening h s (Fault (plan_fault_text fault))
 
 -- Outcome of a query by the pieces of a certificate: their first error, or else the query's rows over all facts ever
 -- accepted.
 pub data IsChecked (opening : Settings) (h : History) (pieces : List Piece) (s : Select) : Outcome → Type 0 where
-  invalid : (fault : CheckFault) → first_fault (settings_of opening h) (marks_of opening h) s.query pieces ≡ Some (fault.kind, fault.piece) → IsChecked opening h pieces s (Fault (check_fault_text fault))
-  valid : IsValid (settings_of opening h) (marks_of opening h) s.query pieces → IsChecked opening h pieces s (rows_over (latest_of h) s)
+  invalid : (fault : CheckFault) → first_fault (settings_of opening h) (marks_of opening h) s.query pieces
+      ≡ Some (fault.kind, fault.piece) → IsChecked opening h pieces s (Fault (check_fault_text fault))
+  valid : IsValid (settings_of opening h) (marks_of opening h) s.query pieces
+      → IsChecked opening h pieces s (rows_over (latest_of h) s)
 
 -- Outcome of a query by the text of a certificate: the error of the text, or the outcome by the pieces that it spells.
 pub data IsCertified (opening : Settings) (h : History) (certificate : Text) (s : Select) : Outcome → Type 0 where
-  misspelled : (fault : CertificateFault) → IsFirstBadLine certificate fault.at → IsCertified opening h certificate s (Fault (certificate_fault_text fault))
-  spelled : (pieces : List Piece) (o : Outcome) → IsCertificate certificate pieces → IsChecked opening h pieces s o → IsCertified opening h certificate s o
+  misspelled : (fault : CertificateFault)
+      → IsFirstBadLine certificate fault.at → IsCertified opening h certificate s (Fault (certificate_fault_text fault))
+  spelled : (pieces : List Piece) (o : Outcome)
+      → IsCertificate certificate pieces → IsChecked opening h pieces s o → IsCertified opening h certificate s o
 
 -- outcome of a query by the given certificate, or else by its own plan
 abbrev pub IsOutcome : Settings → History → Option Text → Select → Outcome → Type 0
@@ -65,13 +72,20 @@ abbrev pub several_text : Text
 several_text = fault_text SeveralStatements Alone
 
 -- The reply to queries, with or without a certificate, after a history: whether it is good, and its body.
-pub data IsReplyTo (opening : Settings) (h : History) (queries : List Select) (certificate : Option Text) (epoch : Epoch) : Bool → Text → Type 0 where
+pub data IsReplyTo (opening : Settings)
+    (h : History) (queries : List Select) (certificate : Option Text) (epoch : Epoch) : Bool → Text → Type 0 where
   -- the outcomes of the queries
-  good : (body : Text) (outcomes : List Outcome) → is_of_several certificate queries ≡ false → AreOutcomes (IsOutcome opening h certificate) queries outcomes → TellsOutcomes epoch outcomes body → IsReplyTo opening h queries certificate epoch true body
+  good : (body : Text) (outcomes : List Outcome)
+      → is_of_several certificate queries ≡ false → AreOutcomes (IsOutcome opening h certificate) queries outcomes
+      → TellsOutcomes epoch outcomes body → IsReplyTo opening h queries certificate epoch true body
   -- a certificate is given with several queries
-  several : is_of_several certificate queries ≡ true → IsReplyTo opening h queries certificate epoch false (refusal_reply_text several_text)
+  several : is_of_several certificate queries ≡ true
+      → IsReplyTo opening h queries certificate epoch false (refusal_reply_text several_text)
 
 -- The reply to a text at time `now`: the reply to its queries, or its first error.
-pub data IsReply (opening : Settings) (h : History) (now : ℤ) (text : Text) (certificate : Option Text) (epoch : Epoch) : Bool → Text → Type 0 where
-  read : (queries : List Select) (good : Bool) (body : Text) → TextSays now text queries → IsReplyTo opening h queries certificate epoch good body → IsReply opening h now text certificate epoch good body
-  bad : (fault : queries.Fault) → TextFault now text fault → IsReply opening h now text certificate epoch false (refusal_reply_text (query_fault_text fault))
+pub data IsReply (opening : Settings)
+    (h : History) (now : ℤ) (text : Text) (certificate : Option Text) (epoch : Epoch) : Bool → Text → Type 0 where
+  read : (queries : List Select) (good : Bool) (body : Text) → TextSays now text queries
+      → IsReplyTo opening h queries certificate epoch good body → IsReply opening h now text certificate epoch good body
+  bad : (fault : queries.Fault) → TextFault now text fault
+      → IsReply opening h now text certificate epoch false (refusal_reply_text (query_fault_text fault))

@@ -22,12 +22,18 @@ use Rattle.ts_reply.specs.Replies.{TellsOutcomes, refusal_reply_text}
 
 -- Explanation of a query: the certificate of its plan, or the error of planning.
 pub data IsExplained (opening : Settings) (h : History) (s : Select) : Outcome → Type 0 where
-  planned : (plan : List Piece) → IsPlanFor (settings_of opening h) (marks_of opening h) s.query (Ok plan) → IsExplained opening h s (Certificate (certificate_text plan))
-  unplanned : (fault : PlanFault) → IsPlanFor (settings_of opening h) (marks_of opening h) s.query (Err (errors.Fault fault)) → IsExplained opening h s (Fault (plan_fault_text fault))
+  planned : (plan : List Piece) → IsPlanFor (settings_of opening h) (marks_of opening h) s.query (Ok plan)
+      → IsExplained opening h s (Certificate (certificate_text plan))
+  unplanned : (fault : PlanFault)
+      → IsPlanFor (settings_of opening h) (marks_of opening h) s.query (Err (errors.Fault fault))
+      → IsExplained opening h s (Fault (plan_fault_text fault))
 
 -- The explanation of a text at time `now`, after a history: whether it is good, and its body.
 pub data IsExplanation (opening : Settings) (h : History) (now : ℤ) (text : Text) : Bool → Text → Type 0 where
   -- the explanations of the text's queries; no time is written, so any format would do
-  good : (body : Text) (queries : List Select) (outcomes : List Outcome) → TextSays now text queries → AreOutcomes (IsExplained opening h) queries outcomes → TellsOutcomes AsText outcomes body → IsExplanation opening h now text true body
+  good : (body : Text) (queries : List Select) (outcomes : List Outcome)
+      → TextSays now text queries → AreOutcomes (IsExplained opening h) queries outcomes
+      → TellsOutcomes AsText outcomes body → IsExplanation opening h now text true body
   -- the first error of the text
-  bad : (fault : queries.Fault) → TextFault now text fault → IsExplanation opening h now text false (refusal_reply_text (query_fault_text fault))
+  bad : (fault : queries.Fault)
+      → TextFault now text fault → IsExplanation opening h now text false (refusal_reply_text (query_fault_text fault))

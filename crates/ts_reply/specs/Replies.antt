@@ -26,7 +26,8 @@ use Rattle.ts_reply.specs.TimeTexts.{IsTimeText}
 -- a number if it fits in signed 64 bits, else the string of its digits
 abbrev pub integer_data : ℤ → Data
 integer_data z =
-    if int_le (negsuc 9223372036854775807) z && int_le z (pos 9223372036854775807) then number (of_integer z) else string (signed_decimal z)
+    if int_le (negsuc 9223372036854775807) z && int_le z (pos 9223372036854775807)
+    then number (of_integer z) else string (signed_decimal z)
 
 -- n/d
 abbrev pub ratio_text : Frac → Text
@@ -64,7 +65,8 @@ AreEach P (x ∷ xs) (item d ds) = P x d × AreEach P xs ds
 
 -- the time, and one value per column
 abbrev pub IsRowData : Epoch → FilledRow → Data → Type 0
-IsRowData epoch row d = (time : Data) × IsTimeData epoch row.start time × (d ≡ array (item time (items_of (map value_data row.values))))
+IsRowData epoch row d =
+    (time : Data) × IsTimeData epoch row.start time × (d ≡ array (item time (items_of (map value_data row.values))))
 
 abbrev pub column_data : Projection → Data
 column_data c = string c.name
@@ -81,22 +83,26 @@ tags_among before (tag ∷ tags) (value ∷ values) = tags_among (put tag (strin
 -- a series with tags
 abbrev pub tagged_series : Data → Text → Members → Items → Data
 tagged_series columns name tags rows =
-    object (member (codes "columns") columns (member (codes "name") (string name) (member (codes "tags") (object tags) (member (codes "values") (array rows) no_members))))
+    object (member (codes "columns") columns (member (codes "name") (string name)
+    (member (codes "tags") (object tags) (member (codes "values") (array rows) no_members))))
 
 -- a series without tags
 abbrev pub untagged_series : Data → Text → Items → Data
-untagged_series columns name rows = object (member (codes "columns") columns (member (codes "name") (string name) (member (codes "values") (array rows) no_members)))
+untagged_series columns name rows = object (member
+    (codes "columns") columns (member (codes "name") (string name) (member (codes "values") (array rows) no_members)))
 
 -- a series has tags if the query groups by tags
 abbrev pub series_by : List Text → Data → Text → List Text → Items → Data
 series_by [] columns name values rows = untagged_series columns name rows
-series_by (tag ∷ tags) columns name values rows = tagged_series columns name (tags_among no_members (tag ∷ tags) values) rows
+series_by (tag ∷ tags) columns name values rows =
+    tagged_series columns name (tags_among no_members (tag ∷ tags) values) rows
 
 abbrev pub series_data : Select → List Text → Items → Data
 series_data s values rows = series_by s.query.group_tags (columns_data s) s.query.measurement values rows
 
 abbrev pub IsSeriesData : Epoch → Select → FilledGroup → Data → Type 0
-IsSeriesData epoch s group d = (rows : Items) × AreEach (IsRowData epoch) group.rows rows × (d ≡ series_data s group.values rows)
+IsSeriesData epoch s group d =
+    (rows : Items) × AreEach (IsRowData epoch) group.rows rows × (d ≡ series_data s group.values rows)
 
 -- ---- replies
 
@@ -111,7 +117,8 @@ result_of key d n = object (member key d (statement_id n))
 abbrev pub IsResultData : Epoch → ℕ → Outcome → Data → Type 0
 IsResultData epoch n (Rows s []) d = d ≡ object (statement_id n)
 IsResultData epoch n (Rows s (group ∷ groups)) d =
-    (series : Items) × AreEach (IsSeriesData epoch s) (group ∷ groups) series × (d ≡ result_of (codes "series") (array series) n)
+    (series : Items)
+    × AreEach (IsSeriesData epoch s) (group ∷ groups) series × (d ≡ result_of (codes "series") (array series) n)
 IsResultData epoch n (Certificate text) d = d ≡ result_of (codes "cert") (string text) n
 IsResultData epoch n (Fault text) d = d ≡ result_of (codes "error") (string text) n
 
@@ -127,7 +134,8 @@ results_data results = object (member (codes "results") (array results) no_membe
 
 -- the text is the reply to statements with these outcomes
 abbrev pub TellsOutcomes : Epoch → List Outcome → Text → Type 0
-TellsOutcomes epoch outcomes text = (results : Items) × AreResults epoch 0 outcomes results × (text ≡ compact_text (results_data results))
+TellsOutcomes epoch outcomes text =
+    (results : Items) × AreResults epoch 0 outcomes results × (text ≡ compact_text (results_data results))
 
 -- an error that refuses the whole request
 abbrev pub refusal_data : Text → Data

@@ -9,9 +9,11 @@ use Rattle.ts_reply.specs.Replies.{columns_data, tags_among}
 
 -- the beginning of every series of a query: its columns and its measurement
 abbrev pub series_head : Select → Text
-series_head s = codes "{\"columns\":" ++ (compact_text (columns_data s) ++ (codes ",\"name\":" ++ quoted s.query.measurement))
+series_head s =
+    codes "{\"columns\":" ++ (compact_text (columns_data s) ++ (codes ",\"name\":" ++ quoted s.query.measurement))
 
 -- the tags of a group, if the query groups by tags
 abbrev pub grouped_tags_text : List Text → List Text → Text
 grouped_tags_text [] values = []
-grouped_tags_text (tag ∷ tags) values = codes ",\"tags\":" ++ compact_text (object (tags_among no_members (tag ∷ tags) values))
+grouped_tags_text (tag ∷ tags) values =
+    codes ",\"tags\":" ++ compact_text (object (tags_among no_members (tag ∷ tags) values))

@@ -39,7 +39,8 @@ fn rows_of<'a, A: Allocator + Copy + 'a>(
     requires shows { ShowsEach store.now }
     requires settings { checked.now.settings ≡ store_settings store.now }
     requires marks { checked.now.marks ≡ store_marks store.now }
-    ensures { IfOk result (λ r. OfEachHistory store.now (λ opening h. rows_outcome r ≡ rows_over (latest_of h) checked.now.select)) }
+    ensures { IfOk result
+        (λ r. OfEachHistory store.now (λ opening h. rows_outcome r ≡ rows_over (latest_of h) checked.now.select)) }
 {
     match execute_selected(alloc, store, checked) {
         Ok(table) => Ok(fill(table, checked.query().fill())),
@@ -56,7 +57,8 @@ fn rows_by_plan<'a, A: Allocator + Copy + 'a>(
     plan: &Certificate<A>,
 ) -> Result<Rows<'a, A>, AllocError>
     requires { IsValid (store_settings store.now) (store_marks store.now) query.now.query plan.now }
-    ensures { IfOk result (λ r. OfEachHistory store.now (λ opening h. rows_outcome r ≡ rows_over (latest_of h) query.now)) }
+    ensures { IfOk result
+        (λ r. OfEachHistory store.now (λ opening h. rows_outcome r ≡ rows_over (latest_of h) query.now)) }
 {
     match check(alloc, store.settings(), store.marks(), query, plan) {
         Ok(checked) => rows_of(alloc, store, &checked),
@@ -72,7 +74,8 @@ fn planned<'a, A: Allocator + Copy + 'a>(
     store: &'a Store<A>,
     query: &Query<A>,
 ) -> Result<Outcome<'a, A>, AllocError>
-    ensures { IfOk result (λ o. OfEachHistory store.now (λ opening h. IsPlannedOutcome opening h query.now (outcome_view o))) }
+    ensures { IfOk result
+        (λ o. OfEachHistory store.now (λ opening h. IsPlannedOutcome opening h query.now (outcome_view o))) }
 {
     match plan(alloc, store.settings(), store.marks(), query) {
         Ok(plan) => Ok(Outcome::Rows(rows_by_plan(alloc, store, query, &plan)?)),
@@ -89,7 +92,8 @@ fn outcome_by<'a, A: Allocator + Copy + 'a>(
     query: &Query<A>,
     certificate: &Certificate<A>,
 ) -> Result<Outcome<'a, A>, AllocError>
-    ensures { IfOk result (λ o. OfEachHistory store.now (λ opening h. IsChecked opening h certificate.now query.now (outcome_view o))) }
+    ensures { IfOk result
+        (λ o. OfEachHistory store.now (λ opening h. IsChecked opening h certificate.now query.now (outcome_view o))) }
 {
     match check(alloc, store.settings(), store.marks(), query, certificate) {
         Ok(checked) => Ok(Outcome::Rows(rows_of(alloc, store, &checked)?)),
@@ -106,7 +110,8 @@ fn certified<'a, A: Allocator + Copy + 'a>(
     query: &Query<A>,
     certificate: &str,
 ) -> Result<Outcome<'a, A>, AllocError>
-    ensures { IfOk result (λ o. OfEachHistory store.now (λ opening h. IsCertified opening h certificate.now query.now (outcome_view o))) }
+    ensures { IfOk result
+        (λ o. OfEachHistory store.now (λ opening h. IsCertified opening h certificate.now query.now (outcome_view o))) }
 {
     match read_certificate(alloc, certificate) {
         Ok(certificate) => outcome_by(alloc, json, store, query, &certificate),
@@ -125,7 +130,8 @@ fn outcome_of<'a, A: Allocator + Copy + 'a>(
     query: &Query<A>,
     certificate: Option<&str>,
 ) -> Result<Outcome<'a, A>, AllocError>
-    ensures { IfOk result (λ o. OfEachHistory store.now (λ opening h. IsOutcome opening h (given_text certificate.entry) query.now (outcome_view o))) }
+    ensures { IfOk result (λ o. OfEachHistory store.now
+        (λ opening h. IsOutcome opening h (given_text certificate.entry) query.now (outcome_view o))) }
 {
     match certificate {
         None => planned(alloc, json, store, query),
@@ -141,7 +147,8 @@ fn outcomes_of<'a, A: Allocator + Copy + 'a>(
     queries: &[Query<A>],
     certificate: Option<&str>,
 ) -> Result<Vec<Outcome<'a, A>, A>, AllocError>
-    ensures { IfOk result (λ v. OfEachHistory store.now (λ opening h. AreOutcomes (IsOutcome opening h (given_text certificate.entry)) queries.now (map outcome_view v.items))) }
+    ensures { IfOk result (λ v. OfEachHistory store.now (λ opening h. AreOutcomes
+        (IsOutcome opening h (given_text certificate.entry)) queries.now (map outcome_view v.items))) }
 {
     let mut outcomes = Vec::new(alloc);
     for query in queries {
@@ -169,7 +176,8 @@ fn reply_to<A: Allocator + Copy>(
     certificate: Option<&str>,
     epoch: Epoch,
 ) -> Result<QueryReply, AllocError>
-    ensures { IfOk result (λ r. OfEachHistory store.now (λ opening h. IsReplyTo opening h queries.now (given_text certificate.entry) epoch r.good (string_bytes r.body))) }
+    ensures { IfOk result (λ r. OfEachHistory store.now (λ opening h. IsReplyTo opening h queries.now
+        (given_text certificate.entry) epoch r.good (string_bytes r.body))) }
 {
     if is_of_several(certificate, queries) {
         let body = refusal_of_several(json)?;
@@ -192,7 +200,8 @@ pub fn answer<A: Allocator + Copy>(
     certificate: Option<&str>,
     epoch: Epoch,
 ) -> Result<QueryReply, AllocError>
-    ensures { IfOk result (λ r. OfEachHistory store.now (λ opening h. IsReply opening h now text.now (given_text certificate.entry) epoch r.good (string_bytes r.body))) }
+    ensures { IfOk result (λ r. OfEachHistory store.now (λ opening h. IsReply opening h now text.now
+        (given_text certificate.entry) epoch r.good (string_bytes r.body))) }
 {
     match parse(alloc, text, now) {
         Ok(queries) => reply_to(alloc, json, store, queries.as_slice(), certificate, epoch),

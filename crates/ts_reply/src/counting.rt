@@ -46,7 +46,8 @@ fn counted_by<'a, A: Allocator + Copy + 'a>(
     plan: &Certificate<A>,
 ) -> Result<u64, AllocError>
     requires { IsValid (store_settings store.now) (store_marks store.now) query.now.query plan.now }
-    ensures { IfOk result (λ n. OfEachHistory store.now (λ opening h. n ≡ length (filter (matches query.now.query) (latest_of h)))) }
+    ensures { IfOk result
+        (λ n. OfEachHistory store.now (λ opening h. n ≡ length (filter (matches query.now.query) (latest_of h)))) }
 {
     let checked = match check(alloc, store.settings(), store.marks(), query, plan) {
         Ok(checked) => checked,

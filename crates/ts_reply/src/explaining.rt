@@ -23,7 +23,8 @@ fn explained<'a, A: Allocator + Copy + 'a>(
     store: &'a Store<A>,
     query: &Query<A>,
 ) -> Result<Outcome<'a, A>, AllocError>
-    ensures { IfOk result (λ o. OfEachHistory store.now (λ opening h. IsExplained opening h query.now (outcome_view o))) }
+    ensures { IfOk result
+        (λ o. OfEachHistory store.now (λ opening h. IsExplained opening h query.now (outcome_view o))) }
 {
     match plan(alloc, store.settings(), store.marks(), query) {
         Ok(plan) => Ok(Outcome::Certificate(write_certificate(json, &plan)?)),
@@ -39,7 +40,8 @@ fn each_explained<'a, A: Allocator + Copy + 'a>(
     store: &'a Store<A>,
     queries: &[Query<A>],
 ) -> Result<Vec<Outcome<'a, A>, A>, AllocError>
-    ensures { IfOk result (λ v. OfEachHistory store.now (λ opening h. AreOutcomes (IsExplained opening h) queries.now (map outcome_view v.items))) }
+    ensures { IfOk result (λ v. OfEachHistory store.now
+        (λ opening h. AreOutcomes (IsExplained opening h) queries.now (map outcome_view v.items))) }
 {
     let mut outcomes = Vec::new(alloc);
     for query in queries {
@@ -57,7 +59,8 @@ pub fn explain<A: Allocator + Copy>(
     now: Time,
     text: &str,
 ) -> Result<QueryReply, AllocError>
-    ensures { IfOk result (λ r. OfEachHistory store.now (λ opening h. IsExplanation opening h now text.now r.good (string_bytes r.body))) }
+    ensures { IfOk result (λ r. OfEachHistory store.now
+        (λ opening h. IsExplanation opening h now text.now r.good (string_bytes r.body))) }
 {
     match parse(alloc, text, now) {
         Ok(queries) => {

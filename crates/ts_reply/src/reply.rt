@@ -38,7 +38,8 @@ fn push_more_groups<A: Allocator>(
     groups: FilledGroups<'_, '_, A>,
 ) -> Result<(), AllocError>
     requires { head.now ≡ series_head query.now }
-    ensures { OnOk result (AppendsItems (AreEach (IsSeriesData times.old query.now) groups.entry) true (string_bytes text.old) (string_bytes text.new)) }
+    ensures { OnOk result (AppendsItems (AreEach (IsSeriesData times.old query.now) groups.entry) true
+        (string_bytes text.old) (string_bytes text.new)) }
 {
     for group in groups {
         text.push_str(",")?;
@@ -56,7 +57,8 @@ fn push_series<A: Allocator>(
     first: FilledGroup<'_, '_, A>,
     others: FilledGroups<'_, '_, A>,
 ) -> Result<(), AllocError>
-    ensures { OnOk result (AppendsData (IsArray (AreEach (IsSeriesData epoch query.now) (first.entry ∷ others.entry))) (string_bytes text.old) (string_bytes text.new)) }
+    ensures { OnOk result (AppendsData (IsArray (AreEach (IsSeriesData epoch query.now) (first.entry ∷ others.entry)))
+        (string_bytes text.old) (string_bytes text.new)) }
 {
     let head = series_head(alloc, query)?;
     let mut times = Times::new(alloc, epoch);
@@ -75,7 +77,8 @@ fn push_rows<A: Allocator>(
     rows: &Rows<'_, A>,
     number: usize,
 ) -> Result<(), AllocError>
-    ensures { OnOk result (AppendsData (IsResultData epoch number (rows_outcome rows.now)) (string_bytes text.old) (string_bytes text.new)) }
+    ensures { OnOk result (AppendsData
+        (IsResultData epoch number (rows_outcome rows.now)) (string_bytes text.old) (string_bytes text.new)) }
 {
     let mut groups = rows.groups();
     match groups.next() {
@@ -98,7 +101,8 @@ fn push_result<A: Allocator>(
     outcome: &Outcome<'_, A>,
     number: usize,
 ) -> Result<(), AllocError>
-    ensures { OnOk result (AppendsData (IsResultData epoch number (outcome_view outcome.now)) (string_bytes text.old) (string_bytes text.new)) }
+    ensures { OnOk result (AppendsData
+        (IsResultData epoch number (outcome_view outcome.now)) (string_bytes text.old) (string_bytes text.new)) }
 {
     match outcome {
         Outcome::Rows(rows) => push_rows(alloc, text, epoch, rows, number),
@@ -133,7 +137,8 @@ fn push_results<A: Allocator>(
     number: usize,
 ) -> Result<(), AllocError>
     requires { number + length outcomes.now < 2 ^ 64 }
-    ensures { OnOk result (AppendsItems (AreResults epoch number (map outcome_view outcomes.now)) (nat_lt 0 number) (string_bytes text.old) (string_bytes text.new)) }
+    ensures { OnOk result (AppendsItems (AreResults epoch number (map outcome_view outcomes.now))
+        (nat_lt 0 number) (string_bytes text.old) (string_bytes text.new)) }
 {
     match outcomes.split_first() {
         None => text.push_str("]"),

@@ -49,7 +49,8 @@ impl Times {
         text: &mut String,
         nanos: &i128,
     ) -> Result<(), AllocError>
-        ensures value { OnOk result (AppendsData (IsTimeData self.old nanos.now) (string_bytes text.old) (string_bytes text.new)) }
+        ensures value { OnOk result
+            (AppendsData (IsTimeData self.old nanos.now) (string_bytes text.old) (string_bytes text.new)) }
         ensures same { self.new ≡ self.old }
     {
         if self.last == Some(*nanos) {

@@ -16,7 +16,8 @@ fn push_values<A: Allocator>(
     text: &mut String,
     values: Values<'_, A>,
 ) -> Result<(), AllocError>
-    ensures { OnOk result (string_bytes text.new ≡ string_bytes text.old ++ items_text true (items_of (map value_data values.entry))) }
+    ensures { OnOk result
+        (string_bytes text.new ≡ string_bytes text.old ++ items_text true (items_of (map value_data values.entry))) }
 {
     for value in values {
         text.push_str(",")?;
@@ -32,7 +33,8 @@ fn push_row<A: Allocator>(
     times: &mut Times,
     row: &FilledRow<'_, A>,
 ) -> Result<(), AllocError>
-    ensures value { OnOk result (AppendsData (IsRowData times.old row.now) (string_bytes text.old) (string_bytes text.new)) }
+    ensures value { OnOk result
+        (AppendsData (IsRowData times.old row.now) (string_bytes text.old) (string_bytes text.new)) }
     ensures same { times.new ≡ times.old }
 {
     text.push_str("[")?;
@@ -47,7 +49,8 @@ fn push_more_rows<A: Allocator>(
     times: &mut Times,
     rows: FilledRows<'_, A>,
 ) -> Result<(), AllocError>
-    ensures value { OnOk result (AppendsItems (AreEach (IsRowData times.old) rows.entry) true (string_bytes text.old) (string_bytes text.new)) }
+    ensures value { OnOk result
+        (AppendsItems (AreEach (IsRowData times.old) rows.entry) true (string_bytes text.old) (string_bytes text.new)) }
     ensures same { times.new ≡ times.old }
 {
     for row in rows {
@@ -64,7 +67,8 @@ pub(crate) fn push_group_rows<A: Allocator>(
     times: &mut Times,
     mut rows: FilledRows<'_, A>,
 ) -> Result<(), AllocError>
-    ensures value { OnOk result (AppendsData (IsArray (AreEach (IsRowData times.old) rows.entry)) (string_bytes text.old) (string_bytes text.new)) }
+    ensures value { OnOk result (AppendsData
+        (IsArray (AreEach (IsRowData times.old) rows.entry)) (string_bytes text.old) (string_bytes text.new)) }
     ensures same { times.new ≡ times.old }
 {
     match rows.next() {

@@ -53,7 +53,8 @@ fn insert_tags<A: Allocator>(
     tags: &[String<A>],
     mut values: GroupValuesIter<'_, '_>,
 ) -> Result<(), AllocError>
-    ensures { OnOk result (members_view members.new.entries ≡ tags_among (members_view members.old.entries) (texts tags.now) values.entry) }
+    ensures { OnOk result (members_view members.new.entries
+        ≡ tags_among (members_view members.old.entries) (texts tags.now) values.entry) }
 {
     for tag in tags {
         let Some(value) = values.next() else {
@@ -76,7 +77,8 @@ fn push_tag_map<A: Allocator>(
     tags: &[String<A>],
     values: &GroupValues<'_, '_>,
 ) -> Result<(), AllocError>
-    ensures { OnOk result (string_bytes text.new ≡ string_bytes text.old ++ compact_text (object (tags_among no_members (texts tags.now) values.now))) }
+    ensures { OnOk result (string_bytes text.new
+        ≡ string_bytes text.old ++ compact_text (object (tags_among no_members (texts tags.now) values.now))) }
 {
     let mut members = Map::new(alloc);
     insert_tags(&mut members, alloc, tags, values.iter())?;
@@ -85,7 +87,8 @@ fn push_tag_map<A: Allocator>(
 
 /// Appends one tag with its value as a JSON object.
 fn push_tag(alloc: Global, text: &mut String, tag: &str, value: &str) -> Result<(), AllocError>
-    ensures { OnOk result (string_bytes text.new ≡ string_bytes text.old ++ compact_text (object (member tag.now (string value.now) no_members))) }
+    ensures { OnOk result (string_bytes text.new
+        ≡ string_bytes text.old ++ compact_text (object (member tag.now (string value.now) no_members))) }
 {
     text.push_str("{")?;
     push_quoted(alloc, text, tag)?;
@@ -101,7 +104,8 @@ fn push_tags<A: Allocator>(
     tags: &[String<A>],
     values: &GroupValues<'_, '_>,
 ) -> Result<(), AllocError>
-    ensures { OnOk result (string_bytes text.new ≡ string_bytes text.old ++ grouped_tags_text (texts tags.now) values.now) }
+    ensures { OnOk result
+        (string_bytes text.new ≡ string_bytes text.old ++ grouped_tags_text (texts tags.now) values.now) }
 {
     if tags.is_empty() {
         return Ok(());
@@ -123,7 +127,8 @@ pub(crate) fn push_group<A: Allocator>(
     group: FilledGroup<'_, '_, A>,
 ) -> Result<(), AllocError>
     requires { head.now ≡ series_head query.now }
-    ensures value { OnOk result (AppendsData (IsSeriesData times.old query.now group.entry) (string_bytes text.old) (string_bytes text.new)) }
+    ensures value { OnOk result
+        (AppendsData (IsSeriesData times.old query.now group.entry) (string_bytes text.old) (string_bytes text.new)) }
     ensures same { times.new ≡ times.old }
 {
     text.push_str(head)?;

@@ -51,7 +51,8 @@ pub(crate) fn push_cell(
 
 /// Returns the time of this many nanoseconds, or `None` if it isn't valid.
 fn valid_time(nanos: &i128) -> Option<Time>
-    ensures { MatchOption result (is_valid_time nanos.now ≡ false) (λ t. (t ≡ nanos.now) × (is_valid_time nanos.now ≡ true)) }
+    ensures { MatchOption result (is_valid_time nanos.now ≡ false)
+        (λ t. (t ≡ nanos.now) × (is_valid_time nanos.now ≡ true)) }
 {
     match i64::try_from(*nanos) {
         Ok(nanos) => Time::new(nanos),
@@ -61,7 +62,8 @@ fn valid_time(nanos: &i128) -> Option<Time>
 
 /// Appends a time as RFC 3339 text, or as nanoseconds if it isn't valid.
 fn push_time_text(alloc: Global, text: &mut String, nanos: &i128) -> Result<(), AllocError>
-    ensures { OnOk result (AppendsData (IsTextOrCount (is_valid_time nanos.now) nanos.now) (string_bytes text.old) (string_bytes text.new)) }
+    ensures { OnOk result (AppendsData
+        (IsTextOrCount (is_valid_time nanos.now) nanos.now) (string_bytes text.old) (string_bytes text.new)) }
 {
     match valid_time(nanos) {
         Some(time) => {

@@ -35,7 +35,8 @@ lines_to_come reading input = pending reading.ahead input
 
 -- the bytes are these lines, each with its LF, whatever follows
 abbrev pub AreEnded : List ℕ → List (List ℕ) → Type 0
-AreEnded bytes lines = (more : List ℕ) → (lines_of (bytes ++ more) ≡ lines ++ lines_of more) × (ended_lines (bytes ++ more) ≡ lines ++ ended_lines more)
+AreEnded bytes lines = (more : List ℕ)
+    → (lines_of (bytes ++ more) ≡ lines ++ lines_of more) × (ended_lines (bytes ++ more) ≡ lines ++ ended_lines more)
 
 -- the bytes are these lines, each with its LF, or the last to the end of input
 abbrev pub AreLines : Bool → List ℕ → List (List ℕ) → Type 0
@@ -81,10 +82,12 @@ pub record TakesBuffered (old : ReaderState) (lf : Bool) (new : ReaderState) : T
 
 -- and these are the next bytes of the line
 abbrev pub IsLonger : ReaderState → ReaderState → Type 0
-IsLonger old new = (before : List ℕ) → LineIs before old.line old.long → LineIs (before ++ first_line old.ahead.buffered) new.line new.long
+IsLonger old new = (before : List ℕ)
+    → LineIs before old.line old.long → LineIs (before ++ first_line old.ahead.buffered) new.line new.long
 
 -- the calls of the source between two states of the read buffer
-pub record CallsReader {T : Type 0} (old : Ahead) (source : Input) (result : Result T ReadFault) (new : Ahead) (source' : Input) : Type 0 where
+pub record CallsReader {T : Type 0}
+    (old : Ahead) (source : Input) (result : Result T ReadFault) (new : Ahead) (source' : Input) : Type 0 where
   pub end : EndIsOver new source'
   pub stays : OnErr result (new.ended ≡ false)
   pub allowed : new.limit ≡ old.limit
@@ -96,7 +99,8 @@ pub record CallsReader {T : Type 0} (old : Ahead) (source : Input) (result : Res
   pub each : EachReadCounts source source'
 
 -- one read; it returns false at the end of input
-pub record IsReadOn (old : ReaderState) (source : Input) (result : Result Bool ReadFault) (new : ReaderState) (source' : Input) : Type 0 where
+pub record IsReadOn (old : ReaderState)
+    (source : Input) (result : Result Bool ReadFault) (new : ReaderState) (source' : Input) : Type 0 where
   pub bytes : Keeps (lines_to_come old source) (lines_to_come new source')
   pub none : OnErr result (new.ahead.buffered ≡ [])
   pub more : IfOk result (λ more. more ≡ not new.ahead.ended)
@@ -106,10 +110,12 @@ pub record IsReadOn (old : ReaderState) (source : Input) (result : Result Bool R
   pub less : OnOk result (weight new.ahead < weight old.ahead)
 
 -- the next line: its bytes are consumed with its LF, or to the end of input
-pub record IsNext (old : ReaderState) (source : Input) (next : Next) (new : ReaderState) (source' : Input) : Type 0 where
+pub record IsNext (old : ReaderState)
+    (source : Input) (next : Next) (new : ReaderState) (source' : Input) : Type 0 where
   pub bytes : List ℕ
   pub came : Consumes (lines_to_come old source) (lines_to_come new source') bytes
-  pub line : next ≢ End → (old.ahead.ended ≡ false) × ((text : List ℕ) × IsTextOf text next new.line × AreLines new.ahead.ended bytes (text ∷ []))
+  pub line : next ≢ End → (old.ahead.ended ≡ false)
+      × ((text : List ℕ) × IsTextOf text next new.line × AreLines new.ahead.ended bytes (text ∷ []))
   pub over : next ≡ End → (bytes ≡ []) × (new.ahead.ended ≡ true)
 
 -- a fault in a line: the bytes of it that were read have no LF, nor is one buffered

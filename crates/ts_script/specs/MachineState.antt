@@ -39,11 +39,13 @@ pub record IsMachineIn (s : State) (m : MachineState) : Type 0 where
 
 -- in this state, queries have a reply with this body, here with an LF
 abbrev pub HasReply : State → Text → Option Text → Text → Type 0
-HasReply s text certificate answer = (body : Text) × ((good : Bool) × IsReply s.store.opening s.store.history s.moment text certificate s.epoch good body) × (answer ≡ line body)
+HasReply s text certificate answer = (body : Text) × ((good : Bool)
+    × IsReply s.store.opening s.store.history s.moment text certificate s.epoch good body) × (answer ≡ line body)
 
 -- in this state, queries have an explanation with this body, here with an LF
 abbrev pub HasExplanation : State → Text → Text → Type 0
-HasExplanation s text answer = (body : Text) × ((good : Bool) × IsExplanation s.store.opening s.store.history s.moment text good body) × (answer ≡ line body)
+HasExplanation s text answer = (body : Text)
+    × ((good : Bool) × IsExplanation s.store.opening s.store.history s.moment text good body) × (answer ≡ line body)
 
 -- from this state, the machine represents a state that the command may lead to
 abbrev pub TransitionTo : Command → State → Text → MachineState → Type 0
@@ -109,6 +111,14 @@ coded_epoch = code_by (Option TimeUnit) (coded_option coded_unit) epoch_unit epo
 abbrev pub coded_machine_state : Coded MachineState
 coded_machine_state =
     code_by (ℤ × (TimeUnit × (Epoch × (Bool × (Option Text × StoreData)))))
-    (coded× coded_ℤ (coded× coded_unit (coded× coded_epoch (coded× coded_bool (coded× (coded_option coded_text) coded_store_data)))))
+    (coded× coded_ℤ (coded× coded_unit
+    (coded× coded_epoch (coded× coded_bool (coded× (coded_option coded_text) coded_store_data)))))
     (λ m. (m.moment, (m.precision, (m.epoch, (m.fresh, (m.certificate, m.kept))))))
-    (λ p. record { moment = p.0; precision = p.1.0; epoch = p.1.1.0; fresh = p.1.1.1.0; certificate = p.1.1.1.1.0; kept = p.1.1.1.1.1 }) (λ _. refl)
+    (λ p. record {
+      moment = p.0;
+      precision = p.1.0;
+      epoch = p.1.1.0;
+      fresh = p.1.1.1.0;
+      certificate = p.1.1.1.1.0;
+      kept = p.1.1.1.1.1;
+    }) (λ _. refl)

@@ -26,7 +26,8 @@ abbrev pub marks_text : Settings → Marks → Text
 marks_text s m = raw_text m.raw ++ lows_text s.rules m.lows
 
 -- a call that appends a text of at most `most` bytes: it doesn't allocate if the string has that capacity
-pub record IsAppendedWithin {A T E : Type 0} (most : ℕ) (text : Text) (old new : String A) (result : Result T E) : Type 0 where
+pub record IsAppendedWithin {A T E : Type 0}
+    (most : ℕ) (text : Text) (old new : String A) (result : Result T E) : Type 0 where
   pub ok : OnOk result (string_bytes new ≡ string_bytes old ++ text)
   pub long : OnOk result (string_len new ≤ string_len old + most)
   pub spare : string_len old + most ≤ string_capacity old → IsOk result

@@ -17,4 +17,5 @@ number_len text = position_or_len (λ b. not (b == 45 || is_ascii_digit b)) text
 
 -- the time of a number with a unit
 unfoldable pub moment_of : Text → Option ℤ
-moment_of text = option_and_then (λ unit. moment_in (nanoseconds_of unit) (take (number_len text) text)) (moment_unit_of (drop (number_len text) text))
+moment_of text = option_and_then (λ unit. moment_in (nanoseconds_of unit) (take (number_len text) text))
+    (moment_unit_of (drop (number_len text) text))

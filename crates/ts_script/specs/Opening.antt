@@ -15,6 +15,7 @@ IsNew text store = (settings : Settings) × (settings_read text ≡ Ok settings)
 
 -- an empty store with the settings of the text, or their first error, or out of memory
 abbrev pub IsOpening : Text → Result StoreData SettingsError → Type 0
-IsOpening text (Ok k) = (settings : Settings) × (settings_read text ≡ Ok settings) × IsStateOf (opened settings) k × (inventory_of k ≡ new_inventory settings)
+IsOpening text (Ok k) = (settings : Settings)
+    × (settings_read text ≡ Ok settings) × IsStateOf (opened settings) k × (inventory_of k ≡ new_inventory settings)
 IsOpening text (Err (Fault fault)) = settings_read text ≡ Err fault
 IsOpening text (Err OutOfMemory) = ⊤

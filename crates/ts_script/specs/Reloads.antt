@@ -18,7 +18,8 @@ saved_columns (s ∷ ss) = map (saved_column_named s.series) s.columns ++ saved_
 
 -- The same series are registered, now in the order of their keys. The columns are the same, in the order of series and
 -- field, and the same of them wait, in that order. Empty cells and cells below a low index are gone.
-pub record Reloaded (h : History) (rules : List Rule) (lows : List ℤ) (registered : List Series) (old : Inventory) (kept : List Series) (new : Inventory) : Type 0 where
+pub record Reloaded (h : History) (rules : List Rule)
+    (lows : List ℤ) (registered : List Series) (old : Inventory) (kept : List Series) (new : Inventory) : Type 0 where
   pub order : List SavedSeries
   pub saved : SavesSeries registered old.columns order
   pub series : kept ≡ map saved_key order

@@ -40,7 +40,8 @@ pub record HasRead (source : Input) (came : Text) (ended : Bool) (source' : Inpu
   pub ends : source'.ends ≡ source.ends + bit ended
 
 -- the effect on its devices of a replay that reads at most `reads` times, with this result
-pub record IsReplay {T : Type 0} (reads : ℕ) (source : Input) (sink : Output) (result : Result T RunFault) (source' : Input) (sink' : Output) : Type 0 where
+pub record IsReplay {T : Type 0} (reads : ℕ)
+    (source : Input) (sink : Output) (result : Result T RunFault) (source' : Input) (sink' : Output) : Type 0 where
   -- the bytes that were read, and a flag that is true if the end of input was read; without a fault it was
   pub came : Text
   pub ended : Bool

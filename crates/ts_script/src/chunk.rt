@@ -25,7 +25,8 @@ pub(crate) fn extend_line(line: &mut Vec<u8>, long: bool, bytes: &[u8]) -> bool
     requires short { vec_len line.old ≤ script_line_limit }
     ensures spare { script_line_limit ≤ vec_capacity line.new }
     ensures short { vec_len line.new ≤ script_line_limit }
-    ensures line { (before : List ℕ) → LineIs before line.old.items long → LineIs (before ++ bytes.now) line.new.items result }
+    ensures line { (before : List ℕ)
+        → LineIs before line.old.items long → LineIs (before ++ bytes.now) line.new.items result }
 {
     if long {
         return true;

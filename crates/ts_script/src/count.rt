@@ -33,7 +33,8 @@ pub(crate) fn count(
     to: Time,
 ) -> Reply
     requires { from <ℤ to }
-    ensures { OfEachHistory store.now (λ opening h. Counts opening h measurement.now field.now from to (text_of result)) }
+    ensures { OfEachHistory store.now
+        (λ opening h. Counts opening h measurement.now field.now from to (text_of result)) }
 {
     let counted = ts_reply::count(alloc, store, measurement, field, from, to);
     count_reply(counted)

@@ -29,7 +29,8 @@ const READ_LIMIT: u64 = 4_294_967_296;
 /// Answers the line that was read last.
 fn answer(machine: &mut Machine, next: Next, line: &[u8]) -> Reply
     requires { length line.now ≤ script_line_limit }
-    ensures { (text : Text) (s : State) → IsTextOf text next line.now → IsMachineIn s machine.old → StepTo text s (text_of result) machine.new }
+    ensures { (text : Text) (s : State)
+        → IsTextOf text next line.now → IsMachineIn s machine.old → StepTo text s (text_of result) machine.new }
 {
     match next {
         Next::End => Reply::Nothing,

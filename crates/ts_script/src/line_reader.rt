@@ -44,7 +44,10 @@ impl Model for LineReader {
 
     ghost view = { λ r. record { ahead = r.ahead; line = line_so_far r.ahead.used r.borrowed r.line.items; long = r.long } };
 
-    ghost invariant = { λ r. (r.ahead.reads ≤ r.ahead.limit) × (script_line_limit ≤ vec_capacity r.line) × (vec_len r.line ≤ script_line_limit) × IsLineEnd r.ahead.buffered r.end × IfSome r.borrowed (λ borrowed. (borrowed.0 ≤ borrowed.1) × (borrowed.1 ≤ length r.ahead.used)) × (length (line_so_far r.ahead.used r.borrowed r.line.items) ≤ script_line_limit) };
+    ghost invariant = { λ r. (r.ahead.reads ≤ r.ahead.limit) × (script_line_limit ≤ vec_capacity r.line)
+        × (vec_len r.line ≤ script_line_limit) × IsLineEnd r.ahead.buffered r.end
+        × IfSome r.borrowed (λ borrowed. (borrowed.0 ≤ borrowed.1) × (borrowed.1 ≤ length r.ahead.used))
+        × (length (line_so_far r.ahead.used r.borrowed r.line.items) ≤ script_line_limit) };
 }
 
 impl LineReader {

@@ -50,7 +50,14 @@ impl Model for Machine {
 
     ghost coded = { coded_machine_state };
 
-    ghost view = { λ m. record { moment = m.moment; precision = m.precision; epoch = m.epoch; fresh = m.fresh; certificate = option_map string_bytes m.certificate; kept = m.store } };
+    ghost view = { λ m. record {
+      moment = m.moment;
+      precision = m.precision;
+      epoch = m.epoch;
+      fresh = m.fresh;
+      certificate = option_map string_bytes m.certificate;
+      kept = m.store;
+    } };
 }
 
 impl Machine {
@@ -100,7 +107,8 @@ impl Machine {
 
     /// Executes a command.
     fn apply(&mut self, command: Command<'_>) -> Reply
-        ensures { (s : State) → IsMachineIn s self.old → TransitionTo (command_view command.entry) s (text_of result) self.new }
+        ensures { (s : State)
+            → IsMachineIn s self.old → TransitionTo (command_view command.entry) s (text_of result) self.new }
     {
         match command {
             Command::SetSettings(text) => self.set_settings(text),
@@ -141,7 +149,8 @@ impl Machine {
     /// Replaces the store by an empty one with the settings of a text, or replies with their first error. Not a command
     /// once a line that isn't skipped has come.
     fn set_settings(&mut self, text: &str) -> Reply
-        ensures { (s : State) → IsMachineIn s self.old → TransitionTo (SettingsCommand text.now) s (text_of result) self.new }
+        ensures { (s : State)
+            → IsMachineIn s self.old → TransitionTo (SettingsCommand text.now) s (text_of result) self.new }
     {
         if !self.fresh {
             return Reply::Unknown;
@@ -225,7 +234,8 @@ impl Machine {
     /// Adds the rule of a text, and replies with its name and low index. Allocates the text of these before the rule is
     /// added.
     fn add_rule(&mut self, text: &str) -> Reply
-        ensures { (s : State) → IsMachineIn s self.old → TransitionTo (AddRuleCommand text.now) s (text_of result) self.new }
+        ensures { (s : State)
+            → IsMachineIn s self.old → TransitionTo (AddRuleCommand text.now) s (text_of result) self.new }
     {
         match String::with_capacity(self.alloc, RULE_CAPACITY) {
             Ok(reply) => self.add_and_tell(text, reply),
@@ -237,7 +247,8 @@ impl Machine {
     fn add_and_tell(&mut self, text: &str, reply: String) -> Reply
         requires empty { string_len reply ≡ 0 }
         requires spare { RULE_CAPACITY ≤ string_capacity reply }
-        ensures { (s : State) → IsMachineIn s self.old → TransitionTo (AddRuleCommand text.now) s (text_of result) self.new }
+        ensures { (s : State)
+            → IsMachineIn s self.old → TransitionTo (AddRuleCommand text.now) s (text_of result) self.new }
     {
         match self.store.add_rule_text(self.alloc, self.alloc, text) {
             Ok(added) => Reply::Body(rule_line(reply, added.name.as_str(), added.low)),
@@ -248,7 +259,8 @@ impl Machine {
 
     /// Drops the rule with a name.
     fn drop_rule(&mut self, name: &str) -> Reply
-        ensures { (s : State) → IsMachineIn s self.old → TransitionTo (DropRuleCommand name.now) s (text_of result) self.new }
+        ensures { (s : State)
+            → IsMachineIn s self.old → TransitionTo (DropRuleCommand name.now) s (text_of result) self.new }
     {
         if self.store.drop_rule(name).is_err() {
             return Reply::UnknownRule;
@@ -267,7 +279,8 @@ impl Machine {
 
     /// Sets the certificate of the next query.
     fn set_certificate(&mut self, text: &str) -> Reply
-        ensures { (s : State) → IsMachineIn s self.old → TransitionTo (CertificateCommand text.now) s (text_of result) self.new }
+        ensures { (s : State)
+            → IsMachineIn s self.old → TransitionTo (CertificateCommand text.now) s (text_of result) self.new }
     {
         match with_line_feeds(self.alloc, text) {
             Ok(certificate) => {
@@ -280,7 +293,8 @@ impl Machine {
 
     /// Answers queries. If a certificate is set, answers by it and clears it.
     fn query(&mut self, text: &str) -> Reply
-        ensures { (s : State) → IsMachineIn s self.old → TransitionTo (QueryCommand text.now) s (text_of result) self.new }
+        ensures { (s : State)
+            → IsMachineIn s self.old → TransitionTo (QueryCommand text.now) s (text_of result) self.new }
     {
         let certificate = self.certificate.take();
         match self.reply(text, certificate.as_deref()) {
@@ -291,7 +305,8 @@ impl Machine {
 
     /// Returns the body of the reply to queries, with an LF.
     fn reply(&self, text: &str, certificate: Option<&str>) -> Result<String, AllocError>
-        ensures { IfOk result (λ body. (s : State) → IsMachineIn s self.now → HasReply s text.now (given_text certificate.entry) (string_bytes body)) }
+        ensures { IfOk result (λ body. (s : State)
+            → IsMachineIn s self.now → HasReply s text.now (given_text certificate.entry) (string_bytes body)) }
     {
         let reply = answer(
             self.alloc,
@@ -307,7 +322,8 @@ impl Machine {
 
     /// Answers queries with their plans.
     fn explain(&self, text: &str) -> Reply
-        ensures { (s : State) → IsMachineIn s self.now → TransitionTo (ExplainCommand text.now) s (text_of result) self.now }
+        ensures { (s : State)
+            → IsMachineIn s self.now → TransitionTo (ExplainCommand text.now) s (text_of result) self.now }
     {
         match self.explanation(text) {
             Ok(body) => Reply::Body(body),
@@ -317,7 +333,8 @@ impl Machine {
 
     /// Returns the body of the explanation of queries, with an LF.
     fn explanation(&self, text: &str) -> Result<String, AllocError>
-        ensures { IfOk result (λ body. (s : State) → IsMachineIn s self.now → HasExplanation s text.now (string_bytes body)) }
+        ensures { IfOk result (λ body. (s : State)
+            → IsMachineIn s self.now → HasExplanation s text.now (string_bytes body)) }
     {
         let now = self.moment;
         let reply = explain(self.alloc, self.alloc, &self.store, now, text)?;
@@ -326,7 +343,8 @@ impl Machine {
 
     /// Counts the values of a field from one time, inclusive, to another, exclusive.
     fn count(&self, measurement: &str, field: &str, from: Time, to: Time) -> Reply
-        ensures { (s : State) → IsMachineIn s self.now → TransitionTo (CountCommand measurement.now field.now from to) s (text_of result) self.now }
+        ensures { (s : State) → IsMachineIn s self.now
+            → TransitionTo (CountCommand measurement.now field.now from to) s (text_of result) self.now }
     {
         if from < to {
             count(self.alloc, &self.store, measurement, field, from, to)
@@ -337,7 +355,8 @@ impl Machine {
 
     /// Writes a line, whose parts are in the arena; resets the arena for the next line.
     fn write(&mut self, text: &str) -> Reply
-        ensures { (s : State) → IsMachineIn s self.old → TransitionTo (WriteCommand text.now) s (text_of result) self.new }
+        ensures { (s : State)
+            → IsMachineIn s self.old → TransitionTo (WriteCommand text.now) s (text_of result) self.new }
     {
         let written = self
             .store

@@ -50,7 +50,8 @@ impl<A: Allocator> Model for Rollup<A> {
 
     ghost view = { λ r. record { grid = r.cells; series_of_column = r.series_of_column.items; next = r.next } };
 
-    ghost invariant = { λ r. IsRollup r.cells.rollup_series r.series_of_column.items (lists_in r.columns.items) r.next (has_spare r.series_of_column) (capacities_in r.columns.items) };
+    ghost invariant = { λ r. IsRollup r.cells.rollup_series r.series_of_column.items
+        (lists_in r.columns.items) r.next (has_spare r.series_of_column) (capacities_in r.columns.items) };
 }
 
 /// Creates empty rollups for this number of rules, with a seed of the hashes of their names.
@@ -132,7 +133,8 @@ fn add_frozen<A: Allocator + Copy>(
     requires series { series < length cells.old.rollup_series }
     requires absent { finmap.get cells.old.cells (cell_in cells.old.rollup_series index.now series) ≡ None }
     ensures kept { cells.new.rollup_series ≡ cells.old.rollup_series }
-    ensures ok { OnOk result (cells.new.cells ≡ finmap.insert cells.old.cells (cell_in cells.old.rollup_series index.now series) (record { frozen = frozen; live = empty_aggregate })) }
+    ensures ok { OnOk result (cells.new.cells ≡ finmap.insert cells.old.cells
+        (cell_in cells.old.rollup_series index.now series) (record { frozen = frozen; live = empty_aggregate })) }
     ensures err { OnErr result (cells.new.cells ≡ cells.old.cells) }
 {
     cells.make_room(index, series)?;
@@ -193,7 +195,8 @@ impl<A: Allocator + Copy> Rollup<A> {
     /// Creates the cell of a column in a bucket unless it exists. Does nothing if the column is of another measurement.
     pub(crate) fn make_room(&mut self, column: ColumnId, index: &i128) -> Result<(), AllocError>
         requires { column < length self.old.series_of_column }
-        ensures ok { OnOk result (self.new ≡ with_grid_cells (cell_created_in self.old (rollup_series_at self.old column) index.now) self.old) }
+        ensures ok { OnOk result (self.new
+            ≡ with_grid_cells (cell_created_in self.old (rollup_series_at self.old column) index.now) self.old) }
         ensures err { OnErr result (self.new ≡ self.old) }
     {
         match self.series_of_column[column.number()] {
@@ -209,7 +212,8 @@ impl<A: Allocator + Copy> Rollup<A> {
         index: &i128,
     ) -> Result<(), AllocError>
         requires { series < length self.old.grid.rollup_series }
-        ensures ok { OnOk result (self.new ≡ with_grid_cells (cell_created_in self.old (Some series) index.now) self.old) }
+        ensures ok { OnOk result
+            (self.new ≡ with_grid_cells (cell_created_in self.old (Some series) index.now) self.old) }
         ensures err { OnErr result (self.new ≡ self.old) }
     {
         self.cells.make_room(index, series)
@@ -224,10 +228,12 @@ impl<A: Allocator + Copy> Rollup<A> {
         group: &[&str],
         frozen: Agg,
     ) -> Result<(), AllocError>
-        requires absent { finmap.get self.old.grid.cells (cell_at index.now (rollup_series_named field.now group.now)) ≡ None }
+        requires absent { finmap.get self.old.grid.cells
+            (cell_at index.now (rollup_series_named field.now group.now)) ≡ None }
         ensures made { Extends self.old.grid.rollup_series self.new.grid.rollup_series }
         ensures kept { self.new.series_of_column ≡ self.old.series_of_column }
-        ensures ok { OnOk result (self.new.grid.cells ≡ finmap.insert self.old.grid.cells (cell_at index.now (rollup_series_named field.now group.now)) (record { frozen = frozen; live = empty_aggregate })) }
+        ensures ok { OnOk result (self.new.grid.cells ≡ finmap.insert self.old.grid.cells (cell_at index.now
+            (rollup_series_named field.now group.now)) (record { frozen = frozen; live = empty_aggregate })) }
         ensures err { OnErr result (self.new.grid.cells ≡ self.old.grid.cells) }
     {
         self.next = None;
@@ -247,7 +253,8 @@ impl<A: Allocator + Copy> Rollup<A> {
     /// Returns the live part of the cell of a bucket in a rollup series, if the cell exists.
     pub(crate) fn live(&self, index: &i128, series: RollupSeriesId) -> Option<Agg>
         requires { series < length self.now.grid.rollup_series }
-        ensures { result ≡ option_map live_part (finmap.get self.now.grid.cells (cell_in self.now.grid.rollup_series index.now series)) }
+        ensures { result ≡ option_map live_part
+            (finmap.get self.now.grid.cells (cell_in self.now.grid.rollup_series index.now series)) }
     {
         let parts = self.cells.get(index, series)?;
         Some(parts.live)
@@ -298,7 +305,8 @@ impl<A: Allocator + Copy> Rollup<A> {
     /// field and group. Does not allocate.
     pub(crate) fn walk(&self, from: &i128, to: &i128) -> Walk<'_, Parts<Agg>, A>
         ensures entries { map entry_of result ≡ entries_within from.now to.now self.now.grid.cells }
-        ensures numbers { AllByRecursion (λ k. IsAt self.now.grid.rollup_series k.series (rollup_series_of k.cell)) result }
+        ensures numbers { AllByRecursion
+            (λ k. IsAt self.now.grid.rollup_series k.series (rollup_series_of k.cell)) result }
     {
         self.cells.walk(from, to)
     }

@@ -25,12 +25,15 @@ outcome_of (Ok x) = Answered
 outcome_of (Err fault) = Stopped fault
 
 abbrev pub IsReplayed : Input → Output → CallOutcome → Input → Output → Type 0
-IsReplayed source sink outcome source' sink' = (result : Result ⊤ RunFault) × (outcome ≡ outcome_of result) × IsReplay read_limit source sink result source' sink'
+IsReplayed source sink outcome source' sink' =
+    (result : Result ⊤ RunFault) × (outcome ≡ outcome_of result) × IsReplay read_limit source sink result source' sink'
 
 -- The rows are printed, or a prefix of them if the device fails. There may be none, or the call runs out of memory.
 abbrev pub PrintsFaults : Text → Output → CallOutcome → Output → Type 0
-PrintsFaults table old (NoScript cli_outcome.Done) new = (table ≢ []) × Appends old.contents new.contents table × (new.failures ≡ old.failures)
-PrintsFaults table old (NoScript cli_outcome.Device) new = (table ≢ []) × AppendsFront old.contents new.contents table × (new.failures ≡ old.failures + 1)
+PrintsFaults table old (NoScript cli_outcome.Done) new =
+    (table ≢ []) × Appends old.contents new.contents table × (new.failures ≡ old.failures)
+PrintsFaults table old (NoScript cli_outcome.Device) new =
+    (table ≢ []) × AppendsFront old.contents new.contents table × (new.failures ≡ old.failures + 1)
 PrintsFaults table old (NoScript cli_outcome.OutOfMemory) new = new ≡ old
 PrintsFaults table old NoFault new = (table ≡ []) × (new ≡ old)
 PrintsFaults table old other new = ⊥
@@ -38,12 +41,17 @@ PrintsFaults table old other new = ⊥
 -- a call with this command line may have this outcome, and leave this of its source and its sink
 abbrev pub Executes : Result Action Error → Input → Output → Answer → Input → Output → Type 0
 Executes (Ok Replay) source sink (answer.Outcome outcome) source' sink' = IsReplayed source sink outcome source' sink'
-Executes (Ok (Faults number)) source sink (answer.Outcome outcome) source' sink' = PrintsFaults (fault_table (given_text number)) sink outcome sink' × (source' ≡ source)
-Executes (Ok (Inspect inspection)) source sink (answer.Inspection inspection') source' sink' = (inspection' ≡ inspection) × (source' ≡ source) × (sink' ≡ sink)
-Executes (Ok (Serve service)) source sink (answer.Service service') source' sink' = (service' ≡ service) × (source' ≡ source) × (sink' ≡ sink)
-Executes (Err error) source sink (answer.Outcome (NoScript cli_outcome)) source' sink' = IsPrintedAs (outcome_of_kind (kind_of error)) cli_outcome × (source' ≡ source) × (sink' ≡ sink)
+Executes (Ok (Faults number)) source sink (answer.Outcome outcome) source' sink' =
+    PrintsFaults (fault_table (given_text number)) sink outcome sink' × (source' ≡ source)
+Executes (Ok (Inspect inspection)) source sink (answer.Inspection inspection') source' sink' =
+    (inspection' ≡ inspection) × (source' ≡ source) × (sink' ≡ sink)
+Executes (Ok (Serve service)) source sink (answer.Service service') source' sink' =
+    (service' ≡ service) × (source' ≡ source) × (sink' ≡ sink)
+Executes (Err error) source sink (answer.Outcome (NoScript cli_outcome)) source' sink' =
+    IsPrintedAs (outcome_of_kind (kind_of error)) cli_outcome × (source' ≡ source) × (sink' ≡ sink)
 Executes _ source sink answer source' sink' = ⊥
 
 -- the same for a call with these words, of which the first is the program's name
 abbrev pub IsCall : List Text → Input → Output → Answer → Input → Output → Type 0
-IsCall words source sink answer source' sink' = (result : Result Action Error) × ParsesAs words result × Executes result source sink answer source' sink'
+IsCall words source sink answer source' sink' =
+    (result : Result Action Error) × ParsesAs words result × Executes result source sink answer source' sink'

@@ -57,16 +57,19 @@ requests_rule = required_rule (codes "REQUESTS") (Some (Unsigned 0 1844674407370
 
 -- `tsdb serve SETTINGS IMAGE PORT REQUESTS`
 abbrev pub serve_app : App
-serve_app = fold with_rule (new_app (codes "serve")) (settings_rule ∷ image_argument_rule ∷ port_rule ∷ requests_rule ∷ [])
+serve_app =
+    fold with_rule (new_app (codes "serve")) (settings_rule ∷ image_argument_rule ∷ port_rule ∷ requests_rule ∷ [])
 
 -- `tsdb`, which requires a subcommand and knows its version
 abbrev pub tsdb_app : App
 tsdb_app = record (new_app (codes "tsdb")) {
-  top = record (new_app (codes "tsdb")).top { has_version = true; subcommand_required = true; arg_required_else_help = true };
+  top = record
+      (new_app (codes "tsdb")).top { has_version = true; subcommand_required = true; arg_required_else_help = true };
 }
 
 abbrev pub program_app : App
-program_app = fold (λ a sub. with_subcommand a sub.top) tsdb_app (replay_app ∷ faults_app ∷ inspect_app ∷ serve_app ∷ [])
+program_app =
+    fold (λ a sub. with_subcommand a sub.top) tsdb_app (replay_app ∷ faults_app ∷ inspect_app ∷ serve_app ∷ [])
 
 -- an argument as clap sees it; no subcommand takes it too
 abbrev pub IsArgument : Rule → Arg → Type 0
@@ -84,21 +87,26 @@ IsNumberIn bits None n = ⊥
 IsNumberIn bits (Some text) n = ParsesUnsigned {E = ⊤} bits 10 text (Ok n)
 
 abbrev pub IsServiceOf : List Row → Service → Type 0
-IsServiceOf rows service = (first_of (codes "SETTINGS") rows ≡ Some service.settings.now) × (first_of (codes "IMAGE") rows ≡ Some service.image.now)
-    × IsNumberIn 16 (one_of (codes "PORT") rows) service.port × IsNumberIn 64 (one_of (codes "REQUESTS") rows) service.requests
+IsServiceOf rows service = (first_of (codes "SETTINGS") rows ≡ Some service.settings.now)
+    × (first_of (codes "IMAGE") rows ≡ Some service.image.now)
+    × IsNumberIn 16 (one_of (codes "PORT") rows) service.port
+    × IsNumberIn 64 (one_of (codes "REQUESTS") rows) service.requests
 
 -- a flag is true if its value is `true`, and false if it is `false` or missing
 abbrev pub IsFlag : Option Text → Bool → Type 0
-IsFlag value flag = (value ≡ None → flag ≡ false) × (value ≡ Some (codes "true") → flag ≡ true) × (value ≡ Some (codes "false") → flag ≡ false)
+IsFlag value flag = (value ≡ None → flag ≡ false)
+    × (value ≡ Some (codes "true") → flag ≡ true) × (value ≡ Some (codes "false") → flag ≡ false)
 
 abbrev pub IsInspectionOf : List Row → Inspection → Type 0
-IsInspectionOf rows inspection = (first_of (codes "IMAGE") rows ≡ Some inspection.image.now) × IsFlag (one_of (codes "lines") rows) inspection.lines
+IsInspectionOf rows inspection =
+    (first_of (codes "IMAGE") rows ≡ Some inspection.image.now) × IsFlag (one_of (codes "lines") rows) inspection.lines
 
 -- the action that a subcommand requests with the values of its arguments
 abbrev pub IsActionOf : Option (Text × List Row) → Action → Type 0
 IsActionOf None action = ⊥
 IsActionOf (Some (name, rows)) Replay = name ≡ codes "replay"
-IsActionOf (Some (name, rows)) (Faults number) = (name ≡ codes "faults") × (given_text number ≡ first_of (codes "N") rows)
+IsActionOf (Some (name, rows)) (Faults number) =
+    (name ≡ codes "faults") × (given_text number ≡ first_of (codes "N") rows)
 IsActionOf (Some (name, rows)) (Inspect inspection) = (name ≡ codes "inspect") × IsInspectionOf rows inspection
 IsActionOf (Some (name, rows)) (Serve service) = (name ≡ codes "serve") × IsServiceOf rows service
 
@@ -107,7 +115,8 @@ IsActionOf (Some (name, rows)) (Serve service) = (name ≡ codes "serve") × IsS
 abbrev pub ParsesAs : List Text → Result Action Error → Type 0
 ParsesAs words (Ok action) = (fault_of program_app words ≡ []) × IsActionOf (subcommand_of program_app words) action
 ParsesAs words (Err error) = HasKind (fault_of program_app words) error
-    ⊎ ((kind_of error ≡ kind.MissingSubcommand) × ((action : Action) → IsActionOf (subcommand_of program_app words) action → ⊥))
+    ⊎ ((kind_of error ≡ kind.MissingSubcommand)
+    × ((action : Action) → IsActionOf (subcommand_of program_app words) action → ⊥))
 
 -- ---- clap's answers
 

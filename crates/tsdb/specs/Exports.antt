@@ -51,7 +51,8 @@ ends_bare before (byte ∷ bytes) = ends_bare byte bytes
 -- Each name that isn't empty and doesn't end in a backslash is a part of a line as escaped, and is read as the name.
 abbrev pub NamesAreRead : Type 0
 NamesAreRead = (part : NamePart) (name : Text) → 1 ≤ length name → ends_bare 0 name ≡ true
-    → IsWrittenPart (stops_of part) (escaped (stops_of part) name) × (unescaped (stops_of part) (escaped (stops_of part) name) ≡ name)
+    → IsWrittenPart (stops_of part) (escaped (stops_of part) name)
+    × (unescaped (stops_of part) (escaped (stops_of part) name) ≡ name)
 
 -- ---- lines
 
@@ -81,8 +82,11 @@ lines_text k order = flat_map (column_lines k) (flat_map series_columns order)
 
 -- Writes the lines of all raw points in the order of an image. After a device error, a prefix of them was written;
 -- after any other, nothing.
-pub record IsExported {T : Type 0} (k : StoreData) (old : Output) (result : Result T ExportFault) (new : Output) : Type 0 where
-  pub ok : OnOk result ((order : List SavedSeries) × IsOrder k order × Appends old.contents new.contents (lines_text k order))
-  pub device : result ≡ Err faults.Device → (order : List SavedSeries) × IsOrder k order × AppendsFront old.contents new.contents (lines_text k order)
+pub record IsExported {T : Type 0}
+    (k : StoreData) (old : Output) (result : Result T ExportFault) (new : Output) : Type 0 where
+  pub ok : OnOk result ((order : List SavedSeries)
+      × IsOrder k order × Appends old.contents new.contents (lines_text k order))
+  pub device : result ≡ Err faults.Device
+      → (order : List SavedSeries) × IsOrder k order × AppendsFront old.contents new.contents (lines_text k order)
   pub name : result ≡ Err faults.Name → new ≡ old
   pub memory : result ≡ Err faults.OutOfMemory → new ≡ old

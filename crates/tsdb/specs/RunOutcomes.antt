@@ -8,7 +8,8 @@ use Rattle.ts_script.specs.declared.run_fault.RunFault.TheVariants.{OutOfMemory,
 use Rattle.tsdb.specs.declared.outcome.CallOutcome.{CallOutcome}
 use Rattle.tsdb.specs.declared.outcome.CallOutcome.TheVariants.{Answered, Stopped, NoScript, NoFault, NoText, NoSeed}
 
--- 0 for success, 1 for a device error, endless input or no random bytes, 2 for a wrong command line, 3 when out of memory
+-- 0 for success, 1 for a device error, endless input or no random bytes, 2 for a wrong command line, 3 when out of
+-- memory
 abbrev pub status_of : CallOutcome → ℕ
 status_of Answered = 0
 status_of (NoScript cli_outcome.Done) = 0

@@ -11,7 +11,8 @@ use Rattle.ts_http.specs.declared.status.Status.TheVariants as status
 
 -- the store is as before, or one request at this moment was served, whose reply may not have been received
 abbrev pub WentByOne : ℤ → StoreData → StoreData → Type 0
-WentByOne now old new = (new ≡ old) ⊎ ((bytes : Text) × (served : Served) × ServedAs now bytes ⊤ old served new (λ reply. ⊤))
+WentByOne now old new =
+    (new ≡ old) ⊎ ((bytes : Text) × (served : Served) × ServedAs now bytes ⊤ old served new (λ reply. ⊤))
 
 -- one request: the moment at which it was served, its bytes, the way it was served, and the whole of its reply
 pub record ServedRequest : Type 0 where
@@ -27,7 +28,8 @@ Leave (r ∷ rs) old new = (mid : WholeState) × Leave rs old mid × Serves r.no
 
 -- From each state that the old store was in, some requests may lead to a state that the new one is in.
 abbrev pub WentBy : StoreData → StoreData → Type 0
-WentBy old new = (s : WholeState) → IsWholeStateOf s old → (rs : List ServedRequest) × (s' : WholeState) × Leave rs s s' × IsWholeStateOf s' new
+WentBy old new = (s : WholeState)
+    → IsWholeStateOf s old → (rs : List ServedRequest) × (s' : WholeState) × Leave rs s s' × IsWholeStateOf s' new
 
 -- the image is saved after steps of a retention run were taken, or rules were changed
 abbrev pub is_saved_after : Served → Bool

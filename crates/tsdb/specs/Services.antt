@@ -68,9 +68,11 @@ save_line image fault = file_line image (save_fault_text fault) (save_words faul
 -- the line for standard error, without a cause; it names the file or the port that is at fault
 abbrev pub service_line : Service → ServiceFault → Text
 service_line service NoSettings = codes "tsdb: " ++ (service.settings.now ++ codes ": the settings could not be read")
-service_line service (WrongSettings fault) = file_line service.settings.now (settings_fault_text fault) (settings_words fault)
+service_line service (WrongSettings fault) =
+    file_line service.settings.now (settings_fault_text fault) (settings_words fault)
 service_line service (Image fault) = load_line service.image.now fault
 service_line service InUse = codes "tsdb: " ++ (service.image.now ++ codes ": another tsdb serves this image")
-service_line service NoPort = codes "tsdb: port " ++ (decimal service.port ++ codes " of 127.0.0.1 could not be listened on")
+service_line service NoPort =
+    codes "tsdb: port " ++ (decimal service.port ++ codes " of 127.0.0.1 could not be listened on")
 service_line service (NotSaved fault) = save_line service.image.now fault
 service_line service OutOfMemory = codes "tsdb: out of memory"

@@ -49,7 +49,8 @@ pub struct Inspection<'a> {
 impl<'a> Inspection<'a> {
     /// Returns the values of the arguments, or `None` if the image is missing.
     fn from_matches(matches: &ArgMatches<'a>) -> Option<Inspection<'a>>
-        ensures { MatchOption result ((inspection : Inspection) → IsInspectionOf (rows_of (found_of matches.now)) inspection → ⊥)
+        ensures { MatchOption result ((inspection : Inspection)
+            → IsInspectionOf (rows_of (found_of matches.now)) inspection → ⊥)
             (IsInspectionOf (rows_of (found_of matches.now))) }
     {
         Some(Inspection {

@@ -20,7 +20,8 @@ fn is_wanted(requested: Option<&str>, digits: &str) -> bool
 
 /// Appends the row of a fault, if it is requested.
 fn row_to(text: &mut String, requested: Option<&str>, code: FaultCode) -> Result<(), AllocError>
-    ensures { OnOk result (string_bytes text.new ≡ string_bytes text.old ++ row_where (is_listed (given_text requested.entry)) code) }
+    ensures { OnOk result
+        (string_bytes text.new ≡ string_bytes text.old ++ row_where (is_listed (given_text requested.entry)) code) }
 {
     let mut digits = Buffer::new();
     let digits = digits.format(code.number());
@@ -32,7 +33,8 @@ fn row_to(text: &mut String, requested: Option<&str>, code: FaultCode) -> Result
 
 /// Appends the row of the fault with this number, if it exists and is requested.
 fn numbered_row_to(text: &mut String, requested: Option<&str>, number: u8) -> Result<(), AllocError>
-    ensures { OnOk result (string_bytes text.new ≡ string_bytes text.old ++ requested_row (is_listed (given_text requested.entry)) number) }
+    ensures { OnOk result (string_bytes text.new
+        ≡ string_bytes text.old ++ requested_row (is_listed (given_text requested.entry)) number) }
 {
     match FaultCode::of_number(number) {
         Some(code) => row_to(text, requested, code),

@@ -59,7 +59,8 @@ fn push_name(line: &mut Vec<u8>, part: NamePart, name: &str) -> Result<(), Alloc
 
 /// Appends a tag after a comma.
 fn push_tag(line: &mut Vec<u8>, key: &str, value: &str) -> Result<(), AllocError>
-    ensures { OnOk result (line.new.items ≡ line.old.items ++ (codes "," ++ (escaped Equals key.now ++ (codes "=" ++ escaped Equals value.now)))) }
+    ensures { OnOk result (line.new.items
+        ≡ line.old.items ++ (codes "," ++ (escaped Equals key.now ++ (codes "=" ++ escaped Equals value.now)))) }
 {
     line.push(b',')?;
     push_name(line, NamePart::Key, key)?;

@@ -177,7 +177,8 @@ impl<'a> Summary<'a> {
         ensures image { IfOk result (λ s. (s.version ≡ version) × (s.bytes ≡ bytes)) }
         ensures settings { IfOk result (λ s. ShowsSettings (store_settings store.now) s.settings) }
         ensures run { IfOk result (λ s. (s.raw_mark ≡ store.now.raw_mark) × (s.run_open ≡ store.now.running)) }
-        ensures counts { IfOk result (λ s. (s.accepted ≡ store.now.accepted) × (s.raw_points ≡ length (facts_of store.now.columns))) }
+        ensures counts { IfOk result (λ s. (s.accepted ≡ store.now.accepted)
+            × (s.raw_points ≡ length (facts_of store.now.columns))) }
     {
         let all = store.saved_series(alloc)?;
         Ok(Summary {

@@ -38,7 +38,8 @@ merged_extremes (Some x) None = Some x
 merged_extremes (Some x) (Some y) = Some (extremes_of_both x y)
 
 abbrev pub merged : Aggregate → Aggregate → Aggregate
-merged x y = record { count = x.count + y.count; sum = x.sum +ℤ y.sum; extremes = merged_extremes x.extremes y.extremes }
+merged x y =
+    record { count = x.count + y.count; sum = x.sum +ℤ y.sum; extremes = merged_extremes x.extremes y.extremes }
 
 abbrev pub count_in : Aggregate → ℕ
 count_in a = a.count

@@ -79,7 +79,8 @@ module _ {K : Type 0} {R : K → K → Ordering} (o : IsTotalOrder R) (exact : C
 
 -- the lesser is one of the two
 pub lesser_one : {K : Type 0} (R : K → K → Ordering) (a b : K) → (lesser R a b ≡ a) ⊎ (lesser R a b ≡ b)
-lesser_one R a b = elim (is_gt (R a b)) as (λ r. (cond r b a ≡ a) ⊎ (cond r b a ≡ b)) [ true ↦ inr refl | false ↦ inl refl ]
+lesser_one R a b =
+    elim (is_gt (R a b)) as (λ r. (cond r b a ≡ a) ⊎ (cond r b a ≡ b)) [ true ↦ inr refl | false ↦ inl refl ]
 
 -- ---- the orders of values and points
 
@@ -111,7 +112,8 @@ upto_ranked x y Greater m h = absurd (true≢false h)
 pub le_from_IsUpto : (x y : ℤ) → IsUpto int_cmp x y → x ≤ℤ y
 le_from_IsUpto x y h = upto_ranked x y (int_cmp x y) (int_ranks x y) h
 
-then_ranked : (s t v w : ℤ) (r : Ordering) → MatchOrdering r (s <ℤ t) (s ≡ t) (t <ℤ s) → is_gt (ordering_then r (int_cmp v w)) ≡ false → (s <ℤ t) ⊎ ((s ≡ t) × (v ≤ℤ w))
+then_ranked : (s t v w : ℤ) (r : Ordering) → MatchOrdering r (s <ℤ t) (s ≡ t) (t <ℤ s)
+    → is_gt (ordering_then r (int_cmp v w)) ≡ false → (s <ℤ t) ⊎ ((s ≡ t) × (v ≤ℤ w))
 then_ranked s t v w Less m h = inl m
 then_ranked s t v w Equal m h = inr (m, le_from_IsUpto v w h)
 then_ranked s t v w Greater m h = absurd (true≢false h)
@@ -124,7 +126,8 @@ late_ranked s t v w (inl l) = inl l
 late_ranked s t v w (inr e) = inr (sym e.0, e.1)
 
 pub words_from_late : (p q : ℤ × ℤ) → IsUpto late_cmp p q → (q.0 <ℤ p.0) ⊎ ((p.0 ≡ q.0) × (q.1 ≤ℤ p.1))
-words_from_late p q h = late_ranked p.0 q.0 q.1 p.1 (then_ranked q.0 p.0 q.1 p.1 (int_cmp q.0 p.0) (int_ranks q.0 p.0) h)
+words_from_late p q h =
+    late_ranked p.0 q.0 q.1 p.1 (then_ranked q.0 p.0 q.1 p.1 (int_cmp q.0 p.0) (int_ranks q.0 p.0) h)
 
 -- ---- `min` and `max` of values
 

@@ -13,7 +13,8 @@ pub record IsOnlyRest {M : Type 0} (IsPossible : M → Type 0) (merge : M → M 
 
 -- every aggregate of points is possible: the empty one, that of one point, and two possible ones merged; others may be
 -- possible too
-pub record PossibleLaws {M : Type 0} (IsPossible : M → Type 0) (empty : M) (single : ℤ → ℤ → M) (merge : M → M → M) : Type 0 where
+pub record PossibleLaws {M : Type 0} (IsPossible : M → Type 0)
+    (empty : M) (single : ℤ → ℤ → M) (merge : M → M → M) : Type 0 where
   pub of_none : IsPossible empty
   pub of_one : (t v : ℤ) → IsPossible (single t v)
   pub of_both : (x y : M) → IsPossible x → IsPossible y → IsPossible (merge x y)
@@ -33,7 +34,8 @@ BothAreBeyond None part = ⊥
 
 -- if so, the rest has all extremes of the whole
 abbrev pub inner_rest : Aggregate → Aggregate → Aggregate
-inner_rest whole part = record { count = whole.count - part.count; sum = whole.sum -ℤ part.sum; extremes = whole.extremes }
+inner_rest whole part =
+    record { count = whole.count - part.count; sum = whole.sum -ℤ part.sum; extremes = whole.extremes }
 
 -- the part has no extreme of the whole, and the rest is sound
 pub record LiesInside (part whole : Aggregate) : Type 0 where

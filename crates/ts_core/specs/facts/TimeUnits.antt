@@ -29,13 +29,15 @@ unit_called (known ∷ names) name = if bytes_eq name known.0 then Some known.1 
 -- names in the precision of timestamps
 abbrev pub precision_names : UnitNames
 precision_names =
-    (codes "ns", Nanoseconds) ∷ (codes "n", Nanoseconds) ∷ (codes "u", Microseconds) ∷ (codes "ms", Milliseconds) ∷ (codes "s", Seconds)
+    (codes "ns", Nanoseconds)
+    ∷ (codes "n", Nanoseconds) ∷ (codes "u", Microseconds) ∷ (codes "ms", Milliseconds) ∷ (codes "s", Seconds)
     ∷ (codes "m", Minutes) ∷ (codes "h", Hours) ∷ []
 
 -- names in durations; 194 and 181 are the bytes of µ
 abbrev pub duration_names : UnitNames
 duration_names =
-    (codes "ns", Nanoseconds) ∷ (codes "u", Microseconds) ∷ (194 ∷ 181 ∷ [], Microseconds) ∷ (codes "ms", Milliseconds) ∷ (codes "s", Seconds)
+    (codes "ns", Nanoseconds)
+    ∷ (codes "u", Microseconds) ∷ (194 ∷ 181 ∷ [], Microseconds) ∷ (codes "ms", Milliseconds) ∷ (codes "s", Seconds)
     ∷ (codes "m", Minutes) ∷ (codes "h", Hours) ∷ (codes "d", Days) ∷ (codes "w", Weeks) ∷ []
 
 -- names in the times of a script: a duration's units, or none

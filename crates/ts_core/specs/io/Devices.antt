@@ -38,7 +38,8 @@ AreAtMostBytes (Some xs) (Some ys) reads others = reads + length ys ≤ others +
 
 -- each read since was a failure, an end or at least one byte, where the bytes are known
 abbrev pub EachReadCounts : Input → Input → Type 0
-EachReadCounts old new = AreAtMostBytes old.remaining new.remaining (new.reads + old.failures + old.ends) (old.reads + new.failures + new.ends)
+EachReadCounts old new = AreAtMostBytes old.remaining new.remaining
+    (new.reads + old.failures + old.ends) (old.reads + new.failures + new.ends)
 
 -- appends a prefix of the bytes: none, some or all
 abbrev pub AppendsFront : Option (List ℕ) → Option (List ℕ) → List ℕ → Type 0

@@ -12,7 +12,8 @@ pub record AreWrittenBut (old new : Option Text) (bytes buffered : Text) : Type 
 
 -- Appends bytes to the buffered ones. A prefix of all is written, in order, and the rest is buffered. After a refused
 -- write a prefix of all was written, and nothing is buffered.
-pub record IsBuffered {T E : Type 0} (old : Output) (buffered : Text) (result : Result T E) (bytes : Text) (new : Output) (buffered' : Text) : Type 0 where
+pub record IsBuffered {T E : Type 0} (old : Output)
+    (buffered : Text) (result : Result T E) (bytes : Text) (new : Output) (buffered' : Text) : Type 0 where
   pub ok : OnOk result (AreWrittenBut old.contents new.contents (buffered ++ bytes) buffered')
   pub err : OnErr result (AppendsFront old.contents new.contents (buffered ++ bytes))
   pub lost : OnErr result (buffered' ≡ [])

@@ -58,7 +58,8 @@ pub record IsConsumed (old : Ahead) (count : ℕ) (new : Ahead) : Type 0 where
   pub less : weight new + count ≡ weight old
 
 -- one read, after all buffered bytes were consumed; it returns false at the end of input
-pub record IsFilled (old : Ahead) (source : Input) (result : Result Bool ReadFault) (new : Ahead) (source' : Input) : Type 0 where
+pub record IsFilled (old : Ahead)
+    (source : Input) (result : Result Bool ReadFault) (new : Ahead) (source' : Input) : Type 0 where
   -- no byte is lost, and the end of input is reported only if it was read
   pub bytes : Keeps (pending old source) (pending new source')
   pub end : EndIsEnd new source'

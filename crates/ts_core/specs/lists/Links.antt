@@ -9,4 +9,5 @@ hashes_of links = map (λ (l : Link). l.hash) links
 -- the table has the newest index of each hash, and each entry has the next older index of its hash
 pub record AreChained (newest : ℕ → Option ℕ) (links : List Link) : Type 0 where
   pub heads : (hash : ℕ) → newest hash ≡ newest_of (hashes_of links) hash (length links)
-  pub olders : (i : ℕ) → i < length links → (d : Link) → (slice_index_or links i d).older ≡ newest_of (hashes_of links) (slice_index_or links i d).hash i
+  pub olders : (i : ℕ) → i < length links
+      → (d : Link) → (slice_index_or links i d).older ≡ newest_of (hashes_of links) (slice_index_or links i d).hash i

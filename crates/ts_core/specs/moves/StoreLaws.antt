@@ -24,7 +24,8 @@ RunBegins = (k : StoreData) (now : ℤ) → k.running ≡ false → GoesOn k (Be
 
 -- a step moves the first of the waiting columns
 abbrev pub StepMoves : Type 0
-StepMoves = (k : StoreData) (c : Column) (ps : List (ℤ × ℤ)) (rest : List Column) → k.waiting ≡ c ∷ rest → Among (record { column = c; points = ps }) k.columns → GoesOn k (Step false) (column_moved c ps rest k)
+StepMoves = (k : StoreData) (c : Column) (ps : List (ℤ × ℤ)) (rest : List Column) → k.waiting ≡ c ∷ rest
+    → Among (record { column = c; points = ps }) k.columns → GoesOn k (Step false) (column_moved c ps rest k)
 
 -- a step removes cells below the low indices
 abbrev pub CellsGo : Type 0
@@ -37,14 +38,18 @@ RunEnds = (k : StoreData) → k.waiting ≡ [] → GoesOn k (Step true) (run_end
 -- adding series, columns without points, and cells without facts doesn't change the history
 abbrev pub Grows : Type 0
 Grows = (k : StoreData) (series : List Series) (columns : List ColumnPoints) (rs : List RuleData) (facts : List Fact)
-    → AllDistinct (map column_of columns) → ((c : Column) → Among c (map column_of k.columns) → Among c (map column_of columns)) → ((c : Column) → Among c (map column_of columns) → Among c.series series)
+    → AllDistinct (map column_of columns)
+    → ((c : Column) → Among c (map column_of k.columns) → Among c (map column_of columns))
+    → ((c : Column) → Among c (map column_of columns) → Among c.series series)
     → facts_of columns ≡ facts_of k.columns → GainEmptyCells facts k.rules rs → StaysFor k (grown series columns rs k)
 
 -- the facts of a line are inserted if the cells for them exist
 abbrev pub LinePut : Type 0
 LinePut = (k : StoreData) (columns : List ColumnPoints) (facts : List Fact) (rs ss : List RuleData)
-    → GainEmptyCells facts rs k.rules → ((f : Fact) → Among f facts → Among f.column (map column_of k.columns)) → PutsFacts k.columns k.rules columns ss facts
-    → OfEachHistory k (λ opening h. IsLawful opening (Line facts ∷ h) → StandsFor opening (Line facts ∷ h) (state_of (put_facts columns ss (length facts) k)))
+    → GainEmptyCells facts rs k.rules → ((f : Fact) → Among f facts → Among f.column (map column_of k.columns))
+    → PutsFacts k.columns k.rules columns ss facts
+    → OfEachHistory k (λ opening h. IsLawful opening (Line facts ∷ h)
+    → StandsFor opening (Line facts ∷ h) (state_of (put_facts columns ss (length facts) k)))
 
 -- the view shows every history that the store represents
 abbrev pub AllShow : Type 0
@@ -59,11 +64,17 @@ IsLiveData k = AreLive k.columns k.rules
 -- run that begins or ends leaves columns and cells as they are.
 pub record LivesKept : Type 0 where
   pub new : (opening : Settings) → IsLiveData (new_data opening)
-  pub moved : (k : StoreData) (c : Column) (ps : List (ℤ × ℤ)) (rest : List Column) → AllDistinct (map column_of k.columns) → Among (record { column = c; points = ps }) k.columns → IsLiveData k → IsLiveData (column_moved c ps rest k)
+  pub moved : (k : StoreData) (c : Column) (ps : List (ℤ × ℤ)) (rest : List Column)
+      → AllDistinct (map column_of k.columns)
+      → Among (record { column = c; points = ps }) k.columns → IsLiveData k → IsLiveData (column_moved c ps rest k)
   pub gone : (k : StoreData) (rs : List RuleData) → AreOf k.rules rs → IsLiveData k → IsLiveData (with_rules rs k)
-  pub grown : (k : StoreData) (series : List Series) (columns : List ColumnPoints) (rs : List RuleData) (facts : List Fact)
-      → facts_of columns ≡ facts_of k.columns → GainEmptyCells facts k.rules rs → IsLiveData k → OfEachHistory k (λ opening h. IsLiveData (grown series columns rs k))
-  pub put : (k : StoreData) (columns : List ColumnPoints) (facts : List Fact) (ss : List RuleData) (n : ℕ) → AllDistinct (facts_of k.columns) → PutsFacts k.columns k.rules columns ss facts → IsLiveData k → IsLiveData (put_facts columns ss n k)
+  pub grown :
+      (k : StoreData) (series : List Series) (columns : List ColumnPoints) (rs : List RuleData) (facts : List Fact)
+      → facts_of columns ≡ facts_of k.columns → GainEmptyCells facts k.rules rs
+      → IsLiveData k → OfEachHistory k (λ opening h. IsLiveData (grown series columns rs k))
+  pub put : (k : StoreData) (columns : List ColumnPoints) (facts : List Fact) (ss : List RuleData) (n : ℕ)
+      → AllDistinct (facts_of k.columns)
+      → PutsFacts k.columns k.rules columns ss facts → IsLiveData k → IsLiveData (put_facts columns ss n k)
 
 -- ---- ways to compute a live part
 
@@ -77,25 +88,40 @@ pub record IsOldOf (before : List ColumnPoints) (f g : Fact) : Type 0 where
 -- facts. A fact with a new id is merged in. If it replaces an old fact, it is merged with the rest without that, if the
 -- rest is determined. After points are removed, the part is the rest without them, if that is determined.
 pub record LiveWays : Type 0 where
-  pub new : (before after : List ColumnPoints) (f : Fact) (r : Rule) (k : Cell) → AllDistinct (facts_of before) → PutsFact before after f → is_in_cell r k f ≡ true → ((g : Fact) → Among g (facts_of before) → same_id (id_of g) (id_of f) ≡ false)
+  pub new : (before after : List ColumnPoints) (f : Fact) (r : Rule) (k : Cell)
+      → AllDistinct (facts_of before) → PutsFact before after f
+      → is_in_cell r k f ≡ true → ((g : Fact) → Among g (facts_of before) → same_id (id_of g) (id_of f) ≡ false)
       → total_of r k (facts_of after) ≡ merged (aggregate_of_one f.time f.value) (total_of r k (facts_of before))
-  pub replaced : (before after : List ColumnPoints) (f g : Fact) (r : Rule) (k : Cell) (rest : Aggregate) → AllDistinct (facts_of before) → PutsFact before after f → is_in_cell r k f ≡ true → IsOldOf before f g
-      → IsOnlyRest IsSound merged (total_of r k (facts_of before)) (aggregate_of_one g.time g.value) rest → total_of r k (facts_of after) ≡ merged (aggregate_of_one f.time f.value) rest
-  pub left : (c : Column) (mark : ℤ) (before : List ColumnPoints) (ps : List (ℤ × ℤ)) (r : Rule) (k : Cell) (rest : Aggregate) → AllDistinct (map column_of before) → Among (record { column = c; points = ps }) before
-      → IsOnlyRest IsSound merged (total_of r k (facts_of before)) (aggregate_of (filter (is_in_cell r k) (facts_at c (points_below mark ps)))) rest → total_of r k (facts_of (map (kept_points c mark) before)) ≡ rest
+  pub replaced : (before after : List ColumnPoints) (f g : Fact) (r : Rule) (k : Cell) (rest : Aggregate)
+      → AllDistinct (facts_of before) → PutsFact before after f → is_in_cell r k f ≡ true → IsOldOf before f g
+      → IsOnlyRest IsSound merged (total_of r k (facts_of before)) (aggregate_of_one g.time g.value) rest
+      → total_of r k (facts_of after) ≡ merged (aggregate_of_one f.time f.value) rest
+  pub left :
+      (c : Column) (mark : ℤ) (before : List ColumnPoints) (ps : List (ℤ × ℤ)) (r : Rule) (k : Cell) (rest : Aggregate)
+      → AllDistinct (map column_of before) → Among (record { column = c; points = ps }) before
+      → IsOnlyRest IsSound merged
+      (total_of r k (facts_of before)) (aggregate_of (filter (is_in_cell r k) (facts_at c (points_below mark ps)))) rest
+      → total_of r k (facts_of (map (kept_points c mark) before)) ≡ rest
 
 -- ---- the number of steps that are left
 
 -- A begin leaves each column to be moved, with its points as they were. A step lowers the number by one. One step is
 -- left if no column waits and no cell is below its low index. Growth and insertions don't change the number.
 pub record LeftFalls : Type 0 where
-  pub begins : (k : StoreData) (now : ℤ) → steps_left (state_of (run_begun now k)) ≡ length k.columns + batches_left (map rule_cells (run_begun now k).rules) + 1
-  pub waiting : (k : StoreData) (now : ℤ) → ((run_begun now k).waiting ≡ map column_of k.columns) × ((run_begun now k).columns ≡ k.columns)
-  pub moves : (k : StoreData) (c : Column) (ps : List (ℤ × ℤ)) (rest : List Column) → k.running ≡ true → k.waiting ≡ c ∷ rest → steps_left (state_of k) ≡ steps_left (state_of (column_moved c ps rest k)) + 1
-  pub ends : (k : StoreData) → k.running ≡ true → k.waiting ≡ [] → batches_left (map rule_cells k.rules) ≡ 0 → (steps_left (state_of k) ≡ 1) × (steps_left (state_of (run_ended k)) ≡ 0)
-  pub last : (k : StoreData) → k.running ≡ true → steps_left (state_of k) ≡ 1 → (k.waiting ≡ []) × (batches_left (map rule_cells k.rules) ≡ 0)
-  pub grows : (k : StoreData) (series : List Series) (columns : List ColumnPoints) (rs : List RuleData) (facts : List Fact) → GainEmptyCells facts k.rules rs
+  pub begins : (k : StoreData) (now : ℤ) → steps_left (state_of (run_begun now k))
+      ≡ length k.columns + batches_left (map rule_cells (run_begun now k).rules) + 1
+  pub waiting : (k : StoreData) (now : ℤ)
+      → ((run_begun now k).waiting ≡ map column_of k.columns) × ((run_begun now k).columns ≡ k.columns)
+  pub moves : (k : StoreData) (c : Column) (ps : List (ℤ × ℤ)) (rest : List Column) → k.running ≡ true
+      → k.waiting ≡ c ∷ rest → steps_left (state_of k) ≡ steps_left (state_of (column_moved c ps rest k)) + 1
+  pub ends : (k : StoreData) → k.running ≡ true → k.waiting ≡ [] → batches_left (map rule_cells k.rules) ≡ 0
+      → (steps_left (state_of k) ≡ 1) × (steps_left (state_of (run_ended k)) ≡ 0)
+  pub last : (k : StoreData)
+      → k.running ≡ true → steps_left (state_of k) ≡ 1 → (k.waiting ≡ []) × (batches_left (map rule_cells k.rules) ≡ 0)
+  pub grows : (k : StoreData) (series : List Series)
+      (columns : List ColumnPoints) (rs : List RuleData) (facts : List Fact) → GainEmptyCells facts k.rules rs
       → steps_left (state_of (grown series columns rs k)) ≡ steps_left (state_of k)
-  pub puts : (k : StoreData) (columns : List ColumnPoints) (facts : List Fact) (ss : List RuleData) (n : ℕ) → PutsFacts k.columns k.rules columns ss facts
+  pub puts : (k : StoreData) (columns : List ColumnPoints) (facts : List Fact) (ss : List RuleData) (n : ℕ)
+      → PutsFacts k.columns k.rules columns ss facts
       → steps_left (state_of (put_facts columns ss n k)) ≡ steps_left (state_of k)
   pub bound : (left : ℕ) (calls : List (Bool × ℕ)) → Falls left calls → count_steps calls + last_left left calls ≤ left

@@ -26,7 +26,8 @@ in_cells f r = record r { cells = f r.rule r.cells }
 -- merges each point into its cell, if that exists
 abbrev pub frozen_points : Rule → Column → List (ℤ × ℤ) → CellMap → CellMap
 frozen_points r c [] m = m
-frozen_points r c (p ∷ ps) m = frozen_points r c ps (changed m (cell_of r (fact_at c p)) (in_frozen (merged_within (aggregate_of_one p.0 p.1))))
+frozen_points r c (p ∷ ps) m =
+    frozen_points r c ps (changed m (cell_of r (fact_at c p)) (in_frozen (merged_within (aggregate_of_one p.0 p.1))))
 
 -- folds the live part of a cell anew from the raw facts, if the cell exists
 abbrev pub refolded : Rule → Cell → List Fact → CellMap → CellMap
@@ -40,7 +41,8 @@ refolded_points r c (p ∷ ps) facts m = refolded_points r c ps facts (refolded 
 -- if the column is of the rule's measurement, freezes its points, and folds the live parts of their cells anew from the
 -- remaining raw facts
 abbrev pub moved_cells : Rule → Column → List (ℤ × ℤ) → List Fact → CellMap → CellMap
-moved_cells r c ps facts m = if same_text c.series.measurement r.measurement then refolded_points r c ps facts (frozen_points r c ps m) else m
+moved_cells r c ps facts m =
+    if same_text c.series.measurement r.measurement then refolded_points r c ps facts (frozen_points r c ps m) else m
 
 -- the same for each rule
 abbrev pub all_moved : Column → List (ℤ × ℤ) → List Fact → List RuleData → List RuleData
@@ -51,7 +53,8 @@ abbrev pub points_below : ℤ → List (ℤ × ℤ) → List (ℤ × ℤ)
 points_below mark ps = filter (λ (p : ℤ × ℤ). int_lt p.0 mark) ps
 
 abbrev pub kept_points : Column → ℤ → ColumnPoints → ColumnPoints
-kept_points c mark s = if same_column s.column c then record { column = s.column; points = filter (λ (p : ℤ × ℤ). int_le mark p.0) s.points } else s
+kept_points c mark s = if same_column s.column c
+    then record { column = s.column; points = filter (λ (p : ℤ × ℤ). int_le mark p.0) s.points } else s
 
 -- moves the first waiting column
 abbrev pub column_moved : Column → List (ℤ × ℤ) → List Column → StoreData → StoreData
@@ -110,7 +113,8 @@ run_ended k = record k { running = false }
 -- n has a cell for each fact of the rule's measurement from the low index on. Compared with m, no cell is lost, no part
 -- changes, and no cell is created below the low index.
 pub record GainsEmptyCells (r : Rule) (low : ℤ) (facts : List Fact) (m n : CellMap) : Type 0 where
-  pub there : (f : Fact) → Among f facts → is_rolled r f ≡ true → low ≤ℤ (cell_of r f).index → finmap.get n (cell_of r f) ≡ None → ⊥
+  pub there : (f : Fact)
+      → Among f facts → is_rolled r f ≡ true → low ≤ℤ (cell_of r f).index → finmap.get n (cell_of r f) ≡ None → ⊥
   pub stays : (k : Cell) → finmap.get n k ≡ None → finmap.get m k ≡ None
   pub parts : (k : Cell) → or_else no_parts (finmap.get n k) ≡ or_else no_parts (finmap.get m k)
   pub above : (k : Cell) → k.index <ℤ low → finmap.get n k ≡ finmap.get m k
@@ -145,7 +149,8 @@ put_cells f facts = map (in_cells (λ (r : Rule). put_cell r f facts))
 -- inserts facts one after another, each into its column, and then into its cells
 abbrev pub PutsFacts : List ColumnPoints → List RuleData → List ColumnPoints → List RuleData → List Fact → Type 0
 PutsFacts before rs after ss [] = (after ≡ before) × (ss ≡ rs)
-PutsFacts before rs after ss (f ∷ fs) = (between : List ColumnPoints) × PutsFact before between f × PutsFacts between (put_cells f (facts_of between) rs) after ss fs
+PutsFacts before rs after ss (f ∷ fs) = (between : List ColumnPoints)
+    × PutsFact before between f × PutsFacts between (put_cells f (facts_of between) rs) after ss fs
 
 abbrev pub put_facts : List ColumnPoints → List RuleData → ℕ → StoreData → StoreData
 put_facts columns rs n k = record k { columns = columns; accepted = k.accepted + n; rules = rs }

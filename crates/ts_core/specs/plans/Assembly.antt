@@ -15,7 +15,15 @@ use Rattle.ts_core.specs.store.Views.{ViewState, shown_total}
 
 -- a cell matches as a representative fact would: one at the start of its bucket, in a series with the kept tags
 abbrev pub representative : Rule → Cell → Fact
-representative r k = record { column = record { series = record { measurement = r.measurement; tags = zip r.kept_tags k.group }; field = k.field }; time = start_of r k.index; value = pos 0 }
+representative r k =
+    record {
+      column = record {
+        series = record { measurement = r.measurement; tags = zip r.kept_tags k.group };
+        field = k.field;
+      };
+      time = start_of r k.index;
+      value = pos 0;
+    }
 
 -- the first rule of a name in the view
 abbrev pub rule_shown : Text → List RuleCells → Option RuleCells
@@ -31,7 +39,8 @@ in_part test a b f = test f && is_within a b f.time
 -- the merged totals of the matching cells
 abbrev pub totals_given : Option RuleCells → (Fact → Bool) → Aggregate
 totals_given None test = empty_aggregate
-totals_given (Some r) test = fold_by empty_aggregate merged (shown_total r) (filter (λ (k : Cell). test (representative r.rule k)) r.cells)
+totals_given (Some r) test =
+    fold_by empty_aggregate merged (shown_total r) (filter (λ (k : Cell). test (representative r.rule k)) r.cells)
 
 abbrev pub aggregate_given : ViewState → Source → (Fact → Bool) → Aggregate
 aggregate_given seen Raw test = aggregate_of (filter test (facts_of seen.columns))
@@ -39,14 +48,16 @@ aggregate_given seen (Rollup name) test = totals_given (rule_shown name seen.rul
 
 -- the merged contributions of all pieces to a row
 abbrev pub assembled : ViewState → Query → List Piece → List Text → ℤ → Aggregate
-assembled seen q pieces g k = fold_by empty_aggregate merged (λ (p : Piece). aggregate_given seen p.source (in_part (is_in_row q g k) p.from p.to)) pieces
+assembled seen q pieces g k = fold_by empty_aggregate merged
+    (λ (p : Piece). aggregate_given seen p.source (in_part (is_in_row q g k) p.from p.to)) pieces
 
 -- ---- groups
 
 -- the groups of the matching cells that have data
 abbrev pub cell_groups : Query → Option RuleCells → (Fact → Bool) → List (List Text)
 cell_groups q None test = []
-cell_groups q (Some r) test = map (λ (k : Cell). group_of q (representative r.rule k)) (filter (λ (k : Cell). test (representative r.rule k) && not ((shown_total r k).count == 0)) r.cells)
+cell_groups q (Some r) test = map (λ (k : Cell). group_of q (representative r.rule k))
+    (filter (λ (k : Cell). test (representative r.rule k) && not ((shown_total r k).count == 0)) r.cells)
 
 abbrev pub groups_given : ViewState → Query → Source → (Fact → Bool) → List (List Text)
 groups_given seen q Raw test = map (group_of q) (filter test (facts_of seen.columns))
@@ -54,12 +65,16 @@ groups_given seen q (Rollup name) test = cell_groups q (rule_shown name seen.rul
 
 abbrev pub assembled_groups : ViewState → Query → List Piece → List (List Text)
 assembled_groups seen q [] = []
-assembled_groups seen q (p ∷ ps) = groups_given seen q p.source (in_part (matches q) p.from p.to) ++ assembled_groups seen q ps
+assembled_groups seen q (p ∷ ps) =
+    groups_given seen q p.source (in_part (matches q) p.from p.to) ++ assembled_groups seen q ps
 
 -- ---- the answer
 
 abbrev pub assembled_row : ViewState → Query → List Piece → List Text → ℤ → Row
-assembled_row seen q pieces g k = record { start = bucket_start k q.interval q.offset; aggregate = assembled seen q pieces g k }
+assembled_row seen q pieces g k =
+    record { start = bucket_start k q.interval q.offset; aggregate = assembled seen q pieces g k }
 
 abbrev pub assembled_answer : ViewState → Query → List Piece → List Group
-assembled_answer seen q pieces = map (λ g. record { values = g; rows = map (assembled_row seen q pieces g) (buckets_in q) }) (all_groups (assembled_groups seen q pieces))
+assembled_answer seen q pieces =
+    map (λ g. record { values = g; rows = map (assembled_row seen q pieces g) (buckets_in q) })
+    (all_groups (assembled_groups seen q pieces))

@@ -49,7 +49,8 @@ abbrev pub is_boundary : Rule → ℤ → Bool
 is_boundary r p = int_eq (start_of r (index_of r p)) p
 
 abbrev pub is_aligned : Rule → Query → Bool
-is_aligned r q = int_eq (int_rem_euclid q.interval r.interval) (pos 0) && int_eq (int_rem_euclid (q.offset -ℤ r.offset) r.interval) (pos 0)
+is_aligned r q = int_eq (int_rem_euclid q.interval r.interval) (pos 0)
+    && int_eq (int_rem_euclid (q.offset -ℤ r.offset) r.interval) (pos 0)
 
 abbrev pub is_in_one_bucket : Query → ℤ → ℤ → Bool
 is_in_one_bucket q a b = int_eq (bucket_of a q.interval q.offset) (bucket_of (b -ℤ pos 1) q.interval q.offset)
@@ -80,7 +81,8 @@ piece_fault t p = source_fault t p.source p.from p.to
 -- doesn't reach the end
 abbrev pub gap_at : ℕ → ℤ → ℤ → List Piece → Option ℕ
 gap_at n a b [] = if int_eq a b then None else Some n
-gap_at n a b (p ∷ ps) = if int_eq p.from a && (int_lt p.from p.to && int_le p.to b) then gap_at (n + 1) p.to b ps else Some n
+gap_at n a b (p ∷ ps) =
+    if int_eq p.from a && (int_lt p.from p.to && int_le p.to b) then gap_at (n + 1) p.to b ps else Some n
 
 abbrev pub or_fault : ℕ → Option PieceFault → Option (PieceFault × ℕ) → Option (PieceFault × ℕ)
 or_fault n None next = next

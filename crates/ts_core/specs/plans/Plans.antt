@@ -93,7 +93,8 @@ whole_between r a b = at_least_none ((index_of r b -ℤ index_of r (a -ℤ pos 1
 -- the number of complete buckets of all rules of the query's measurement, within the range
 abbrev pub whole_buckets : List Rule → Query → ℕ
 whole_buckets [] q = 0
-whole_buckets (r ∷ rs) q = (if same_text r.measurement q.measurement then whole_between r q.from q.to else 0) + whole_buckets rs q
+whole_buckets (r ∷ rs) q =
+    (if same_text r.measurement q.measurement then whole_between r q.from q.to else 0) + whole_buckets rs q
 
 -- the search would visit more than 1,000,000 buckets
 pub record IsTooMany (s : Settings) (m : Marks) (q : Query) : Type 0 where

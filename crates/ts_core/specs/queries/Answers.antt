@@ -39,7 +39,8 @@ bucket_in q t = bucket_of t q.interval q.offset
 abbrev pub buckets_in : Query → List ℤ
 buckets_in q =
     if int_lt q.from q.to
-    then numbers_from (bucket_in q q.from) (at_least_none ((bucket_in q (q.to -ℤ pos 1) -ℤ bucket_in q q.from) +ℤ pos 1))
+    then numbers_from
+    (bucket_in q q.from) (at_least_none ((bucket_in q (q.to -ℤ pos 1) -ℤ bucket_in q q.from) +ℤ pos 1))
     else []
 
 -- ---- groups
@@ -76,7 +77,8 @@ abbrev pub is_in_row : Query → List Text → ℤ → Fact → Bool
 is_in_row q g k f = matches q f && (same_group (group_of q f) g && int_eq (bucket_in q f.time) k)
 
 abbrev pub row_of : Query → List Fact → List Text → ℤ → Row
-row_of q facts g k = record { start = bucket_start k q.interval q.offset; aggregate = aggregate_of (filter (is_in_row q g k) facts) }
+row_of q facts g k =
+    record { start = bucket_start k q.interval q.offset; aggregate = aggregate_of (filter (is_in_row q g k) facts) }
 
 abbrev pub rows_of : Query → List Fact → List Text → List Row
 rows_of q facts g = map (row_of q facts g) (buckets_in q)

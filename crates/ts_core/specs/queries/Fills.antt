@@ -74,7 +74,8 @@ last_data earlier r = if has_data r then Some r.aggregate else earlier
 -- each row with the values of the last data up to it
 abbrev pub with_previous : List Function → Option Aggregate → List Row → List FilledRow
 with_previous fs earlier [] = []
-with_previous fs earlier (r ∷ rs) = repeated fs (last_data earlier r) r.start ∷ with_previous fs (last_data earlier r) rs
+with_previous fs earlier (r ∷ rs) =
+    repeated fs (last_data earlier r) r.start ∷ with_previous fs (last_data earlier r) rs
 
 abbrev pub filled_rows : Fill → List Function → List Row → List FilledRow
 filled_rows NullFill fs rows = map (shown fs) rows

@@ -96,11 +96,13 @@ or_rule_fault n (Some fault) next = Some (OfRule fault n)
 -- the first fault of rules after others
 abbrev pub rules_fault : ℕ → List Rule → List Rule → Option SettingsFault
 rules_fault raw earlier [] = None
-rules_fault raw earlier (r ∷ rs) = or_rule_fault (length earlier) (fault_of_rule raw earlier r) (rules_fault raw (earlier ++ r ∷ []) rs)
+rules_fault raw earlier (r ∷ rs) =
+    or_rule_fault (length earlier) (fault_of_rule raw earlier r) (rules_fault raw (earlier ++ r ∷ []) rs)
 
 -- the fault of appending a rule to settings: they have 32 already, or the rule's own
 abbrev pub added_fault : Settings → Rule → Option SettingsFault
-added_fault s r = if nat_lt (length s.rules) 32 then or_rule_fault (length s.rules) (fault_of_rule s.raw_duration s.rules r) None else Some TooManyRules
+added_fault s r = if nat_lt (length s.rules) 32
+    then or_rule_fault (length s.rules) (fault_of_rule s.raw_duration s.rules r) None else Some TooManyRules
 
 -- more than 32 rules, or the first fault of a rule
 abbrev pub settings_fault : Settings → Option SettingsFault

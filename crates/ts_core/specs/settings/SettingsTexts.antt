@@ -45,9 +45,17 @@ each_at key f d = option_and_then (each f) (option_and_then as_array (get key d)
 
 -- ---- settings
 
-abbrev pub rule_with : Bool → Option Text → Option Text → Option ℤ → Option ℤ → Option (List Text) → Option ℤ → Option Rule
+abbrev pub rule_with : Bool → Option Text → Option Text → Option ℤ
+    → Option ℤ → Option (List Text) → Option ℤ → Option Rule
 rule_with true (Some name) (Some measurement) (Some interval) (Some offset) (Some kept_tags) (Some duration) =
-    Some (record { name = name; measurement = measurement; interval = interval; offset = offset; kept_tags = kept_tags; duration = unsigned_abs duration })
+    Some (record {
+      name = name;
+      measurement = measurement;
+      interval = interval;
+      offset = offset;
+      kept_tags = kept_tags;
+      duration = unsigned_abs duration;
+    })
 rule_with _ _ _ _ _ _ _ = None
 
 -- exactly six keys; the measurement and the kept tags aren't empty

@@ -20,14 +20,16 @@ pub record Cell : Type 0 where
 
 -- cells are ordered by index, then field, then group
 abbrev pub cell_cmp : Cell → Cell → Ordering
-cell_cmp a b = ordering_then (int_cmp a.index b.index) (ordering_then (text_cmp a.field b.field) (slice_cmp text_cmp a.group b.group))
+cell_cmp a b = ordering_then
+    (int_cmp a.index b.index) (ordering_then (text_cmp a.field b.field) (slice_cmp text_cmp a.group b.group))
 
 abbrev pub same_cell : Cell → Cell → Bool
 same_cell = eq_by_cmp cell_cmp
 
 -- the cell of a fact under a rule
 abbrev pub cell_of : Rule → Fact → Cell
-cell_of r f = record { index = index_of r f.time; field = f.column.field; group = tag_values r.kept_tags f.column.series }
+cell_of r f =
+    record { index = index_of r f.time; field = f.column.field; group = tag_values r.kept_tags f.column.series }
 
 -- the fact is of the rule's measurement
 abbrev pub is_rolled : Rule → Fact → Bool

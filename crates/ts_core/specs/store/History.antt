@@ -89,7 +89,8 @@ pub record MayBeTaken (mark : ℤ) (f : Fact) : Type 0 where
 abbrev pub IsLawful : Settings → History → Type 0
 IsLawful opening [] = settings_fault opening ≡ None
 IsLawful opening (Line facts ∷ h) =
-    IsLawful opening h × AllByRecursion (MayBeTaken (raw_mark opening h)) facts × (length (accepted (Line facts ∷ h)) ≤ 2 ^ 62)
+    IsLawful opening h
+    × AllByRecursion (MayBeTaken (raw_mark opening h)) facts × (length (accepted (Line facts ∷ h)) ≤ 2 ^ 62)
 IsLawful opening (Begin now ∷ h) = IsLawful opening h × (IsRunOpen h → ⊥)
 IsLawful opening (Step ended ∷ h) = IsLawful opening h
 IsLawful opening (AddRule rule ∷ h) = IsLawful opening h × (added_fault (settings_of opening h) rule ≡ None)

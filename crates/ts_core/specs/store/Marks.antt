@@ -31,7 +31,8 @@ low_of opening [] r = index_of r least_time
 low_of opening (Line facts ∷ h) r = low_of opening h r
 low_of opening (Begin now ∷ h) r = int_max (low_of opening h r) (index_of r (kept_since r.duration now))
 low_of opening (Step ended ∷ h) r = low_of opening h r
-low_of opening (AddRule rule ∷ h) r = if same_text rule.name r.name then first_from r (raw_mark opening h) else low_of opening h r
+low_of opening (AddRule rule ∷ h) r =
+    if same_text rule.name r.name then first_from r (raw_mark opening h) else low_of opening h r
 low_of opening (DropRule name ∷ h) r = low_of opening h r
 
 -- the marks that a history leaves
@@ -63,7 +64,8 @@ start_of_rule opening [] r = index_of r least_time
 start_of_rule opening (Line facts ∷ h) r = start_of_rule opening h r
 start_of_rule opening (Begin now ∷ h) r = start_of_rule opening h r
 start_of_rule opening (Step ended ∷ h) r = start_of_rule opening h r
-start_of_rule opening (AddRule rule ∷ h) r = if same_text rule.name r.name then first_from r (raw_mark opening h) else start_of_rule opening h r
+start_of_rule opening (AddRule rule ∷ h) r =
+    if same_text rule.name r.name then first_from r (raw_mark opening h) else start_of_rule opening h r
 start_of_rule opening (DropRule name ∷ h) r = start_of_rule opening h r
 
 -- no bucket before this one starts at or above a time, and this one does

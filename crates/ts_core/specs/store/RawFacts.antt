@@ -48,4 +48,5 @@ raw_facts opening h = filter (λ (f : Fact). int_le (raw_mark opening h) f.time)
 
 -- the raw facts of a column
 abbrev pub raw_of : Settings → History → List Column → Column → List Fact
-raw_of opening h waiting c = filter (λ (f : Fact). same_column f.column c && is_kept (kept_from opening h waiting) f) (latest_of h)
+raw_of opening h waiting c =
+    filter (λ (f : Fact). same_column f.column c && is_kept (kept_from opening h waiting) f) (latest_of h)

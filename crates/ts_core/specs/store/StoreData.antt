@@ -57,7 +57,12 @@ OfEachRule R = AllZip (λ (a b : RuleData). (b.rule ≡ a.rule) × (b.low ≡ a.
 -- ---- the state that the data represents
 
 abbrev pub rule_cells : RuleData → RuleCells
-rule_cells r = record { rule = r.rule; low = r.low; cells = finmap.keys r.cells; parts = λ k. or_else no_parts (finmap.get r.cells k) }
+rule_cells r = record {
+  rule = r.rule;
+  low = r.low;
+  cells = finmap.keys r.cells;
+  parts = λ k. or_else no_parts (finmap.get r.cells k);
+}
 
 abbrev pub state_of : StoreData → StoreState
 state_of k = record {

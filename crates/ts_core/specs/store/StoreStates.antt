@@ -69,7 +69,8 @@ facts_of (c ∷ cs) = facts_at c.column c.points ++ facts_of cs
 -- from its low index on, the rule has the cell of each fact, with both parts
 pub record HasCells (cut : Column → ℤ) (facts : List Fact) (r : RuleCells) : Type 0 where
   pub once : AllDistinct r.cells
-  pub there : (f : Fact) → Among f facts → IsTrue (is_rolled r.rule f) → r.low ≤ℤ (cell_of r.rule f).index → Among (cell_of r.rule f) r.cells
+  pub there : (f : Fact) → Among f facts
+      → IsTrue (is_rolled r.rule f) → r.low ≤ℤ (cell_of r.rule f).index → Among (cell_of r.rule f) r.cells
   pub frozen : (k : Cell) → r.low ≤ℤ k.index → (r.parts k).frozen ≡ frozen_of cut r.rule k facts
   pub live : (k : Cell) → r.low ≤ℤ k.index → (r.parts k).live ≡ live_of cut r.rule k facts
 

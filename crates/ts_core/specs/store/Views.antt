@@ -25,7 +25,8 @@ shown_total r k = total_in (r.parts k)
 -- from its low index on, the rule shows the cell of each fact, with the total of its facts
 pub record HasTotals (facts : List Fact) (r : RuleCells) : Type 0 where
   pub once : AllDistinct r.cells
-  pub there : (f : Fact) → Among f facts → IsTrue (is_rolled r.rule f) → r.low ≤ℤ (cell_of r.rule f).index → Among (cell_of r.rule f) r.cells
+  pub there : (f : Fact) → Among f facts
+      → IsTrue (is_rolled r.rule f) → r.low ≤ℤ (cell_of r.rule f).index → Among (cell_of r.rule f) r.cells
   pub totals : (k : Cell) → r.low ≤ℤ k.index → shown_total r k ≡ total_of r.rule k facts
 
 -- the view shows a history

@@ -131,13 +131,20 @@ code_message ConnectionWriterFailed = codes "the reply could not be written"
 -- ordered by number
 abbrev pub all_codes : List FaultCode
 all_codes =
-    IntervalRange ∷ KeptTooShortly ∷ RepeatedRuleName ∷ BadRuleName ∷ TooManyRules ∷ BadKeptTags ∷ BadSettingsText ∷ UnknownRule ∷ NoMeasurement ∷
-    BadTag ∷ RepeatedTagKey ∷ NoField ∷ BadField ∷ FieldType ∷ IntegerRange ∷ BadTimestamp ∷ TimestampRange ∷ OverLimit ∷ ReservedKey ∷
-    BlockTooShort ∷ BlockLongNumber ∷ BlockTimeRange ∷ BlockTooLong ∷ TooManySeries ∷ BelowRawMark ∷ TooManyFacts ∷ RunInProgress ∷
-    NotAnImage ∷ ImageVersion ∷ BrokenImage ∷ ContradictoryImage ∷ ImageDevice ∷ EndlessImage ∷ Syntax ∷ OutOfProfile ∷ NoLowerBound ∷
-    OutOfRange ∷ RepeatedColumn ∷ TooManyStatements ∷ TooManyBuckets ∷ BucketBeforeLeastTime ∷ BadCertificate ∷ Gap ∷ BelowMark ∷
-    NoSuchRule ∷ OtherMeasurement ∷ OffBoundary ∷ BelowLow ∷ Straddles ∷ TagNotKept ∷ NoPlan ∷ TooManyRuleBuckets ∷ StalePlan ∷
-    SeveralStatements ∷ UnknownCommand ∷ ReaderFailed ∷ WriterFailed ∷ EndlessScript ∷ ConnectionReaderFailed ∷ ConnectionWriterFailed ∷ []
+    IntervalRange ∷ KeptTooShortly
+    ∷ RepeatedRuleName ∷ BadRuleName ∷ TooManyRules ∷ BadKeptTags ∷ BadSettingsText ∷ UnknownRule ∷ NoMeasurement ∷
+    BadTag ∷ RepeatedTagKey
+    ∷ NoField ∷ BadField ∷ FieldType ∷ IntegerRange ∷ BadTimestamp ∷ TimestampRange ∷ OverLimit ∷ ReservedKey ∷
+    BlockTooShort ∷ BlockLongNumber
+    ∷ BlockTimeRange ∷ BlockTooLong ∷ TooManySeries ∷ BelowRawMark ∷ TooManyFacts ∷ RunInProgress ∷
+    NotAnImage ∷ ImageVersion
+    ∷ BrokenImage ∷ ContradictoryImage ∷ ImageDevice ∷ EndlessImage ∷ Syntax ∷ OutOfProfile ∷ NoLowerBound ∷
+    OutOfRange ∷ RepeatedColumn
+    ∷ TooManyStatements ∷ TooManyBuckets ∷ BucketBeforeLeastTime ∷ BadCertificate ∷ Gap ∷ BelowMark ∷
+    NoSuchRule
+    ∷ OtherMeasurement ∷ OffBoundary ∷ BelowLow ∷ Straddles ∷ TagNotKept ∷ NoPlan ∷ TooManyRuleBuckets ∷ StalePlan ∷
+    SeveralStatements ∷ UnknownCommand
+    ∷ ReaderFailed ∷ WriterFailed ∷ EndlessScript ∷ ConnectionReaderFailed ∷ ConnectionWriterFailed ∷ []
 
 -- the first code of a list with this number
 abbrev pub first_numbered : ℕ → List FaultCode → Option FaultCode

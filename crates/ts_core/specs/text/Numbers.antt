@@ -23,4 +23,5 @@ is_from_to least greatest n = int_le least n && int_le n greatest
 
 -- the value of a number, if it fits in 64 bits
 abbrev pub whole_of : Text → Option ℤ
-whole_of number = if is_from_to (neg_ℤ (pos 9223372036854775808)) (pos 9223372036854775807) (signed_digits_value 10 number) then Some (signed_digits_value 10 number) else None
+whole_of number = if is_from_to (neg_ℤ (pos 9223372036854775808))
+    (pos 9223372036854775807) (signed_digits_value 10 number) then Some (signed_digits_value 10 number) else None

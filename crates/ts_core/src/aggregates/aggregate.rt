@@ -43,7 +43,8 @@ impl Model for Agg {
 
     ghost view = { λ a. record { count = a.count; sum = a.sum; extremes = a.extremes } };
 
-    ghost invariant = { λ a. (a.count ≤ 2 ^ 62) × (unsigned_abs a.sum ≤ a.count * 2 ^ 63) × IsSound (record { count = a.count; sum = a.sum; extremes = a.extremes }) };
+    ghost invariant = { λ a. (a.count ≤ 2 ^ 62) × (unsigned_abs a.sum ≤ a.count * 2 ^ 63)
+        × IsSound (record { count = a.count; sum = a.sum; extremes = a.extremes }) };
 
     ghost inverse = { λ v. record { count = v.count; sum = v.sum; extremes = v.extremes } };
 }

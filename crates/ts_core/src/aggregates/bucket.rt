@@ -66,8 +66,10 @@ impl Buckets {
         requires bound { unsigned_abs time ≤ 2 ^ 64 }
         ensures index { result.index ≡ bucket_of time self.interval self.offset }
         ensures near { unsigned_abs result.index ≤ unsigned_abs time + 2 ^ 64 }
-        ensures start { result.start ≡ bucket_start (bucket_of time self.interval self.offset) self.interval self.offset }
-        ensures end { result.end ≡ bucket_start (bucket_of time self.interval self.offset +ℤ pos 1) self.interval self.offset }
+        ensures start { result.start
+            ≡ bucket_start (bucket_of time self.interval self.offset) self.interval self.offset }
+        ensures end { result.end
+            ≡ bucket_start (bucket_of time self.interval self.offset +ℤ pos 1) self.interval self.offset }
     {
         let index = self.index(time);
         let start = self.start(index);

@@ -36,7 +36,13 @@ impl<A: Allocator + Copy> Model for ReadAhead<A> {
 
     ghost Value = { Ahead };
 
-    ghost view = { λ r. record { used = take r.at r.buffer.items; buffered = slice_range r.buffer.items r.at r.end; reads = r.reads; limit = r.limit; ended = r.ended } };
+    ghost view = { λ r. record {
+      used = take r.at r.buffer.items;
+      buffered = slice_range r.buffer.items r.at r.end;
+      reads = r.reads;
+      limit = r.limit;
+      ended = r.ended;
+    } };
 
     ghost invariant = { λ r. (r.at ≤ r.end) × (r.end ≤ vec_len r.buffer) × (vec_len r.buffer ≡ most_ahead) × (r.reads ≤ r.limit) };
 }

@@ -21,7 +21,12 @@ impl<R: Read> Model for Source<R> {
 
     ghost Value = { Input };
 
-    ghost view = { λ s. record { remaining = R.remaining s.inner; reads = s.reads.count; failures = s.failures.count; ends = s.ends.count } };
+    ghost view = { λ s. record {
+      remaining = R.remaining s.inner;
+      reads = s.reads.count;
+      failures = s.failures.count;
+      ends = s.ends.count;
+    } };
 }
 
 impl<R: Read> Source<R> {

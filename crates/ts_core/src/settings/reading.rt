@@ -151,7 +151,8 @@ fn parts<A: Allocator + Copy>(
     value: &Value,
 ) -> Result<(i64, Vec<Rule<A>, A>), SettingsError>
     ensures lasting { IfOk result (λ p. pos 0 ≤ℤ p.0) }
-    ensures ok { IfOk result (λ p. settings_parsed (view value.now) ≡ Some (record { raw_duration = unsigned_abs p.0; rules = p.1.items })) }
+    ensures ok { IfOk result
+        (λ p. settings_parsed (view value.now) ≡ Some (record { raw_duration = unsigned_abs p.0; rules = p.1.items })) }
     ensures err { IfErr result (λ e. IsRefusal e (settings_parsed (view value.now))) }
 {
     if !has_keys(value, 2) {
@@ -226,7 +227,8 @@ impl<A: Allocator + Copy> Settings<A> {
     /// first. The error is found before anything is allocated, so only settings without one run out of memory.
     pub fn of_json(alloc: A, value: &Value) -> Result<Settings<A>, SettingsError>
         ensures ok { IfOk result (λ s. settings_from (view value.now) ≡ Ok s) }
-        ensures fault { IfErr result (λ e. (f : SettingsFault) → e ≡ errors.Fault f → settings_from (view value.now) ≡ Err f) }
+        ensures fault { IfErr result (λ e. (f : SettingsFault)
+            → e ≡ errors.Fault f → settings_from (view value.now) ≡ Err f) }
         ensures memory { IfErr result (λ e. e ≡ errors.OutOfMemory → IsOk (settings_from (view value.now))) }
     {
         if let Some(fault) = first_fault(value) {

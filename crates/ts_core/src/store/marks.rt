@@ -115,7 +115,10 @@ impl<A: Allocator> Marks<A> {
     /// Raises each mark to the first time that the settings still keep at a moment; no mark is lowered. Does not
     /// allocate.
     pub fn raise(&mut self, settings: &Settings<A>, now: Time)
-        ensures { self.new ≡ record { raw = int_max self.old.raw (kept_since settings.now.raw_duration now); lows = raised now settings.now.rules self.old.lows } }
+        ensures { self.new ≡ record {
+          raw = int_max self.old.raw (kept_since settings.now.raw_duration now);
+          lows = raised now settings.now.rules self.old.lows;
+        } }
     {
         self.raw = max_mark(self.raw, kept_since(settings.raw_duration(), now));
         raise_lows(settings.rules(), self.lows.as_mut_slice(), now);

@@ -34,7 +34,8 @@ fn make_rules<A: Allocator + Copy>(
     alloc: A,
     rules: &[RuleParts<A>],
 ) -> Result<Option<Vec<Rule<A>, A>>, AllocError>
-    ensures { IfOk result (AreMadeIf (AllByRecursion IsImageRule (map rule_from_parts rules.now)) (map rule_in (map rule_from_parts rules.now))) }
+    ensures { IfOk result (AreMadeIf
+        (AllByRecursion IsImageRule (map rule_from_parts rules.now)) (map rule_in (map rule_from_parts rules.now))) }
 {
     let mut all = Vec::new(alloc);
     for parts in rules {
@@ -57,7 +58,8 @@ pub(crate) fn make_settings<A: Allocator + Copy>(
     alloc: A,
     parts: &SettingsParts<A>,
 ) -> Result<Option<Settings<A>>, AllocError>
-    ensures { IfOk result (IsMadeIf (AreImageSettings (settings_of_parts parts.now)) (settings_of_image (settings_of_parts parts.now))) }
+    ensures { IfOk result
+        (IsMadeIf (AreImageSettings (settings_of_parts parts.now)) (settings_of_image (settings_of_parts parts.now))) }
 {
     if !is_duration(&parts.raw_duration) {
         return Ok(None);

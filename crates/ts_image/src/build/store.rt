@@ -39,9 +39,11 @@ fn add_column<A: Allocator + Copy>(
     parts: ColumnParts<A>,
 ) -> Result<(), AllocError>
     requires registered { series < length builder.old.series }
-    requires absent { (s : Series) → IsAt builder.old.series series s → Among (record { series = s; field = string_bytes parts.field }) (map column_of builder.old.columns) → ⊥ }
+    requires absent { (s : Series) → IsAt builder.old.series series s
+        → Among (record { series = s; field = string_bytes parts.field }) (map column_of builder.old.columns) → ⊥ }
     requires column { IsAddedColumn (column_of_parts parts) }
-    ensures { (s : Series) → IsAt builder.old.series series s → OnOk result (builder.new ≡ with_built_column (image_points_in s (column_of_parts parts)) (is_column_waiting (column_of_parts parts)) builder.old) }
+    ensures { (s : Series) → IsAt builder.old.series series s → OnOk result (builder.new ≡ with_built_column
+        (image_points_in s (column_of_parts parts)) (is_column_waiting (column_of_parts parts)) builder.old) }
 {
     let points = parts.points.into_column();
     builder.add_column(series, parts.field.as_str(), parts.waits == 1, points)
@@ -54,9 +56,11 @@ fn add_columns<A: Allocator + Copy>(
     columns: Vec<ColumnParts<A>, A>,
 ) -> Result<(), AllocError>
     requires registered { series < length builder.old.series }
-    requires none { (s : Series) → IsAt builder.old.series series s → (c : Column) → Among c (map column_of builder.old.columns) → c.series ≡ s → ⊥ }
+    requires none { (s : Series) → IsAt builder.old.series series s
+        → (c : Column) → Among c (map column_of builder.old.columns) → c.series ≡ s → ⊥ }
     requires columns { AreAddedColumns (column_parts_of columns) }
-    ensures { (s : Series) → IsAt builder.old.series series s → OnOk result (builder.new ≡ with_image_columns s (column_parts_of columns) builder.old) }
+    ensures { (s : Series) → IsAt builder.old.series series s
+        → OnOk result (builder.new ≡ with_image_columns s (column_parts_of columns) builder.old) }
 {
     for parts in columns {
         add_column(builder, series, parts)?;
@@ -103,7 +107,8 @@ fn add_series<A: Allocator + Copy>(
 ) -> Result<(), AllocError>
     requires absent { Among (key_of parts.key) builder.old.series → ⊥ }
     requires few { length builder.old.series < 1000000 }
-    requires registered { (c : Column) → Among c (map column_of builder.old.columns) → Among c.series builder.old.series }
+    requires registered { (c : Column)
+        → Among c (map column_of builder.old.columns) → Among c.series builder.old.series }
     requires series { IsAddedSeries (series_of_parts parts) }
     ensures { OnOk result (builder.new ≡ with_all_series (series_of_parts parts ∷ []) builder.old) }
 {
@@ -140,7 +145,8 @@ fn add_cell<A: Allocator + Copy>(
     requires rule { rule < length builder.old.settings.rules }
     requires absent { finmap.get (cell_map_at builder.old.cells rule) (cell_key_of parts.now.key) ≡ None }
     requires part { HasPart (cell_of_parts parts.now) }
-    ensures { OnOk result (builder.new ≡ with_built_cell rule (cell_key_of parts.now.key) (cell_part_of (cell_of_parts parts.now)) builder.old) }
+    ensures { OnOk result (builder.new
+        ≡ with_built_cell rule (cell_key_of parts.now.key) (cell_part_of (cell_of_parts parts.now)) builder.old) }
 {
     let group = borrow_strings(alloc, &parts.key.group)?;
     let index = i128::from(parts.key.index);
@@ -197,7 +203,8 @@ fn begin<A: Allocator + Copy>(
     parts: &ImageParts<A>,
 ) -> Result<StoreBuilder<A>, AllocError>
     requires { IsTime parts.now.marks.raw }
-    ensures { IfOk result (λ b. b ≡ new_built settings (image_of parts.now).marks (image_of parts.now).accepted ((image_of parts.now).runs == 1)) }
+    ensures { IfOk result (λ b. b ≡ new_built settings
+        (image_of parts.now).marks (image_of parts.now).accepted ((image_of parts.now).runs == 1)) }
 {
     let marks = make_marks(alloc, &parts.marks)?;
     let running = parts.runs == 1;

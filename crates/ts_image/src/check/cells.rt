@@ -62,7 +62,8 @@ fn are_frozen<A: Allocator>(
     extremes: &ExtremesParts,
 ) -> bool
     requires { pos 1 ≤ℤ rule.now.interval }
-    ensures { IsTrue result ↔ (IsFrozenTime mark.now (rule_from_parts rule.now) index.now extremes.now.first.0 × IsFrozenTime mark.now (rule_from_parts rule.now) index.now extremes.now.last.0) }
+    ensures { IsTrue result ↔ (IsFrozenTime mark.now (rule_from_parts rule.now) index.now extremes.now.first.0
+        × IsFrozenTime mark.now (rule_from_parts rule.now) index.now extremes.now.last.0) }
 {
     is_frozen_time(mark, rule, index, &extremes.first.0)
         && is_frozen_time(mark, rule, index, &extremes.last.0)
@@ -97,7 +98,8 @@ fn are_cells_possible<A: Allocator>(
     cells: &[CellParts<A>],
 ) -> bool
     requires { pos 1 ≤ℤ rule.now.interval }
-    ensures { IsTrue result ↔ AllByRecursion (IsImageCell mark.now (rule_from_parts rule.now) low.now) (map cell_of_parts cells.now) }
+    ensures { IsTrue result
+        ↔ AllByRecursion (IsImageCell mark.now (rule_from_parts rule.now) low.now) (map cell_of_parts cells.now) }
 {
     for cell in cells {
         if !is_cell(mark, rule, low, cell) {

@@ -14,7 +14,8 @@ use std::alloc::Allocator;
 
 /// Subtracts the points of columns.
 fn subtract_columns<A: Allocator>(mut left: u64, columns: &[ColumnParts<A>]) -> Option<u64>
-    ensures { IsSubtracted left (sum_by (λ (c : ImageColumn). length c.points) (map column_of_parts columns.now)) result }
+    ensures { IsSubtracted left
+        (sum_by (λ (c : ImageColumn). length c.points) (map column_of_parts columns.now)) result }
 {
     for column in columns {
         match column.points.subtract_from(left) {

@@ -104,7 +104,8 @@ pub(crate) fn are_all_cells<A: Allocator>(
     cells: &[Vec<CellParts<A>, A>],
 ) -> bool
     requires { AllByRecursion HasLongInterval rules.now }
-    ensures { IsTrue result ↔ CellsAre mark.now (map rule_from_parts rules.now) lows.now (map cells_of_parts cells.now) }
+    ensures { IsTrue result
+        ↔ CellsAre mark.now (map rule_from_parts rules.now) lows.now (map cells_of_parts cells.now) }
 {
     for ((rule, low), cells) in rules.iter().zip(lows).zip(cells) {
         if !are_cells_of(mark, rule, low, cells) {
@@ -121,7 +122,8 @@ fn is_counted<A: Allocator>(
     rule: &RuleParts<A>,
     cells: &Vec<CellParts<A>, A>,
 ) -> bool
-    ensures { IsTrue result ↔ HasCountedFacts accepted (map series_of_parts series.now) (rule_from_parts rule.now) (cells_of_parts cells.now) }
+    ensures { IsTrue result ↔ HasCountedFacts accepted
+        (map series_of_parts series.now) (rule_from_parts rule.now) (cells_of_parts cells.now) }
 {
     match subtract_cells(accepted, cells) {
         Some(left) => subtract_measurement(left, series, rule.measurement.as_str()).is_some(),
@@ -136,7 +138,8 @@ pub(crate) fn are_counted<A: Allocator>(
     rules: &[RuleParts<A>],
     cells: &[Vec<CellParts<A>, A>],
 ) -> bool
-    ensures { IsTrue result ↔ AreCountedAll accepted (map series_of_parts series.now) (map rule_from_parts rules.now) (map cells_of_parts cells.now) }
+    ensures { IsTrue result ↔ AreCountedAll accepted
+        (map series_of_parts series.now) (map rule_from_parts rules.now) (map cells_of_parts cells.now) }
 {
     for (rule, cells) in rules.iter().zip(cells) {
         if !is_counted(accepted, series, rule, cells) {

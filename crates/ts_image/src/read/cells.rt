@@ -76,7 +76,8 @@ fn read_lows_of<R: Read, A: Allocator + Copy>(
     rules: &[RuleParts<A>],
 ) -> Result<Vec<i64, A>, FieldFault>
     requires { EndIsEnd reader.old.ahead source.old }
-    ensures { ReadsField (along (λ (r : ImageRule). signed_number w64) (map rule_from_parts rules.now)) lows_of reader.old source.old result reader.new source.new }
+    ensures { ReadsField (along (λ (r : ImageRule). signed_number w64)
+        (map rule_from_parts rules.now)) lows_of reader.old source.old result reader.new source.new }
 {
     read_lows(alloc, reader, source, rules.len() as u64)
 }
@@ -89,7 +90,8 @@ pub(crate) fn read_marks<R: Read, A: Allocator + Copy>(
     rules: &[RuleParts<A>],
 ) -> Result<MarksParts<A>, FieldFault>
     requires { EndIsEnd reader.old.ahead source.old }
-    ensures { ReadsField (image_marks (map rule_from_parts rules.now)) marks_of_parts reader.old source.old result reader.new source.new }
+    ensures { ReadsField (image_marks
+        (map rule_from_parts rules.now)) marks_of_parts reader.old source.old result reader.new source.new }
 {
     let raw = reader.i64(source)?;
     let lows = read_lows_of(alloc, reader, source, rules)?;
@@ -104,7 +106,8 @@ fn read_group<R: Read, A: Allocator + Copy>(
     rule: &RuleParts<A>,
 ) -> Result<Vec<String<A>, A>, FieldFault>
     requires { EndIsEnd reader.old.ahead source.old }
-    ensures { ReadsField (along (λ (tag : Text). text) (rule_from_parts rule.now).kept_tags) texts_of reader.old source.old result reader.new source.new }
+    ensures { ReadsField (along (λ (tag : Text). text)
+        (rule_from_parts rule.now).kept_tags) texts_of reader.old source.old result reader.new source.new }
 {
     read_strings(alloc, reader, source, rule.kept_tags.len() as u64)
 }
@@ -117,7 +120,8 @@ fn read_cell_key<R: Read, A: Allocator + Copy>(
     rule: &RuleParts<A>,
 ) -> Result<CellKeyParts<A>, FieldFault>
     requires { EndIsEnd reader.old.ahead source.old }
-    ensures { ReadsField (image_cell_key (rule_from_parts rule.now)) cell_key_of reader.old source.old result reader.new source.new }
+    ensures { ReadsField
+        (image_cell_key (rule_from_parts rule.now)) cell_key_of reader.old source.old result reader.new source.new }
 {
     let index = reader.i64(source)?;
     let field = reader.text(alloc, source)?;
@@ -157,7 +161,8 @@ fn read_cell<R: Read, A: Allocator + Copy>(
     rule: &RuleParts<A>,
 ) -> Result<CellParts<A>, FieldFault>
     requires { EndIsEnd reader.old.ahead source.old }
-    ensures { ReadsField (image_cell (rule_from_parts rule.now)) cell_of_parts reader.old source.old result reader.new source.new }
+    ensures { ReadsField
+        (image_cell (rule_from_parts rule.now)) cell_of_parts reader.old source.old result reader.new source.new }
 {
     let key = read_cell_key(alloc, reader, source, rule)?;
     let count = reader.u64(source)?;
@@ -180,7 +185,8 @@ fn read_cells<R: Read, A: Allocator + Copy>(
     count: u64,
 ) -> Result<Vec<CellParts<A>, A>, FieldFault>
     requires { EndIsEnd reader.old.ahead source.old }
-    ensures { ReadsField (times count (image_cell (rule_from_parts rule.now))) cells_of_parts reader.old source.old result reader.new source.new }
+    ensures { ReadsField (times count
+        (image_cell (rule_from_parts rule.now))) cells_of_parts reader.old source.old result reader.new source.new }
 {
     let mut cells = Vec::new(alloc);
     for _ in 0..count {
@@ -198,7 +204,8 @@ fn read_counted_cells<R: Read, A: Allocator + Copy>(
     rule: &RuleParts<A>,
 ) -> Result<Vec<CellParts<A>, A>, FieldFault>
     requires { EndIsEnd reader.old.ahead source.old }
-    ensures { ReadsField (list_of w64 (image_cell (rule_from_parts rule.now))) cells_of_parts reader.old source.old result reader.new source.new }
+    ensures { ReadsField (list_of w64
+        (image_cell (rule_from_parts rule.now))) cells_of_parts reader.old source.old result reader.new source.new }
 {
     let count = reader.u64(source)?;
     read_cells(alloc, reader, source, rule, count)
@@ -212,7 +219,8 @@ pub(crate) fn read_all_cells<R: Read, A: Allocator + Copy>(
     rules: &[RuleParts<A>],
 ) -> Result<Vec<Vec<CellParts<A>, A>, A>, FieldFault>
     requires { EndIsEnd reader.old.ahead source.old }
-    ensures { ReadsField (along (λ (r : ImageRule). list_of w64 (image_cell r)) (map rule_from_parts rules.now)) all_cells_of reader.old source.old result reader.new source.new }
+    ensures { ReadsField (along (λ (r : ImageRule). list_of w64 (image_cell r))
+        (map rule_from_parts rules.now)) all_cells_of reader.old source.old result reader.new source.new }
 {
     let mut all = Vec::new(alloc);
     for rule in rules {

@@ -34,7 +34,8 @@ fn read_points<R: Read, A: Allocator + Copy>(
     count: u64,
 ) -> Result<PointsParts<A>, FieldFault>
     requires { EndIsEnd reader.old.ahead source.old }
-    ensures { ReadsField (times count image_point) (λ points. points) reader.old source.old result reader.new source.new }
+    ensures { ReadsField
+        (times count image_point) (λ points. points) reader.old source.old result reader.new source.new }
 {
     let mut points = PointsParts::new(alloc);
     for _ in 0..count {
@@ -51,7 +52,8 @@ pub(crate) fn read_counted_points<R: Read, A: Allocator + Copy>(
     source: &mut Source<R>,
 ) -> Result<PointsParts<A>, FieldFault>
     requires { EndIsEnd reader.old.ahead source.old }
-    ensures { ReadsField (list_of w64 image_point) (λ points. points) reader.old source.old result reader.new source.new }
+    ensures { ReadsField
+        (list_of w64 image_point) (λ points. points) reader.old source.old result reader.new source.new }
 {
     let count = reader.u64(source)?;
     read_points(alloc, reader, source, count)

@@ -26,7 +26,8 @@ impl<A: Allocator + Copy> Model for FieldReader<A> {
 
     ghost view = { λ r. record { ahead = r.ahead; at = r.at } };
 
-    ghost invariant = { λ r. (r.at + length r.ahead.buffered ≤ r.ahead.reads * 65536) × (r.ahead.reads ≤ r.ahead.limit) × (r.ahead.limit ≤ 2 ^ 32) };
+    ghost invariant = { λ r. (r.at + length r.ahead.buffered ≤ r.ahead.reads * 65536)
+        × (r.ahead.reads ≤ r.ahead.limit) × (r.ahead.limit ≤ 2 ^ 32) };
 }
 
 impl<A: Allocator + Copy> FieldReader<A> {

@@ -55,7 +55,8 @@ fn append<A: Allocator + Copy>(
     value: i64,
 ) -> Result<(), AllocError>
     requires { AllByRecursion (λ p. p.0 <ℤ time) (finmap.entries column.old.points) }
-    ensures ok { OnOk result (finmap.entries column.new.points ≡ finmap.entries column.old.points ++ (time, value) ∷ []) }
+    ensures ok { OnOk result
+        (finmap.entries column.new.points ≡ finmap.entries column.old.points ++ (time, value) ∷ []) }
     ensures err { OnErr result (column.new.points ≡ column.old.points) }
 {
     column.prepare(time, value)?;
@@ -104,7 +105,8 @@ impl<A: Allocator> PointsParts<A> {
     /// Returns true if the points have valid times in ascending order, and none is below the raw mark unless the column
     /// waits.
     pub(crate) fn are_possible(&self, mark: &i64, waits: u8) -> bool
-        ensures { IsTrue result ↔ (AllByRecursion (IsImagePoint mark.now waits) self.now × AreRising int_cmp (map (λ (p : ℤ × ℤ). p.0) self.now)) }
+        ensures { IsTrue result ↔ (AllByRecursion (IsImagePoint mark.now waits) self.now
+            × AreRising int_cmp (map (λ (p : ℤ × ℤ). p.0) self.now)) }
     {
         self.others.is_empty() && (waits == 1 || is_from(&self.column, mark))
     }

@@ -81,7 +81,8 @@ fn read_columns<R: Read, A: Allocator + Copy>(
     count: u64,
 ) -> Result<Vec<ColumnParts<A>, A>, FieldFault>
     requires { EndIsEnd reader.old.ahead source.old }
-    ensures { ReadsField (times count (image_column version)) column_parts_of reader.old source.old result reader.new source.new }
+    ensures { ReadsField
+        (times count (image_column version)) column_parts_of reader.old source.old result reader.new source.new }
 {
     let mut columns = Vec::new(alloc);
     for _ in 0..count {
@@ -100,7 +101,8 @@ fn read_counted_columns<R: Read, A: Allocator + Copy>(
     version: Version,
 ) -> Result<Vec<ColumnParts<A>, A>, FieldFault>
     requires { EndIsEnd reader.old.ahead source.old }
-    ensures { ReadsField (list_of w64 (image_column version)) column_parts_of reader.old source.old result reader.new source.new }
+    ensures { ReadsField
+        (list_of w64 (image_column version)) column_parts_of reader.old source.old result reader.new source.new }
 {
     let count = reader.u64(source)?;
     read_columns(alloc, reader, source, version, count)
@@ -128,7 +130,8 @@ fn read_tags<R: Read, A: Allocator + Copy>(
     count: u8,
 ) -> Result<Vec<(String<A>, String<A>), A>, FieldFault>
     requires { EndIsEnd reader.old.ahead source.old }
-    ensures { ReadsField (times count (also text text)) tags_of_parts reader.old source.old result reader.new source.new }
+    ensures { ReadsField
+        (times count (also text text)) tags_of_parts reader.old source.old result reader.new source.new }
 {
     let mut tags = Vec::new(alloc);
     for _ in 0..count {
@@ -145,7 +148,8 @@ fn read_counted_tags<R: Read, A: Allocator + Copy>(
     source: &mut Source<R>,
 ) -> Result<Vec<(String<A>, String<A>), A>, FieldFault>
     requires { EndIsEnd reader.old.ahead source.old }
-    ensures { ReadsField (list_of w8 (also text text)) tags_of_parts reader.old source.old result reader.new source.new }
+    ensures { ReadsField
+        (list_of w8 (also text text)) tags_of_parts reader.old source.old result reader.new source.new }
 {
     let count = reader.u8(source)?;
     read_tags(alloc, reader, source, count)
@@ -189,7 +193,8 @@ fn read_all_series<R: Read, A: Allocator + Copy>(
     count: u32,
 ) -> Result<Vec<SeriesParts<A>, A>, FieldFault>
     requires { EndIsEnd reader.old.ahead source.old }
-    ensures { ReadsField (times count (image_series version)) all_series_of reader.old source.old result reader.new source.new }
+    ensures { ReadsField
+        (times count (image_series version)) all_series_of reader.old source.old result reader.new source.new }
 {
     let mut series = Vec::new(alloc);
     for _ in 0..count {
@@ -208,7 +213,8 @@ pub(crate) fn read_counted_series<R: Read, A: Allocator + Copy>(
     version: Version,
 ) -> Result<Vec<SeriesParts<A>, A>, FieldFault>
     requires { EndIsEnd reader.old.ahead source.old }
-    ensures { ReadsField (list_of w32 (image_series version)) all_series_of reader.old source.old result reader.new source.new }
+    ensures { ReadsField
+        (list_of w32 (image_series version)) all_series_of reader.old source.old result reader.new source.new }
 {
     let count = reader.u32(source)?;
     read_all_series(alloc, reader, source, version, count)

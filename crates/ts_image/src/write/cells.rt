@@ -45,7 +45,8 @@ fn put_part<W: Write, A: Allocator>(
     out: &mut OutputBuffer<A>,
     sink: &mut Sink<W>,
 ) -> Result<(), Refused>
-    ensures { PutsField (also (number w64) (also (signed_number w128) image_extremes)) (part.now.count, (part.now.sum, extremes.now)) sink.old out.old result sink.new out.new }
+    ensures { PutsField (also (number w64) (also (signed_number w128) image_extremes))
+        (part.now.count, (part.now.sum, extremes.now)) sink.old out.old result sink.new out.new }
 {
     put_u64(part.count(), out, sink)?;
     put_i128(&part.sum(), out, sink)?;
@@ -59,7 +60,8 @@ fn put_some_part<W: Write, A: Allocator>(
     sink: &mut Sink<W>,
 ) -> Result<(), Refused>
     requires { 0 < part.now.count }
-    ensures { PutsField (also (number w64) (also (signed_number w128) image_extremes)) (part.now.count, (part.now.sum, extremes_in part.now.extremes)) sink.old out.old result sink.new out.new }
+    ensures { PutsField (also (number w64) (also (signed_number w128) image_extremes))
+        (part.now.count, (part.now.sum, extremes_in part.now.extremes)) sink.old out.old result sink.new out.new }
 {
     match part.extremes() {
         None => unreachable!(),
@@ -76,7 +78,12 @@ fn put_cell_key<W: Write, A: Allocator>(
     sink: &mut Sink<W>,
 ) -> Result<(), Refused>
     requires { FitsSigned w64 index.now }
-    ensures { (r : ImageRule) → length group.now ≡ length r.kept_tags → PutsField (image_cell_key r) (record { index = index.now; field = field.now; group = map string_bytes group.now }) sink.old out.old result sink.new out.new }
+    ensures { (r : ImageRule)
+        → length group.now ≡ length r.kept_tags → PutsField (image_cell_key r) (record {
+          index = index.now;
+          field = field.now;
+          group = map string_bytes group.now;
+        }) sink.old out.old result sink.new out.new }
 {
     put_index(index, out, sink)?;
     put_text(field, out, sink)?;
@@ -94,7 +101,12 @@ pub(crate) fn put_cell<W: Write, A: Allocator>(
 ) -> Result<(), Refused>
     requires index { FitsSigned w64 index.now }
     requires some { 0 < frozen.now.count }
-    ensures { (r : ImageRule) → length group.now ≡ length r.kept_tags → PutsField (image_cell r) (image_cell_with (record { index = index.now; field = field.now; group = map string_bytes group.now }) frozen.now) sink.old out.old result sink.new out.new }
+    ensures { (r : ImageRule)
+        → length group.now ≡ length r.kept_tags → PutsField (image_cell r) (image_cell_with (record {
+          index = index.now;
+          field = field.now;
+          group = map string_bytes group.now;
+        }) frozen.now) sink.old out.old result sink.new out.new }
 {
     put_cell_key(index, field, group, out, sink)?;
     put_some_part(frozen, out, sink)

@@ -47,7 +47,8 @@ pub(crate) fn put_column<W: Write, A: Allocator>(
     out: &mut OutputBuffer<A>,
     sink: &mut Sink<W>,
 ) -> Result<(), Refused>
-    ensures { PutsField (image_column V2) (record { field = field.now; waits = bit waits; points = points.entry }) sink.old out.old result sink.new out.new }
+    ensures { PutsField (image_column V2) (record { field = field.now; waits = bit waits; points = points.entry })
+        sink.old out.old result sink.new out.new }
 {
     put_text(field, out, sink)?;
     put_u8(u8::from(waits), out, sink)?;

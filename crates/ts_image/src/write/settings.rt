@@ -106,7 +106,8 @@ pub(crate) fn put_marks<W: Write, A: Allocator>(
     sink: &mut Sink<W>,
 ) -> Result<(), Refused>
     requires { AllByRecursion (FitsSigned w64) marks.now.lows }
-    ensures { (rules : List ImageRule) → length marks.now.lows ≡ length rules → PutsField (image_marks rules) marks.now sink.old out.old result sink.new out.new }
+    ensures { (rules : List ImageRule) → length marks.now.lows ≡ length rules
+        → PutsField (image_marks rules) marks.now sink.old out.old result sink.new out.new }
 {
     put_i64(&marks.raw().nanos(), out, sink)?;
     put_lows(marks.lows(), out, sink)

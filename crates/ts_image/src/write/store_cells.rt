@@ -52,7 +52,8 @@ fn put_frozen_cell<W: Write, A: Allocator>(
 ) -> Result<(), Refused>
     requires fit { FitsCell rule.now cell.now }
     requires some { 0 < cell.now.frozen.count }
-    ensures { PutsField (image_cell (image_rule_of rule.now)) (image_cell_of cell.now) sink.old out.old result sink.new out.new }
+    ensures { PutsField
+        (image_cell (image_rule_of rule.now)) (image_cell_of cell.now) sink.old out.old result sink.new out.new }
 {
     put_cell(&cell.index, cell.field, cell.group, &cell.frozen, out, sink)
 }
@@ -66,7 +67,8 @@ fn put_frozen_cells<W: Write, A: Allocator + Copy>(
 ) -> Result<(), Refused>
     requires fit { AllByRecursion (FitsCell rule.now) cells }
     requires some { AllByRecursion (λ c. 0 < c.frozen.count) cells }
-    ensures { PutsAll (image_cell (image_rule_of rule.now)) (map image_cell_of cells.entry) sink.old out.old result sink.new out.new }
+    ensures { PutsAll
+        (image_cell (image_rule_of rule.now)) (map image_cell_of cells.entry) sink.old out.old result sink.new out.new }
 {
     for cell in cells {
         put_frozen_cell(rule, &cell, out, sink)?;
@@ -86,7 +88,8 @@ fn put_rule_cells<W: Write, A: Allocator + Copy>(
     requires rule { number < length store.now.rules }
     requires count { count ≡ length (saved_cells_at store.now number) }
     requires fit { AllByRecursion (FitsCell rule.now) (saved_cells_at store.now number) }
-    ensures { PutsField (list_of w64 (image_cell (image_rule_of rule.now))) (map image_cell_of (saved_cells_at store.now number)) sink.old out.old result sink.new out.new }
+    ensures { PutsField (list_of w64 (image_cell (image_rule_of rule.now)))
+        (map image_cell_of (saved_cells_at store.now number)) sink.old out.old result sink.new out.new }
 {
     put_u64(count, out, sink)?;
     put_frozen_cells(rule, store.frozen_cells(number), out, sink)
@@ -101,7 +104,8 @@ pub(crate) fn put_all_cells<W: Write, A: Allocator + Copy>(
 ) -> Result<(), Refused>
     requires counts { counts.now ≡ cell_counts store.now }
     requires fit { FitCells store.now }
-    ensures { PutsField (along (λ r. list_of w64 (image_cell r)) (map image_rule_of (store_settings store.now).rules)) (map (map image_cell_of) (saved_cells store.now)) sink.old out.old result sink.new out.new }
+    ensures { PutsField (along (λ r. list_of w64 (image_cell r)) (map image_rule_of (store_settings store.now).rules))
+        (map (map image_cell_of) (saved_cells store.now)) sink.old out.old result sink.new out.new }
 {
     let rules = store.settings().rules();
     for (number, count) in counts.iter().enumerate() {

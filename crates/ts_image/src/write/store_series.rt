@@ -24,7 +24,8 @@ fn put_saved_column<W: Write, A: Allocator + Copy>(
     sink: &mut Sink<W>,
 ) -> Result<(), Refused>
     requires { column.now.number < length store.now.columns }
-    ensures { PutsField (image_column V2) (image_column_of store.now column.now) sink.old out.old result sink.new out.new }
+    ensures { PutsField
+        (image_column V2) (image_column_of store.now column.now) sink.old out.old result sink.new out.new }
 {
     let waits = store.waits(column.id);
     let points = store.points_of(column.id);
@@ -39,7 +40,8 @@ fn put_columns<W: Write, A: Allocator + Copy>(
     sink: &mut Sink<W>,
 ) -> Result<(), Refused>
     requires { AllByRecursion (λ c. c.number < length store.now.columns) columns.now }
-    ensures { PutsAll (image_column V2) (map (image_column_of store.now) columns.now) sink.old out.old result sink.new out.new }
+    ensures { PutsAll
+        (image_column V2) (map (image_column_of store.now) columns.now) sink.old out.old result sink.new out.new }
 {
     for column in columns {
         put_saved_column(store, column, out, sink)?;
@@ -55,7 +57,8 @@ fn put_counted_columns<W: Write, A: Allocator + Copy>(
     sink: &mut Sink<W>,
 ) -> Result<(), Refused>
     requires { AllByRecursion (λ c. c.number < length store.now.columns) columns.now }
-    ensures { PutsField (list_of w64 (image_column V2)) (map (image_column_of store.now) columns.now) sink.old out.old result sink.new out.new }
+    ensures { PutsField (list_of w64 (image_column V2))
+        (map (image_column_of store.now) columns.now) sink.old out.old result sink.new out.new }
 {
     put_u64(columns.len() as u64, out, sink)?;
     put_columns(store, columns, out, sink)
@@ -70,7 +73,8 @@ fn put_series<W: Write, A: Allocator + Copy>(
 ) -> Result<(), Refused>
     requires tags { length series.now.series.tags < 256 }
     requires columns { HasItsColumns store.now series.now }
-    ensures { PutsField (image_series V2) (image_series_of store.now series.now) sink.old out.old result sink.new out.new }
+    ensures { PutsField
+        (image_series V2) (image_series_of store.now series.now) sink.old out.old result sink.new out.new }
 {
     put_key(series.key, out, sink)?;
     put_counted_columns(store, series.columns.as_slice(), out, sink)
@@ -85,7 +89,8 @@ fn put_all_series<W: Write, A: Allocator + Copy>(
 ) -> Result<(), Refused>
     requires tags { AllByRecursion (λ s. length s.series.tags < 256) all.now }
     requires columns { AllByRecursion (HasItsColumns store.now) all.now }
-    ensures { PutsAll (image_series V2) (map (image_series_of store.now) all.now) sink.old out.old result sink.new out.new }
+    ensures { PutsAll
+        (image_series V2) (map (image_series_of store.now) all.now) sink.old out.old result sink.new out.new }
 {
     for series in all {
         put_series(store, series, out, sink)?;
@@ -102,7 +107,8 @@ pub(crate) fn put_counted_series<W: Write, A: Allocator + Copy>(
 ) -> Result<(), Refused>
     requires series { FitSeries all.now }
     requires columns { AllByRecursion (HasItsColumns store.now) all.now }
-    ensures { PutsField (list_of w32 (image_series V2)) (map (image_series_of store.now) all.now) sink.old out.old result sink.new out.new }
+    ensures { PutsField (list_of w32 (image_series V2))
+        (map (image_series_of store.now) all.now) sink.old out.old result sink.new out.new }
 {
     put_u32(all.len() as u32, out, sink)?;
     put_all_series(store, all, out, sink)

@@ -53,7 +53,8 @@ impl<'a> ColumnReader<'a> {
         ensures boundary { IsOnBoundary self.new }
         ensures text { self.new.text ≡ self.old.text }
         ensures later { IfSome result (λ _. self.old.at < self.new.at) }
-        ensures value { (left : List Projection) → AreLeft self.old left → MatchOption result (left ≡ []) (λ c. (rest : List Projection) × (left ≡ projection c ∷ rest) × AreLeft self.new rest) }
+        ensures value { (left : List Projection) → AreLeft self.old left → MatchOption result
+            (left ≡ []) (λ c. (rest : List Projection) × (left ≡ projection c ∷ rest) × AreLeft self.new rest) }
     {
         while !has_from(self.state) {
             let token = Token::at(self.text, self.at);
@@ -72,7 +73,8 @@ impl<'a> ColumnReader<'a> {
     /// Returns true if a column that is left has the name of this one.
     fn has_column(self, column: &Column<'_>) -> bool
         requires { IsOnBoundary self }
-        ensures { (left : List Projection) → AreLeft self.entry left → result ≡ has_column (projection column.now).name left }
+        ensures { (left : List Projection)
+            → AreLeft self.entry left → result ≡ has_column (projection column.now).name left }
     {
         let mut others = self;
         while let Some(other) = others.next() {

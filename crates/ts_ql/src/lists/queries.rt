@@ -47,7 +47,8 @@ fn shadow_with<A: Allocator + Copy>(
     buckets: Buckets,
     span: Span,
 ) -> Shadow
-    ensures { result.lists.queries ≡ before.now.lists.queries ++ query_of (meaning (builder_state statement.now)) buckets span ∷ [] }
+    ensures { result.lists.queries
+        ≡ before.now.lists.queries ++ query_of (meaning (builder_state statement.now)) buckets span ∷ [] }
 {
     let outline = Outline {
         field: statement.selection.call.field,
@@ -75,7 +76,8 @@ fn push<A: Allocator + Copy>(
 ) -> Result<(), AllocError>
     requires columns { repeats (builder_state statement).selection.columns ≡ false }
     requires limits { IsLimited (query_of (meaning (builder_state statement)) buckets span).query }
-    ensures { IfOk result (λ _. queries.new.items ≡ queries.old.items ++ query_of (meaning (builder_state statement.entry)) buckets span ∷ []) }
+    ensures { IfOk result (λ _. queries.new.items
+        ≡ queries.old.items ++ query_of (meaning (builder_state statement.entry)) buckets span ∷ []) }
 {
     queries.push(statement.over(alloc, buckets, span)?)?;
     Ok(())

@@ -66,7 +66,8 @@ impl Shadow {
         _tags: &Shadow,
         _outline: &Outline<'_>,
     ) -> Shadow
-        ensures { result.lists ≡ query_appended _columns.now.lists _conditions.now.lists _tags.now.lists _outline.now _before.now.lists }
+        ensures { result.lists
+            ≡ query_appended _columns.now.lists _conditions.now.lists _tags.now.lists _outline.now _before.now.lists }
     {
         Shadow {
             marker: PhantomData,

@@ -12,7 +12,8 @@ use ts_core::{Fill, Function, Time};
 
 /// Returns the single column `count`.
 fn count_column<A: Allocator + Copy>(alloc: A) -> Result<Vec<Projection<A>, A>, AllocError>
-    ensures { IfOk result (λ v. v.items ≡ record { function = functions.Count; name = function_name functions.Count } ∷ []) }
+    ensures { IfOk result
+        (λ v. v.items ≡ record { function = functions.Count; name = function_name functions.Count } ∷ []) }
 {
     let name = String::from_str(alloc, function_name(Function::Count))?;
     let mut columns = Vec::new(alloc);

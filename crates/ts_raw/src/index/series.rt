@@ -154,7 +154,8 @@ impl<A: Allocator + Copy> SeriesTable<A> {
         key: &KeyRef<'_>,
     ) -> Result<SeriesId, IndexFault>
         ensures registered { IsRegistered self.old self.new result key.now }
-        ensures full { (result ≡ Err IndexFault.TooManySeries) ↔ ((limit ≤ length self.old) × (Among key.now self.old → ⊥)) }
+        ensures full { (result ≡ Err IndexFault.TooManySeries)
+            ↔ ((limit ≤ length self.old) × (Among key.now self.old → ⊥)) }
         ensures once { AllDistinct self.new }
     {
         if let Some(series) = self.lookup_follower(key) {
@@ -171,7 +172,8 @@ impl<A: Allocator + Copy> SeriesTable<A> {
 
     fn register_by_hash(&mut self, limit: usize, key: &KeyRef<'_>) -> Result<SeriesId, IndexFault>
         ensures registered { IsRegistered self.old self.new result key.now }
-        ensures full { (result ≡ Err IndexFault.TooManySeries) ↔ ((limit ≤ length self.old) × (Among key.now self.old → ⊥)) }
+        ensures full { (result ≡ Err IndexFault.TooManySeries)
+            ↔ ((limit ≤ length self.old) × (Among key.now self.old → ⊥)) }
         ensures once { AllDistinct self.new }
     {
         let hash = hash_series(&self.seed, key);

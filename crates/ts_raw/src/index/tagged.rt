@@ -19,7 +19,8 @@ fn tagged_column<A: Allocator + Copy>(
     value: &str,
 ) -> Option<ColumnId>
     ensures found { IfSome result (λ n. IsTaggedAt series.now columns.now.columns field tag.now value.now number n) }
-    ensures absent { IfNone result ((n : ℕ) → IsTaggedAt series.now columns.now.columns field tag.now value.now number n → ⊥) }
+    ensures absent { IfNone result ((n : ℕ)
+        → IsTaggedAt series.now columns.now.columns field tag.now value.now number n → ⊥) }
 {
     if number as usize >= series.len() {
         return None;
@@ -41,7 +42,8 @@ pub(crate) fn tagged_columns<A: Allocator + Copy>(
     value: &str,
 ) -> Result<Vec<ColumnId, A>, AllocError>
     requires { AllDistinct columns.now.columns }
-    ensures { IfOk result (λ v. AreTaggedAt series.now columns.now.columns field tag.now value.now numbers.now v.items) }
+    ensures { IfOk result
+        (λ v. AreTaggedAt series.now columns.now.columns field tag.now value.now numbers.now v.items) }
 {
     let mut found = Vec::new(alloc);
     for number in numbers {

@@ -67,7 +67,8 @@ with_built_cell rule k frozen b = record {
   series = b.series;
   columns = b.columns;
   waits = b.waits;
-  cells = set b.cells rule (finmap.insert (cell_map_at b.cells rule) k (record { frozen = frozen; live = empty_aggregate }));
+  cells = set b.cells rule
+      (finmap.insert (cell_map_at b.cells rule) k (record { frozen = frozen; live = empty_aggregate }));
 }
 
 -- ---- conditions for a store of the parts
@@ -99,11 +100,13 @@ pub record IsBuildable (b : Built) : Type 0 where
 
 -- the columns that wait, in creation order
 abbrev pub waiting_of : List ColumnPoints → List Bool → List Column
-waiting_of columns waits = map (λ (p : ColumnPoints × Bool). p.0.column) (filter (λ (p : ColumnPoints × Bool). p.1) (zip columns waits))
+waiting_of columns waits =
+    map (λ (p : ColumnPoints × Bool). p.0.column) (filter (λ (p : ColumnPoints × Bool). p.1) (zip columns waits))
 
 -- the rule has the cell of each of these facts, from the low index on
 abbrev pub HasCellsOf : List Fact → Rule → ℤ → CellMap → Type 0
-HasCellsOf facts r low m = (f : Fact) → Among f facts → is_rolled r f ≡ true → low ≤ℤ (cell_of r f).index → finmap.get m (cell_of r f) ≡ None → ⊥
+HasCellsOf facts r low m = (f : Fact)
+    → Among f facts → is_rolled r f ≡ true → low ≤ℤ (cell_of r f).index → finmap.get m (cell_of r f) ≡ None → ⊥
 
 -- the same for each rule
 abbrev pub HaveCells : List Fact → List RuleData → Type 0
@@ -127,9 +130,15 @@ pub record IsBuiltFrom (b : Built) (k : StoreData) : Type 0 where
 
 abbrev pub coded_built : Coded Built
 coded_built =
-    code_by ((ℕ × List Rule) × ((ℤ × List ℤ) × (Bool × (ℕ × (List Series × (List ColumnPoints × (List Bool × List CellMap)))))))
-    (coded× (coded× coded_ℕ (coded_list coded_rule)) (coded× (coded× coded_ℤ (coded_list coded_ℤ)) (coded× coded_bool (coded× coded_ℕ (coded× (coded_list coded_series) (coded× (coded_list coded_column_points) (coded× (coded_list coded_bool) (coded_list coded_cell_map))))))))
-    (λ b. ((b.settings.raw_duration, b.settings.rules), ((b.marks.raw, b.marks.lows), (b.running, (b.accepted, (b.series, (b.columns, (b.waits, b.cells))))))))
+    code_by ((ℕ × List Rule)
+    × ((ℤ × List ℤ) × (Bool × (ℕ × (List Series × (List ColumnPoints × (List Bool × List CellMap)))))))
+    (coded× (coded× coded_ℕ (coded_list coded_rule)) (coded×
+    (coded× coded_ℤ (coded_list coded_ℤ)) (coded× coded_bool (coded× coded_ℕ (coded× (coded_list coded_series)
+    (coded× (coded_list coded_column_points) (coded× (coded_list coded_bool) (coded_list coded_cell_map))))))))
+    (λ b. (
+      (b.settings.raw_duration, b.settings.rules),
+      ((b.marks.raw, b.marks.lows), (b.running, (b.accepted, (b.series, (b.columns, (b.waits, b.cells)))))),
+    ))
     (λ p. record {
       settings = record { raw_duration = p.0.0; rules = p.0.1 };
       marks = record { raw = p.1.0.0; lows = p.1.0.1 };

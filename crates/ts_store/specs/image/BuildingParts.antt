@@ -60,7 +60,8 @@ pub record MakesCells (facts : List Fact) (r : Rule) (low : ℤ) (m n : CellMap)
 
 -- no cell is created or removed, and each frozen part stays
 abbrev pub KeepsFrozen : CellMap → CellMap → Type 0
-KeepsFrozen m n = (k : Cell) → option_map (λ (p : CellParts). p.frozen) (finmap.get n k) ≡ option_map (λ (p : CellParts). p.frozen) (finmap.get m k)
+KeepsFrozen m n = (k : Cell) → option_map (λ (p : CellParts). p.frozen) (finmap.get n k)
+    ≡ option_map (λ (p : CellParts). p.frozen) (finmap.get m k)
 
 -- the same for each rule
 abbrev pub KeepFrozen : List CellMap → List CellMap → Type 0
@@ -68,7 +69,8 @@ KeepFrozen = AllZip KeepsFrozen
 
 -- merged with the facts that are still to be added, each live part is the aggregate of all facts
 abbrev pub IsFilledBut : List Fact → List Fact → Rule → CellMap → Type 0
-IsFilledBut left all r m = (k : Cell) (p : CellParts) → finmap.get m k ≡ Some p → merged p.live (total_of r k left) ≡ total_of r k all
+IsFilledBut left all r m = (k : Cell) (p : CellParts)
+    → finmap.get m k ≡ Some p → merged p.live (total_of r k left) ≡ total_of r k all
 
 -- the same for each rule
 abbrev pub AreFilledBut : List Fact → List Fact → List Rule → List CellMap → Type 0
@@ -78,9 +80,11 @@ AreFilledBut left all = OfEach (IsFilledBut left all)
 -- series stay
 pub record FillsCells (rules : List Rule) (lows : List ℤ) (old new : StoreContent) : Type 0 where
   pub others : new ≡ content_with_cells (cells_of new.rollups) old
-  pub cells : OfEachRule (PutsCells (facts_of old.columns)) (rules_with rules lows (cells_of old.rollups)) (rules_with rules lows (cells_of new.rollups))
+  pub cells : OfEachRule (PutsCells (facts_of old.columns))
+      (rules_with rules lows (cells_of old.rollups)) (rules_with rules lows (cells_of new.rollups))
   pub has_cells : HaveCells (facts_of old.columns) (rules_with rules lows (cells_of new.rollups))
   pub live : AreLive old.columns (rules_with rules lows (cells_of new.rollups))
-  pub possible : HavePossibleCells (rules_with rules lows (cells_of old.rollups)) → HavePossibleCells (rules_with rules lows (cells_of new.rollups))
+  pub possible : HavePossibleCells (rules_with rules lows (cells_of old.rollups))
+      → HavePossibleCells (rules_with rules lows (cells_of new.rollups))
   pub known : AreKnown new
   pub once : AllDistinct (facts_of new.columns)

@@ -16,7 +16,8 @@ with_saved_column s x = record { series = s.series; columns = s.columns ++ x ∷
 -- the series has exactly its columns with an index below n, each field once
 pub record ListsFirst (columns : List Column) (n : ℕ) (s : SavedSeries) : Type 0 where
   pub once : AllDistinct (map saved_field s.columns)
-  pub each : (x : SavedColumn) → Among x s.columns ↔ ((x.number < n) × IsAt columns x.number (record { series = s.series; field = x.field }))
+  pub each : (x : SavedColumn)
+      → Among x s.columns ↔ ((x.number < n) × IsAt columns x.number (record { series = s.series; field = x.field }))
 
 -- the same for each series of an index
 pub record ListsColumns (index : Indexed) (n : ℕ) (all : List SavedSeries) : Type 0 where

@@ -30,7 +30,8 @@ rollup_at ss n = get_or ss n new_rollup
 
 -- its cells from index a, inclusive, to index b, exclusive, with their parts, regardless of its low index
 abbrev pub cells_of_rule : StoreContent → Rule → ℕ → ℤ → ℤ → List SeenCell
-cells_of_rule held r n a b = cells_within (rule_cells (record { rule = r; low = pos 0; cells = (rollup_at held.rollups n).grid.cells })) a b
+cells_of_rule held r n a b =
+    cells_within (rule_cells (record { rule = r; low = pos 0; cells = (rollup_at held.rollups n).grid.cells })) a b
 
 -- the live part of each cell of the rule with this index is that of its raw facts, and its facts are few enough to
 -- count

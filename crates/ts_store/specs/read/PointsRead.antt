@@ -28,11 +28,13 @@ points_between a b ps = filter (λ (p : ℤ × ℤ). is_within a b p.0) ps
 -- latest facts
 abbrev pub AreLatestOf : Column → ℤ → ℤ → List (ℤ × ℤ) → Settings → History → Type 0
 AreLatestOf c a b ps opening h =
-    (p : ℤ × ℤ) → raw_mark opening h ≤ℤ p.0 → Among p ps ↔ (Among (fact_at c p) (latest_of h) × (is_within a b p.0 ≡ true))
+    (p : ℤ × ℤ)
+    → raw_mark opening h ≤ℤ p.0 → Among p ps ↔ (Among (fact_at c p) (latest_of h) × (is_within a b p.0 ≡ true))
 
 -- the points of a column from a, inclusive, to b, exclusive, are exactly those of its raw facts, if these columns wait
 abbrev pub AreRawOf : List Column → Column → ℤ → ℤ → List (ℤ × ℤ) → Settings → History → Type 0
-AreRawOf waiting c a b ps opening h = (p : ℤ × ℤ) → Among p ps ↔ (Among (fact_at c p) (raw_of opening h waiting c) × (is_within a b p.0 ≡ true))
+AreRawOf waiting c a b ps opening h = (p : ℤ × ℤ)
+    → Among p ps ↔ (Among (fact_at c p) (raw_of opening h waiting c) × (is_within a b p.0 ≡ true))
 
 -- the raw facts of all columns, if these columns wait
 abbrev pub all_raw : List Column → Settings → History → List Fact

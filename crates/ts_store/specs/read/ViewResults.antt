@@ -18,7 +18,8 @@ pub record ColumnRef : Type 0 where
 -- the columns that pass, indexed from n on
 abbrev pub column_refs_from : (Column → Bool) → ℕ → List ColumnPoints → List ColumnRef
 column_refs_from p n [] = []
-column_refs_from p n (c ∷ cs) = if p c.column then record { number = n; series = c.column.series } ∷ column_refs_from p (n + 1) cs else column_refs_from p (n + 1) cs
+column_refs_from p n (c ∷ cs) = if p c.column then record { number = n; series = c.column.series }
+    ∷ column_refs_from p (n + 1) cs else column_refs_from p (n + 1) cs
 
 abbrev pub column_refs_where : (Column → Bool) → List ColumnPoints → List ColumnRef
 column_refs_where p cs = column_refs_from p 0 cs
@@ -39,7 +40,19 @@ abbrev pub with_parts : (Cell → CellParts) → Cell → SeenCell
 with_parts parts k = record { cell = k; parts = parts k }
 
 abbrev pub no_rule : RuleCells
-no_rule = record { rule = record { name = []; measurement = []; interval = pos 1; offset = pos 0; kept_tags = []; duration = 0 }; low = pos 0; cells = []; parts = λ k. both_parts empty_aggregate }
+no_rule = record {
+  rule = record {
+    name = [];
+    measurement = [];
+    interval = pos 1;
+    offset = pos 0;
+    kept_tags = [];
+    duration = 0;
+  };
+  low = pos 0;
+  cells = [];
+  parts = λ k. both_parts empty_aggregate;
+}
 
 -- the cells of a rule from index a, inclusive, to index b, exclusive
 abbrev pub cells_within : RuleCells → ℤ → ℤ → List SeenCell
@@ -53,7 +66,11 @@ column_ref_of p = record { number = p.0; series = p.1 }
 
 -- the column with this index in an index's list, with its series
 abbrev pub column_ref_in : List Column → ℕ → ColumnRef
-column_ref_in columns n = record { number = n; series = (slice_index_or columns n (record { series = record { measurement = []; tags = [] }; field = [] })).series }
+column_ref_in columns n = record {
+  number = n;
+  series =
+      (slice_index_or columns n (record { series = record { measurement = []; tags = [] }; field = [] })).series;
+}
 
 -- the series of the column has the value of the tag
 abbrev pub column_ref_has : Text → Text → ColumnRef → Bool

@@ -32,7 +32,8 @@ unflagged (b ∷ bs) (x ∷ xs) = if b then unflagged bs xs else x ∷ unflagged
 -- the columns that the run hasn't moved yet
 abbrev pub waiting_in : Option Run → List ColumnPoints → List Column
 waiting_in None columns = []
-waiting_in (Some run) columns = unflagged (drop run.next run.passed) (map column_of (drop run.next (take run.end columns)))
+waiting_in (Some run) columns =
+    unflagged (drop run.next run.passed) (map column_of (drop run.next (take run.end columns)))
 
 -- the run is open and hasn't moved the column with this index yet
 abbrev pub IsToMove : Option Run → ℕ → Type 0
@@ -45,9 +46,12 @@ IsWithin run columns = IfSome run (λ r. (r.next ≤ r.end) × (r.end ≤ length
 
 -- takes the first waiting column off a run, and returns its index; if none waits, returns none
 pub record TakesFirst (old new : Option Run) (result : Option ℕ) : Type 0 where
-  pub first : IfSome result (λ n. (columns : List ColumnPoints) (s : ColumnPoints) → IsAt columns n s → waiting_in old columns ≡ s.column ∷ waiting_in new columns)
-  pub none : IfNone result ((columns : List ColumnPoints) → (waiting_in old columns ≡ []) × (waiting_in new columns ≡ []))
-  pub within : (columns : List ColumnPoints) → IsWithin old columns → IsWithin new columns × IfSome result (λ n. n < length columns)
+  pub first : IfSome result (λ n. (columns : List ColumnPoints) (s : ColumnPoints)
+      → IsAt columns n s → waiting_in old columns ≡ s.column ∷ waiting_in new columns)
+  pub none : IfNone result ((columns : List ColumnPoints)
+      → (waiting_in old columns ≡ []) × (waiting_in new columns ≡ []))
+  pub within : (columns : List ColumnPoints)
+      → IsWithin old columns → IsWithin new columns × IfSome result (λ n. n < length columns)
   pub running : is_some new ≡ is_some old
 
 -- each column from an index to another is passed
@@ -59,7 +63,8 @@ abbrev pub run_of : Bool → ℕ → ℕ → List Bool → Option Run
 run_of running next end passed = if running then Some (record { next = next; end = end; passed = passed }) else None
 
 abbrev pub coded_run : Coded Run
-coded_run = code_by (ℕ × (ℕ × List Bool)) (coded× coded_ℕ (coded× coded_ℕ (coded_list coded_bool))) (λ r. (r.next, (r.end, r.passed))) (λ p. record { next = p.0; end = p.1.0; passed = p.1.1 }) (λ _. refl)
+coded_run = code_by (ℕ × (ℕ × List Bool)) (coded× coded_ℕ (coded× coded_ℕ (coded_list coded_bool)))
+    (λ r. (r.next, (r.end, r.passed))) (λ p. record { next = p.0; end = p.1.0; passed = p.1.1 }) (λ _. refl)
 
 -- the data of a store with these parts
 abbrev pub data_of_parts : Settings → Marks → ℕ → StoreContent → Option Run → StoreData

@@ -58,5 +58,6 @@ cells_moved rs c ps facts = changed_beside (λ (r : Rule). moved_cells r c ps fa
 abbrev pub content_moved : List Rule → ColumnPoints → ℤ → StoreContent → StoreContent
 content_moved rs s mark held = record held {
   columns = map (kept_points s.column mark) held.columns;
-  rollups = with_all_grid_cells (cells_moved rs s.column (points_below mark s.points) (facts_of (map (kept_points s.column mark) held.columns)) (cells_of held.rollups)) held.rollups;
+  rollups = with_all_grid_cells (cells_moved rs s.column (points_below mark s.points)
+      (facts_of (map (kept_points s.column mark) held.columns)) (cells_of held.rollups)) held.rollups;
 }

@@ -36,7 +36,8 @@ pub record LosesCells (low : ℤ) (before after : CellMap) : Type 0 where
 
 -- the first rule that has cells below its low index loses some of them, and no other rule changes
 abbrev pub FirstLoses : List RuleData → List RuleData → Type 0
-FirstLoses old = FirstChanges (λ (a b : RuleData). IsAbove b.low b.cells) (λ (a b c : RuleData). LosesCells b.low b.cells c.cells × (c ≡ record b { cells = c.cells })) old old
+FirstLoses old = FirstChanges (λ (a b : RuleData). IsAbove b.low b.cells)
+    (λ (a b c : RuleData). LosesCells b.low b.cells c.cells × (c ≡ record b { cells = c.cells })) old old
 
 -- moves the first of the waiting columns
 pub record MovesFirst (old new : StoreData) : Type 0 where
@@ -56,7 +57,8 @@ pub record RemovesCells (old new : StoreData) : Type 0 where
 -- A step of the open run. It moves the first waiting column; else it removes cells below a low index; else it ends the
 -- run, and nothing else changes. Each leaves one step fewer. If no run is open, nothing changes.
 pub record TakesStep (old new : StoreData) (answer : StepAnswer) : Type 0 where
-  pub moved : (answer ≡ Moved) → GoesOn old (Step false) new × (steps_left (state_of old) ≡ steps_left (state_of new) + 1)
+  pub moved : (answer ≡ Moved)
+      → GoesOn old (Step false) new × (steps_left (state_of old) ≡ steps_left (state_of new) + 1)
   pub moves : (answer ≡ Moved) → MovesFirst old new ⊎ RemovesCells old new
   pub done : (answer ≡ Done) → GoesOn old (Step true) new × (new.running ≡ false)
   pub running : (answer ≡ Moved) → new.running ≡ true
@@ -68,8 +70,8 @@ pub record TakesStep (old new : StoreData) (answer : StepAnswer) : Type 0 where
   pub marks : store_marks new ≡ store_marks old
   pub series : new.series ≡ old.series
 
--- A whole run: after it the store stands for each history that it stood for, with the run. Columns keep their order. The cells of
--- each rule from its low index on stay, and no others.
+-- A whole run: after it the store stands for each history that it stood for, with the run. Columns keep their order.
+-- The cells of each rule from its low index on stay, and no others.
 pub record Retains (now : ℤ) (old new : StoreData) : Type 0 where
   pub steps : ℕ
   -- with the last step, as many as were left after the begin

@@ -13,4 +13,5 @@ abbrev pub FirstChanges : {X Y : Type 0} → (X → Y → Type 0) → (X → Y �
 FirstChanges Rests Changes [] ys zs = ⊥
 FirstChanges Rests Changes (x ∷ xs) [] zs = ⊥
 FirstChanges Rests Changes (x ∷ xs) (y ∷ ys) [] = ⊥
-FirstChanges Rests Changes (x ∷ xs) (y ∷ ys) (z ∷ zs) = (Changes x y z × (zs ≡ ys)) ⊎ (Rests x y × (z ≡ y) × FirstChanges Rests Changes xs ys zs)
+FirstChanges Rests Changes (x ∷ xs) (y ∷ ys) (z ∷ zs) =
+    (Changes x y z × (zs ≡ ys)) ⊎ (Rests x y × (z ≡ y) × FirstChanges Rests Changes xs ys zs)

@@ -15,7 +15,8 @@ stored_list (One (Some c)) = record { items = c ∷ []; has_capacity = false }
 stored_list (Many b) = record { items = b.value.items; has_capacity = nat_lt (vec_len b.value) (vec_capacity b.value) }
 
 abbrev pub coded_list_of_columns : Coded ColumnList
-coded_list_of_columns = code_by (List ℕ × Bool) (coded× (coded_list coded_ℕ) coded_bool) (λ l. (l.items, l.has_capacity)) (λ p. record { items = p.0; has_capacity = p.1 }) (λ _. refl)
+coded_list_of_columns = code_by (List ℕ × Bool) (coded× (coded_list coded_ℕ) coded_bool)
+    (λ l. (l.items, l.has_capacity)) (λ p. record { items = p.0; has_capacity = p.1 }) (λ _. refl)
 
 -- the columns of each rollup series
 abbrev pub lists_in : List ColumnList → List (List ℕ)

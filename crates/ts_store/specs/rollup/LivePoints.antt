@@ -9,11 +9,13 @@ use Rattle.ts_store.specs.rollup.Rollups.{RollupState, columns_of_rollup_series}
 -- the points of columns, by their indices, in a bucket of a rule
 abbrev pub points_in : Rule → List ColumnState → ℤ → List ℕ → List (ℤ × ℤ)
 points_in r columns index [] = []
-points_in r columns index (n ∷ ns) = points_in_bucket (get_or columns n no_column).points index r.interval r.offset ++ points_in r columns index ns
+points_in r columns index (n ∷ ns) =
+    points_in_bucket (get_or columns n no_column).points index r.interval r.offset ++ points_in r columns index ns
 
 -- the aggregate of the points of a rollup series' columns in a bucket
 abbrev pub rollup_series_total : Rule → RollupState → List ColumnState → ℕ → ℤ → Aggregate
-rollup_series_total r s columns series index = aggregate_of_points (points_in r columns index (columns_of_rollup_series series s))
+rollup_series_total r s columns series index =
+    aggregate_of_points (points_in r columns index (columns_of_rollup_series series s))
 
 -- the points from a mark on
 abbrev pub points_since : ℤ → List (ℤ × ℤ) → List (ℤ × ℤ)

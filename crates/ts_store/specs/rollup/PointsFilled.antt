@@ -10,10 +10,12 @@ use Rattle.ts_store.specs.rollup.Rollups.{RollupState, IsRollupSeriesOf, with_gr
 -- low index on
 pub record MakesPoints (r : Rule) (low : ℤ) (series : Option ℕ) (ps : List (ℤ × ℤ)) (s t : RollupState) : Type 0 where
   pub kept : t ≡ with_grid_cells t.grid.cells s
-  pub cells : (c : Column) → IsRollupSeriesOf r c s.grid.rollup_series series → MakesCells (facts_at c ps) r low s.grid.cells t.grid.cells
+  pub cells : (c : Column)
+      → IsRollupSeriesOf r c s.grid.rollup_series series → MakesCells (facts_at c ps) r low s.grid.cells t.grid.cells
 
 -- points of such a column are added to the live parts of their cells: they are no longer among those to be added
 pub record AddsPoints (r : Rule) (series : Option ℕ) (ps : List (ℤ × ℤ)) (s t : RollupState) : Type 0 where
   pub kept : t ≡ with_grid_cells t.grid.cells s
   pub frozen : KeepsFrozen s.grid.cells t.grid.cells
-  pub live : (c : Column) (left all : List Fact) → IsRollupSeriesOf r c s.grid.rollup_series series → length all ≤ 2 ^ 62 → IsFilledBut (facts_at c ps ++ left) all r s.grid.cells → IsFilledBut left all r t.grid.cells
+  pub live : (c : Column) (left all : List Fact) → IsRollupSeriesOf r c s.grid.rollup_series series → length all
+      ≤ 2 ^ 62 → IsFilledBut (facts_at c ps ++ left) all r s.grid.cells → IsFilledBut left all r t.grid.cells

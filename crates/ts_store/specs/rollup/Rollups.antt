@@ -43,7 +43,8 @@ rollup_series_under r c = record { field = c.field; group = tag_values r.kept_ta
 -- the rollup series with this index is that of the column; a column of another measurement has none
 abbrev pub IsRollupSeriesOf : Rule → Column → List RollupSeries → Option ℕ → Type 0
 IsRollupSeriesOf r c rollup_series None = same_text c.series.measurement r.measurement ≡ false
-IsRollupSeriesOf r c rollup_series (Some l) = (same_text c.series.measurement r.measurement ≡ true) × IsAt rollup_series l (rollup_series_under r c)
+IsRollupSeriesOf r c rollup_series (Some l) =
+    (same_text c.series.measurement r.measurement ≡ true) × IsAt rollup_series l (rollup_series_under r c)
 
 -- each column has its rollup series
 abbrev pub HaveRollupSeries : Rule → List RollupSeries → List Column → List (Option ℕ) → Type 0
@@ -51,7 +52,8 @@ HaveRollupSeries r rollup_series = AllZip (λ (c : Column). IsRollupSeriesOf r c
 
 -- the rollups of the rules, one per rule, over these columns
 abbrev pub AreRollups : List Rule → List Column → List RollupState → Type 0
-AreRollups rs cs = AllZip (λ (r : Rule) (s : RollupState). HaveRollupSeries r s.grid.rollup_series cs s.series_of_column) rs
+AreRollups rs cs =
+    AllZip (λ (r : Rule) (s : RollupState). HaveRollupSeries r s.grid.rollup_series cs s.series_of_column) rs
 
 -- a column is of the rollup series with this index
 abbrev pub is_of_rollup_series : ℕ → Option ℕ → Bool
@@ -76,7 +78,8 @@ HasSpares (Some None) spare spares = spare ≡ true
 HasSpares (Some (Some l)) spare spares = (spare ≡ true) × (get_or spares l false ≡ true)
 
 -- the rollup series are distinct, each has the list of its columns, and there is capacity for the next column
-pub record IsRollup (rollup_series : List RollupSeries) (of_columns : List (Option ℕ)) (members : List (List ℕ)) (next : Option (Option ℕ)) (spare : Bool) (spares : List Bool) : Type 0 where
+pub record IsRollup (rollup_series : List RollupSeries) (of_columns : List (Option ℕ))
+    (members : List (List ℕ)) (next : Option (Option ℕ)) (spare : Bool) (spares : List Bool) : Type 0 where
   pub once : AllDistinct rollup_series
   pub each : length members ≡ length rollup_series
   pub grouped : (l : ℕ) → get_or members l [] ≡ numbers_where (is_of_rollup_series l) of_columns
@@ -90,7 +93,8 @@ Extends before after = (more : List RollupSeries) × (after ≡ before ++ more)
 
 -- the effect of a call that returns a rollup series and creates it if needed. The rollup series stay distinct, each has
 -- a list of columns, and no list and no cell changes.
-pub record KeepsLists (before : Grid CellParts) (lists : List ColumnList) (after : Grid CellParts) (lists' : List ColumnList) : Type 0 where
+pub record KeepsLists (before : Grid CellParts)
+    (lists : List ColumnList) (after : Grid CellParts) (lists' : List ColumnList) : Type 0 where
   pub each : length lists' ≡ length after.rollup_series
   pub made : Extends before.rollup_series after.rollup_series
   pub once : AllDistinct before.rollup_series → AllDistinct after.rollup_series
@@ -150,5 +154,8 @@ live_part p = p.live
 
 abbrev pub coded_rollup : Coded RollupState
 coded_rollup =
-    code_by (Grid CellParts × (List (Option ℕ) × Option (Option ℕ))) (coded× (coded_grid (coded_parts coded_aggregate)) (coded× (coded_list (coded_option coded_ℕ)) (coded_option (coded_option coded_ℕ))))
-    (λ s. (s.grid, (s.series_of_column, s.next))) (λ p. record { grid = p.0; series_of_column = p.1.0; next = p.1.1 }) (λ _. refl)
+    code_by (Grid CellParts × (List (Option ℕ) × Option (Option ℕ)))
+    (coded× (coded_grid (coded_parts coded_aggregate))
+    (coded× (coded_list (coded_option coded_ℕ)) (coded_option (coded_option coded_ℕ))))
+    (λ s. (s.grid, (s.series_of_column, s.next)))
+    (λ p. record { grid = p.0; series_of_column = p.1.0; next = p.1.1 }) (λ _. refl)

@@ -56,7 +56,8 @@ pub record RuleGoes (old new : StoreData) (name : Text) : Type 0 where
   pub history : GoesOn old (DropRule name) new
   pub columns : (inventory_of new).columns ≡ (inventory_of old).columns
   pub waiting : (inventory_of new).waiting ≡ (inventory_of old).waiting
-  pub cells : (inventory_of new).cells ≡ kept_beside (is_unnamed name) (store_settings old).rules (inventory_of old).cells
+  pub cells : (inventory_of new).cells
+      ≡ kept_beside (is_unnamed name) (store_settings old).rules (inventory_of old).cells
   pub left : steps_left (state_of new) ≤ steps_left (state_of old)
 
 -- The call that drops a rule. It is refused exactly if no rule has the name, and then nothing changes.

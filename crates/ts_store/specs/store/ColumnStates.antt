@@ -20,7 +20,8 @@ point_maps states = map (λ (s : ColumnState). s.points) states
 
 -- the columns with their points, in creation order
 abbrev pub with_points : List Column → List PointMap → List ColumnPoints
-with_points cs maps = map (λ (p : Column × PointMap). record { column = p.0; points = finmap.entries p.1 }) (zip cs maps)
+with_points cs maps =
+    map (λ (p : Column × PointMap). record { column = p.0; points = finmap.entries p.1 }) (zip cs maps)
 
 -- the columns of an index with their points
 abbrev pub columns_in : Indexed → List ColumnState → List ColumnPoints
@@ -36,11 +37,13 @@ no_column = record { points = finmap.empty; staged = None }
 -- the column was there, or it is appended without points
 abbrev pub MayGrow : Column → List Column → List ColumnState → List Column → List ColumnState → Type 0
 MayGrow c columns states columns' states' =
-    (Among c columns × (columns' ≡ columns) × (states' ≡ states)) ⊎ ((Among c columns → ⊥) × (columns' ≡ columns ++ c ∷ []) × (states' ≡ states ++ no_column ∷ []))
+    (Among c columns × (columns' ≡ columns) × (states' ≡ states))
+    ⊎ ((Among c columns → ⊥) × (columns' ≡ columns ++ c ∷ []) × (states' ≡ states ++ no_column ∷ []))
 
 -- the effect of a call that returns the index of a column and creates it if needed. It creates no other column and
 -- registers no series; on an error, no column changes.
-pub record IsColumnFor {E : Type 0} (c : Column) (before : Indexed) (states : List ColumnState) (after : Indexed) (states' : List ColumnState) (result : Result ℕ E) : Type 0 where
+pub record IsColumnFor {E : Type 0} (c : Column) (before : Indexed)
+    (states : List ColumnState) (after : Indexed) (states' : List ColumnState) (result : Result ℕ E) : Type 0 where
   pub number : IfOk result (λ n. IsAt after.columns n c)
   pub grown : OnOk result (MayGrow c before.columns states after.columns states')
   pub kept : OnErr result ((after.columns ≡ before.columns) × (states' ≡ states))
@@ -68,11 +71,13 @@ all_committed states (n ∷ ns) = all_committed (set states n (committed (get_or
 -- each of these columns exists and has a staged point; the indices are distinct
 abbrev pub AreReady : List ColumnState → List ℕ → Type 0
 AreReady states [] = Unit {0}
-AreReady states (n ∷ ns) = (n < length states) × IsSome (get_or states n no_column).staged × (Among n ns → ⊥) × AreReady states ns
+AreReady states (n ∷ ns) =
+    (n < length states) × IsSome (get_or states n no_column).staged × (Among n ns → ⊥) × AreReady states ns
 
 -- the fact is staged in its column, which has this index
 abbrev pub IsFactStaged : List Column → List ColumnState → ℕ → Fact → Type 0
-IsFactStaged columns states n f = (slice_get columns n ≡ Some f.column) × ((get_or states n no_column).staged ≡ Some (f.time, f.value))
+IsFactStaged columns states n f =
+    (slice_get columns n ≡ Some f.column) × ((get_or states n no_column).staged ≡ Some (f.time, f.value))
 
 -- the same for each index and fact
 abbrev pub AreStaged : List Column → List ColumnState → List ℕ → List Fact → Type 0
@@ -91,8 +96,10 @@ content_of index states rollups = record { series = index.series; columns = colu
 
 abbrev pub coded_content : Coded StoreContent
 coded_content =
-    code_by (List Series × (List ColumnPoints × List RollupState)) (coded× (coded_list coded_series) (coded× (coded_list coded_column_points) (coded_list coded_rollup)))
-    (λ k. (k.series, (k.columns, k.rollups))) (λ p. record { series = p.0; columns = p.1.0; rollups = p.1.1 }) (λ _. refl)
+    code_by (List Series × (List ColumnPoints × List RollupState))
+    (coded× (coded_list coded_series) (coded× (coded_list coded_column_points) (coded_list coded_rollup)))
+    (λ k. (k.series, (k.columns, k.rollups)))
+    (λ p. record { series = p.0; columns = p.1.0; rollups = p.1.1 }) (λ _. refl)
 
 -- the columns are distinct, and their series are registered
 pub record AreKnown (held : StoreContent) : Type 0 where

@@ -30,16 +30,22 @@ pub record Inventory : Type 0 where
   pub cells : List (List Cell)
 
 abbrev pub inventory_of : StoreData → Inventory
-inventory_of k = record { columns = map column_of k.columns; waiting = k.waiting; cells = map (λ (r : RuleData). finmap.keys r.cells) k.rules }
+inventory_of k = record {
+  columns = map column_of k.columns;
+  waiting = k.waiting;
+  cells = map (λ (r : RuleData). finmap.keys r.cells) k.rules;
+}
 
 -- that of a new store
 abbrev pub new_inventory : Settings → Inventory
 new_inventory settings = record { columns = []; waiting = []; cells = map (λ (r : Rule). []) settings.rules }
 
 -- the relation holds of each rule, its low index, and its cells before and after; the number of lists of cells stays
-abbrev pub OfRules : (Rule → ℤ → List Cell → List Cell → Type 0) → List Rule → List ℤ → List (List Cell) → List (List Cell) → Type 0
+abbrev pub OfRules : (Rule → ℤ → List Cell → List Cell → Type 0)
+    → List Rule → List ℤ → List (List Cell) → List (List Cell) → Type 0
 OfRules P rules lows before after =
-    (length after ≡ length before) × ((i : ℕ) (r : Rule) (low : ℤ) (old new : List Cell) → IsAt rules i r → IsAt lows i low → IsAt before i old → IsAt after i new → P r low old new)
+    (length after ≡ length before) × ((i : ℕ) (r : Rule) (low : ℤ) (old new : List Cell)
+    → IsAt rules i r → IsAt lows i low → IsAt before i old → IsAt after i new → P r low old new)
 
 -- ---- writes, under these rules and low indices
 
@@ -83,7 +89,8 @@ GrowsBy rules lows facts NoLine old new = new ≡ old
 GrowsBy rules lows facts (Refused refusal) old new = new ≡ old
 
 -- the same of a call that may run out of memory
-abbrev pub GrowsAfter : List Rule → List ℤ → List Fact → {E : Type 0} → Result LineOutcome E → Inventory → Inventory → Type 0
+abbrev pub GrowsAfter : List Rule
+    → List ℤ → List Fact → {E : Type 0} → Result LineOutcome E → Inventory → Inventory → Type 0
 GrowsAfter rules lows facts (Ok outcome) old new = GrowsBy rules lows facts outcome old new
 GrowsAfter rules lows facts (Err e) old new = GrowsInPart rules lows facts old new
 
@@ -127,8 +134,10 @@ steps_in lows s = length s.waiting + batches_in lows s.cells + 1
 -- From `old`, a step of an open run may have this answer and lead to that inventory.
 pub data StepsTo (lows : List ℤ) (old : Inventory) : StepAnswer → Inventory → Type 0 where
   -- the first waiting column is moved
-  moves : (column : Column) (others : List Column) → old.waiting ≡ column ∷ others → StepsTo lows old Moved (record old { waiting = others })
-  removes : (cells : List (List Cell)) → old.waiting ≡ [] → FirstExpires lows old.cells cells → StepsTo lows old Moved (record old { cells = cells })
+  moves : (column : Column) (others : List Column)
+      → old.waiting ≡ column ∷ others → StepsTo lows old Moved (record old { waiting = others })
+  removes : (cells : List (List Cell))
+      → old.waiting ≡ [] → FirstExpires lows old.cells cells → StepsTo lows old Moved (record old { cells = cells })
   -- nothing is left
   ends : old.waiting ≡ [] → batches_in lows old.cells ≡ 0 → StepsTo lows old Done old
 

@@ -6,4 +6,5 @@ use Rattle.ts_core.specs.store.StoreData.{CellMap, RuleData}
 
 -- each rule with its low index and its cells
 abbrev pub rules_with : List Rule → List ℤ → List CellMap → List RuleData
-rules_with rs lows ms = map (λ (p : Rule × (ℤ × CellMap)). record { rule = p.0; low = p.1.0; cells = p.1.1 }) (zip rs (zip lows ms))
+rules_with rs lows ms =
+    map (λ (p : Rule × (ℤ × CellMap)). record { rule = p.0; low = p.1.0; cells = p.1.1 }) (zip rs (zip lows ms))

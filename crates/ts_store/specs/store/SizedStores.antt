@@ -18,7 +18,8 @@ use Rattle.ts_line.specs.Names.{IsKey, IsStatable}
 pub record IsSizedRule (mark : ℤ) (facts : List Fact) (r : RuleData) : Type 0 where
   pub least : index_of r.rule least_time ≤ℤ r.low
   pub most : r.low ≤ℤ (index_of r.rule mark +ℤ pos 1)
-  pub there : (f : Fact) → Among f facts → IsTrue (is_rolled r.rule f) → r.low ≤ℤ (cell_of r.rule f).index → Among (cell_of r.rule f) (finmap.keys r.cells)
+  pub there : (f : Fact) → Among f facts
+      → IsTrue (is_rolled r.rule f) → r.low ≤ℤ (cell_of r.rule f).index → Among (cell_of r.rule f) (finmap.keys r.cells)
 
 -- No count overflows, where n facts were accepted. There are at most 1,000,000 series, each one that a line can state.
 -- Columns are distinct, their series are registered, and their fields are names of fields. Each raw fact exists once.

@@ -12,7 +12,8 @@ use Rattle.ts_store.specs.store.PossibleCells.{HavePossibleCells}
 use Rattle.ts_store.specs.store.SizedStores.{IsSized}
 
 -- the invariant of a store with these parts
-pub record IsSoundStore (settings : Settings) (marks : Marks) (n : ℕ) (held : StoreContent) (run : Option Run) : Type 0 where
+pub record IsSoundStore (settings : Settings)
+    (marks : Marks) (n : ℕ) (held : StoreContent) (run : Option Run) : Type 0 where
   pub rollups : AreRollups settings.rules (map column_of held.columns) held.rollups
   -- each rule has a low index
   pub lows : length marks.lows ≡ length settings.rules

@@ -14,7 +14,8 @@ bucket_indices rules time = map (λ (r : Rule). index_of r time) rules
 -- with the cells of a bucket, column after column
 abbrev pub cells_created_for : ℤ → List ℕ → RollupState → RollupState
 cells_created_for index [] s = s
-cells_created_for index (n ∷ ns) s = cells_created_for index ns (with_grid_cells (cell_created_in s (rollup_series_at s n) index) s)
+cells_created_for index (n ∷ ns) s =
+    cells_created_for index ns (with_grid_cells (cell_created_in s (rollup_series_at s n) index) s)
 
 -- from a low index on
 abbrev pub cells_created_from : ℤ → ℤ → List ℕ → RollupState → RollupState

@@ -79,17 +79,20 @@ module _ (precision : TimeUnit) (now : ℤ) where
   -- From `old`, a text may have this outcome and lead to that state.
   pub data WritesText (old : LineState) (text : Text) : LineOutcome → LineState → Type 0 where
     -- its series is registered if needed, and its facts are accepted
-    accepts : (parts : Parts) (series : List Series) → parts_in text ≡ Ok (Some parts) → refusal_in old parts ≡ None → Gains old.series series (series_of parts) → WritesText old text Accepted (with_line parts series old)
+    accepts : (parts : Parts) (series : List Series) → parts_in text ≡ Ok (Some parts) → refusal_in old parts ≡ None
+        → Gains old.series series (series_of parts) → WritesText old text Accepted (with_line parts series old)
     -- a comment or a blank line
     passes_over : parts_in text ≡ Ok None → WritesText old text NoLine old
     misreads : (fault : LineFault) → parts_in text ≡ Err fault → WritesText old text (Refused (Parse fault)) old
-    refuses : (parts : Parts) (fault : WriteFault) → parts_in text ≡ Ok (Some parts) → refusal_in old parts ≡ Some fault → WritesText old text (Refused (Write fault)) old
+    refuses : (parts : Parts) (fault : WriteFault) → parts_in text ≡ Ok (Some parts)
+        → refusal_in old parts ≡ Some fault → WritesText old text (Refused (Write fault)) old
 
   -- From `old`, a text that runs out of memory may lead to that state: its series may be registered. A comment, a blank
   -- line or a text with a fault needs no memory.
   pub data RunsOutOfMemory (old : LineState) (text : Text) : LineState → Type 0 where
     in_parsing : NeedsMemory (nanoseconds_of precision) now text → RunsOutOfMemory old text old
-    in_writing : (parts : Parts) (series : List Series) → parts_in text ≡ Ok (Some parts) → refusal_in old parts ≡ None → MayGain old.series series (series_of parts) → RunsOutOfMemory old text (with_series series old)
+    in_writing : (parts : Parts) (series : List Series) → parts_in text ≡ Ok (Some parts) → refusal_in old parts ≡ None
+        → MayGain old.series series (series_of parts) → RunsOutOfMemory old text (with_series series old)
 
   -- the effect of a call on a store that was in this state
   abbrev pub WritesFrom : LineState → Text → {E : Type 0} → Result LineOutcome E → StoreData → Type 0

@@ -25,7 +25,8 @@ IsOfFacts facts r k = (f : Fact) × Among f facts × IsTrue (is_in_cell r k f)
 -- The cells of a rule after facts were inserted. The missing cells of these facts are created, but none below the low
 -- index, and no others. A frozen part stays, and so does each cell of no such fact.
 pub record PutsCells (facts : List Fact) (r : Rule) (low : ℤ) (m n : CellMap) : Type 0 where
-  pub there : (k : Cell) → (finmap.get n k ≢ None) ↔ ((finmap.get m k ≢ None) ⊎ ((low ≤ℤ k.index) × IsOfFacts facts r k))
+  pub there : (k : Cell)
+      → (finmap.get n k ≢ None) ↔ ((finmap.get m k ≢ None) ⊎ ((low ≤ℤ k.index) × IsOfFacts facts r k))
   pub frozen : (k : Cell) → (or_else no_parts (finmap.get n k)).frozen ≡ (or_else no_parts (finmap.get m k)).frozen
   pub others : (k : Cell) → (IsOfFacts facts r k → ⊥) → finmap.get n k ≡ finmap.get m k
 
@@ -33,16 +34,19 @@ pub record PutsCells (facts : List Fact) (r : Rule) (low : ℤ) (m n : CellMap) 
 -- content, but none below the low index.
 pub record GainsCells (facts : List Fact) (r : Rule) (low : ℤ) (m n : CellMap) : Type 0 where
   pub stays : (k : Cell) (p : CellParts) → finmap.get m k ≡ Some p → finmap.get n k ≡ Some p
-  pub created : (k : Cell) (p : CellParts) → finmap.get m k ≡ None → finmap.get n k ≡ Some p → (p ≡ no_parts) × (low ≤ℤ k.index) × IsOfFacts facts r k
+  pub created : (k : Cell) (p : CellParts)
+      → finmap.get m k ≡ None → finmap.get n k ≡ Some p → (p ≡ no_parts) × (low ≤ℤ k.index) × IsOfFacts facts r k
 
 -- The line is accepted. Its new columns and its missing cells are created. An open run stays the same: no new column
 -- waits, and the number of steps left stays.
 pub record Accepts (old new : StoreData) (p : Parts) : Type 0 where
   pub history : GoesOn old (Line (line_facts p)) new
   pub series : Gains old.series new.series (series_of p)
-  pub columns : map column_of new.columns ≡ map column_of (with_columns old.columns (new_columns (map column_of old.columns) (line_facts p)))
+  pub columns : map column_of new.columns
+      ≡ map column_of (with_columns old.columns (new_columns (map column_of old.columns) (line_facts p)))
   pub cells : OfEachRule (PutsCells (line_facts p)) old.rules new.rules
-  pub others : new ≡ put_facts new.columns new.rules (length (line_facts p)) (grown new.series new.columns new.rules old)
+  pub others : new
+      ≡ put_facts new.columns new.rules (length (line_facts p)) (grown new.series new.columns new.rules old)
   pub left : steps_left (state_of new) ≡ steps_left (state_of old)
 
 -- No fact is accepted. The first of the line's new columns and some of its missing cells may be created.
@@ -58,5 +62,7 @@ pub record Leaves (old new : StoreData) (p : Parts) : Type 0 where
 -- isn't refused may still run out of memory.
 pub record WritesLine (old new : StoreData) (p : Parts) (result : Result (Unit {0}) WriteFault) : Type 0 where
   pub ok : OnOk result (Accepts old new p)
-  pub refused : IfSome (write_fault old.raw_mark old.series old.accepted p) (λ fault. (result ≡ Err fault) × (new ≡ old))
-  pub taken : IsNone (write_fault old.raw_mark old.series old.accepted p) → (result ≡ Ok tt) ⊎ ((result ≡ Err OutOfMemory) × Leaves old new p)
+  pub refused : IfSome (write_fault old.raw_mark old.series old.accepted p)
+      (λ fault. (result ≡ Err fault) × (new ≡ old))
+  pub taken : IsNone (write_fault old.raw_mark old.series old.accepted p)
+      → (result ≡ Ok tt) ⊎ ((result ≡ Err OutOfMemory) × Leaves old new p)

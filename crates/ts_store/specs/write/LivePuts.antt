@@ -26,7 +26,8 @@ WasThere before f None = (g : Fact) → Among g (facts_of before) → same_id (i
 WasThere before f (Some v) = IsOldOf before f (record f { value = v })
 
 -- the fact was inserted into the column with this index, whose value there was this, or none
-pub record IsLivePut (cs : List Column) (states : List ColumnState) (before : List ColumnPoints) (n : ℕ) (f : Fact) (old : Option ℤ) : Type 0 where
+pub record IsLivePut (cs : List Column)
+    (states : List ColumnState) (before : List ColumnPoints) (n : ℕ) (f : Fact) (old : Option ℤ) : Type 0 where
   pub at : slice_get cs n ≡ Some f.column
   pub distinct : AllDistinct (facts_of before)
   pub put : PutsFact before (with_points cs (point_maps states)) f
@@ -39,4 +40,5 @@ AreOfFields time = AllZip (λ (x : LinePart × ℤ) (f : Fact). (f.time ≡ time
 
 -- with more cells created, the live part of each existing cell is still that of its raw facts
 abbrev pub StayLive : List Rule → List ℤ → List ColumnPoints → List CellMap → Type 0
-StayLive rs lows columns ms = (facts : List Fact) (ns : List CellMap) → GainEmptyCells facts (rules_with rs lows ms) (rules_with rs lows ns) → AreLive columns (rules_with rs lows ns)
+StayLive rs lows columns ms = (facts : List Fact) (ns : List CellMap)
+    → GainEmptyCells facts (rules_with rs lows ms) (rules_with rs lows ns) → AreLive columns (rules_with rs lows ns)

@@ -88,9 +88,14 @@ impl<A: Allocator + Copy> StoreBuilder<A> {
         points: StoredColumn<A>,
     ) -> Result<(), AllocError>
         requires registered { series < length self.old.series }
-        requires absent { (s : Series) → IsAt self.old.series series s → Among (record { series = s; field = field.now }) (map column_of self.old.columns) → ⊥ }
+        requires absent { (s : Series) → IsAt self.old.series series s
+            → Among (record { series = s; field = field.now }) (map column_of self.old.columns) → ⊥ }
         requires key { IsKey field.now }
-        ensures ok { (s : Series) → IsAt self.old.series series s → OnOk result (self.new ≡ with_built_column (record { column = record { series = s; field = field.now }; points = finmap.entries points.points }) waits self.old) }
+        ensures ok { (s : Series) → IsAt self.old.series series s
+            → OnOk result (self.new ≡ with_built_column (record {
+              column = record { series = s; field = field.now };
+              points = finmap.entries points.points;
+            }) waits self.old) }
         ensures err { OnErr result (self.new ≡ self.old) }
     {
         self.passed.reserve(1)?;
@@ -111,8 +116,10 @@ impl<A: Allocator + Copy> StoreBuilder<A> {
         frozen: Agg,
     ) -> Result<(), AllocError>
         requires rule { rule < length self.old.settings.rules }
-        requires absent { finmap.get (cell_map_at self.old.cells rule) (cell_at index.now (rollup_series_named field.now group.now)) ≡ None }
-        ensures ok { OnOk result (self.new ≡ with_built_cell rule (cell_at index.now (rollup_series_named field.now group.now)) frozen self.old) }
+        requires absent { finmap.get
+            (cell_map_at self.old.cells rule) (cell_at index.now (rollup_series_named field.now group.now)) ≡ None }
+        ensures ok { OnOk result (self.new
+            ≡ with_built_cell rule (cell_at index.now (rollup_series_named field.now group.now)) frozen self.old) }
         ensures err { OnErr result (self.new ≡ self.old) }
     {
         self.facts.add_cell(rule, index, field, group, frozen)

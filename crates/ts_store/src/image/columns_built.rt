@@ -23,7 +23,11 @@ impl<A: Allocator + Copy> ColumnFacts<A> {
         requires absent { Among key.now self.old.series → ⊥ }
         requires few { length self.old.series < 1000000 }
         ensures number { IfOk result (λ n. IsAt self.new.series n key.now) }
-        ensures ok { OnOk result (self.new ≡ record { series = self.old.series ++ key.now ∷ []; columns = self.old.columns; rollups = self.old.rollups }) }
+        ensures ok { OnOk result (self.new ≡ record {
+          series = self.old.series ++ key.now ∷ [];
+          columns = self.old.columns;
+          rollups = self.old.rollups;
+        }) }
         ensures err { OnErr result (self.new ≡ self.old) }
     {
         let series = match self.index.register(key) {
@@ -42,9 +46,12 @@ impl<A: Allocator + Copy> ColumnFacts<A> {
         points: StoredColumn<A>,
     ) -> Result<(), AllocError>
         requires registered { series < length self.old.series }
-        requires absent { (s : Series) → IsAt self.old.series series s → Among (record { series = s; field = field.now }) (map column_of self.old.columns) → ⊥ }
+        requires absent { (s : Series) → IsAt self.old.series series s
+            → Among (record { series = s; field = field.now }) (map column_of self.old.columns) → ⊥ }
         requires rollups { AreRollups rules.now (map column_of self.old.columns) self.old.rollups }
-        ensures ok { (s : Series) → IsAt self.old.series series s → OnOk result (self.new.columns ≡ self.old.columns ++ record { column = record { series = s; field = field.now }; points = finmap.entries points.points } ∷ []) }
+        ensures ok { (s : Series) → IsAt self.old.series series s → OnOk result (self.new.columns ≡ self.old.columns
+            ++ record { column = record { series = s; field = field.now }; points = finmap.entries points.points }
+            ∷ []) }
         ensures err { OnErr result (self.new.columns ≡ self.old.columns) }
         ensures series { self.new.series ≡ self.old.series }
         ensures rollups { AreRollups rules.now (map column_of self.new.columns) self.new.rollups }
@@ -73,11 +80,15 @@ impl<A: Allocator + Copy> ColumnFacts<A> {
         frozen: Agg,
     ) -> Result<(), AllocError>
         requires rule { rule < length self.old.rollups }
-        requires absent { finmap.get (cell_map_at (cells_of self.old.rollups) rule) (cell_at index.now (rollup_series_named field.now group.now)) ≡ None }
+        requires absent { finmap.get (cell_map_at (cells_of self.old.rollups) rule)
+            (cell_at index.now (rollup_series_named field.now group.now)) ≡ None }
         ensures columns { self.new.columns ≡ self.old.columns }
         ensures series { self.new.series ≡ self.old.series }
-        ensures rollups { (rules : List RuleValue) → AreRollups rules (map column_of self.old.columns) self.old.rollups → AreRollups rules (map column_of self.old.columns) self.new.rollups }
-        ensures ok { OnOk result (cells_of self.new.rollups ≡ set (cells_of self.old.rollups) rule (finmap.insert (cell_map_at (cells_of self.old.rollups) rule) (cell_at index.now (rollup_series_named field.now group.now)) (record { frozen = frozen; live = empty_aggregate }))) }
+        ensures rollups { (rules : List RuleValue) → AreRollups rules (map column_of self.old.columns) self.old.rollups
+            → AreRollups rules (map column_of self.old.columns) self.new.rollups }
+        ensures ok { OnOk result (cells_of self.new.rollups ≡ set (cells_of self.old.rollups) rule
+            (finmap.insert (cell_map_at (cells_of self.old.rollups) rule) (cell_at index.now
+            (rollup_series_named field.now group.now)) (record { frozen = frozen; live = empty_aggregate }))) }
         ensures err { OnErr result (cells_of self.new.rollups ≡ cells_of self.old.rollups) }
     {
         self.rollups[rule].add_cell(index, field, group, frozen)

@@ -30,7 +30,10 @@ impl<'a, A: Allocator> Model for FrozenCell<'a, A> {
 
     ghost Value = { FrozenCellValue };
 
-    ghost view = { λ c. record { cell = record { index = c.index; field = c.field.now; group = map string_bytes c.group.now }; frozen = c.frozen } };
+    ghost view = { λ c. record {
+      cell = record { index = c.index; field = c.field.now; group = map string_bytes c.group.now };
+      frozen = c.frozen;
+    } };
 }
 
 /// Iterator over cells whose frozen part isn't empty. Its model is the list of those that remain.
@@ -95,7 +98,8 @@ fn without<A: Allocator + Copy>(count: u128, cells: FrozenCells<'_, A>) -> u128
 fn next_frozen<'a, A: Allocator + Copy>(
     left: &mut Walk<'a, Parts<Agg>, A>,
 ) -> Option<CellEntry<'a, Parts<Agg>, A>>
-    ensures { MatchOption result ((frozen_left left.old ≡ []) × (frozen_left left.new ≡ [])) (λ k. frozen_left left.old ≡ frozen_cell k ∷ frozen_left left.new) }
+    ensures { MatchOption result ((frozen_left left.old ≡ []) × (frozen_left left.new ≡ []))
+        (λ k. frozen_left left.old ≡ frozen_cell k ∷ frozen_left left.new) }
 {
     while let Some(kept) = left.next() {
         if kept.part.frozen.count() > 0 {

@@ -25,7 +25,8 @@ impl<A: Allocator + Copy> Store<A> {
     /// Returns true if a run is open that hasn't moved the column yet.
     pub fn waits(&self, column: ColumnId) -> bool
         requires { column < length self.now.columns }
-        ensures { (c : ColumnPoints) → IsAt self.now.columns column c → IsTrue result ↔ Among c.column self.now.waiting }
+        ensures { (c : ColumnPoints)
+            → IsAt self.now.columns column c → IsTrue result ↔ Among c.column self.now.waiting }
     {
         self.run.waits(column.number())
     }

@@ -29,7 +29,10 @@ impl<'a, A: Allocator> Model for ViewCell<'a, A> {
 
     ghost Value = { SeenCell };
 
-    ghost view = { λ c. record { cell = record { index = c.index; field = c.field.now; group = map string_bytes c.group.now }; parts = record { frozen = c.frozen; live = c.live } } };
+    ghost view = { λ c. record {
+      cell = record { index = c.index; field = c.field.now; group = map string_bytes c.group.now };
+      parts = record { frozen = c.frozen; live = c.live };
+    } };
 
     ghost invariant = { λ c. c.frozen.count + c.live.count ≤ 2 ^ 62 };
 }
@@ -44,7 +47,14 @@ impl<'a, A: Allocator> ViewCell<'a, A> {
         live: Agg,
     ) -> ViewCell<'a, A>
         requires { frozen.count + live.count ≤ 2 ^ 62 }
-        ensures { result ≡ record { cell = record { index = index; field = field.now; group = map string_bytes group.now }; parts = record { frozen = frozen; live = live } } }
+        ensures { result ≡ record {
+          cell = record {
+            index = index;
+            field = field.now;
+            group = map string_bytes group.now;
+          };
+          parts = record { frozen = frozen; live = live };
+        } }
     {
         ViewCell {
             index,

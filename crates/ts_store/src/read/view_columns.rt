@@ -82,7 +82,8 @@ impl<'a, A: Allocator> Columns<'a, A> {
 impl<'a, A: Allocator + Copy> Columns<'a, A> {
     /// Creates an iterator over all columns of a measurement and a field, in creation order.
     pub fn all_of(index: &'a Index<A>, measurement: &str, field: &str) -> Columns<'a, A>
-        ensures { result ≡ map (column_ref_in index.now.columns) (numbers_where (is_of measurement.now field.now) index.now.columns) }
+        ensures { result ≡ map
+            (column_ref_in index.now.columns) (numbers_where (is_of measurement.now field.now) index.now.columns) }
     {
         Columns {
             left: index.columns_of(measurement, field),

@@ -25,7 +25,8 @@ use ts_raw::Column as _;
 fn expire_first<A: Allocator + Copy>(rollups: &mut [Rollup<A>], lows: &[i128]) -> bool
     requires { length lows.now ≡ length rollups.old }
     ensures kept { rollups.new ≡ with_all_grid_cells (cells_of rollups.new) rollups.old }
-    ensures some { OnTrue result (FirstChanges IsAbove LosesCells lows.now (cells_of rollups.old) (cells_of rollups.new)) }
+    ensures some { OnTrue result
+        (FirstChanges IsAbove LosesCells lows.now (cells_of rollups.old) (cells_of rollups.new)) }
     ensures none { OnFalse result ((rollups.new ≡ rollups.old) × OfEach IsAbove lows.now (cells_of rollups.old)) }
 {
     for (i, rollup) in rollups.iter_mut().enumerate() {
@@ -53,7 +54,9 @@ impl<A: Allocator + Copy> ColumnFacts<A> {
         requires live { OfEach (IsLive self.old.columns) rules.now (cells_of self.old.rollups) }
         requires column { column < length self.old.columns }
         requires few { length (facts_of self.old.columns) ≤ 2 ^ 62 }
-        ensures { (s : ColumnPoints) → IsAt self.old.columns column s → FreezeFit rules.now s.column (points_below mark s.points) (cells_of self.old.rollups) → self.new ≡ content_moved rules.now s mark self.old }
+        ensures { (s : ColumnPoints) → IsAt self.old.columns column s
+            → FreezeFit rules.now s.column (points_below mark s.points) (cells_of self.old.rollups)
+            → self.new ≡ content_moved rules.now s mark self.old }
     {
         let columns = self.columns.as_slice();
         let rollups = self.rollups.as_mut_slice();
@@ -68,7 +71,8 @@ impl<A: Allocator + Copy> ColumnFacts<A> {
     pub(crate) fn expire(&mut self, lows: &[i128]) -> bool
         requires { length lows.now ≡ length self.old.rollups }
         ensures kept { self.new ≡ content_with_cells (cells_of self.new.rollups) self.old }
-        ensures some { OnTrue result (FirstChanges IsAbove LosesCells lows.now (cells_of self.old.rollups) (cells_of self.new.rollups)) }
+        ensures some { OnTrue result
+            (FirstChanges IsAbove LosesCells lows.now (cells_of self.old.rollups) (cells_of self.new.rollups)) }
         ensures none { OnFalse result ((self.new ≡ self.old) × OfEach IsAbove lows.now (cells_of self.old.rollups)) }
     {
         expire_first(self.rollups.as_mut_slice(), lows)

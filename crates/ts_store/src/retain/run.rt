@@ -7,7 +7,8 @@ use std::marker::Model;
 
 /// Returns the index of the first column from `next` on, and before `end`, that isn't passed.
 fn first_waiting(passed: &[bool], next: usize, end: usize) -> Option<usize>
-    ensures { MatchOption result (ArePassed passed.now next end) (λ n. (next ≤ n) × (n < end) × (get_or passed.now n false ≡ false) × ArePassed passed.now next n) }
+    ensures { MatchOption result (ArePassed passed.now next end)
+        (λ n. (next ≤ n) × (n < end) × (get_or passed.now n false ≡ false) × ArePassed passed.now next n) }
 {
     for column in next..end {
         if !passed.get(column).copied().unwrap_or(false) {

@@ -56,7 +56,8 @@ fn make_cells<A: Allocator + Copy>(
     requires interval { pos 1 ≤ℤ rule.now.interval }
     requires column { column < length rollup.old.series_of_column }
     ensures kept { rollup.new ≡ with_grid_cells rollup.new.grid.cells rollup.old }
-    ensures cells { OnOk result (MakesPoints rule.now low.now (rollup_series_at rollup.old column) points.entry rollup.old rollup.new) }
+    ensures cells { OnOk result
+        (MakesPoints rule.now low.now (rollup_series_at rollup.old column) points.entry rollup.old rollup.new) }
 {
     let Some(series) = rollup.rollup_series_of(column) else {
         return Ok(());
@@ -85,7 +86,9 @@ fn make_under_all<A: Allocator + Copy>(
     requires lows { length lows.now ≡ length rules.now }
     requires inside { AllByRecursion (λ s. number < length s.series_of_column) rollups.old }
     ensures kept { rollups.new ≡ with_all_grid_cells (cells_of rollups.new) rollups.old }
-    ensures cells { (cs : List Column) (c : Column) → IsAt cs number c → AreRollups rules.now cs rollups.old → OnOk result (OfEachRule (MakesCells (facts_at c (finmap.entries column.now.points))) (rules_with rules.now lows.now (cells_of rollups.old)) (rules_with rules.now lows.now (cells_of rollups.new))) }
+    ensures cells { (cs : List Column) (c : Column) → IsAt cs number c → AreRollups rules.now cs rollups.old
+        → OnOk result (OfEachRule (MakesCells (facts_at c (finmap.entries column.now.points)))
+        (rules_with rules.now lows.now (cells_of rollups.old)) (rules_with rules.now lows.now (cells_of rollups.new))) }
 {
     for (i, rollup) in rollups.iter_mut().enumerate() {
         make_cells(&rules[i], &lows[i], rollup, number, column.all())?;
@@ -105,7 +108,9 @@ pub(crate) fn make_all_cells<A: Allocator + Copy>(
     requires lows { length lows.now ≡ length rules.now }
     requires each { AllByRecursion (λ s. length s.series_of_column ≡ length columns.now) rollups.old }
     ensures kept { rollups.new ≡ with_all_grid_cells (cells_of rollups.new) rollups.old }
-    ensures cells { (cs : List Column) → length columns.now ≡ length cs → AreRollups rules.now cs rollups.old → OnOk result (OfEachRule (MakesCells (facts_of (with_points cs (point_maps columns.now)))) (rules_with rules.now lows.now (cells_of rollups.old)) (rules_with rules.now lows.now (cells_of rollups.new))) }
+    ensures cells { (cs : List Column) → length columns.now ≡ length cs → AreRollups rules.now cs rollups.old
+        → OnOk result (OfEachRule (MakesCells (facts_of (with_points cs (point_maps columns.now))))
+        (rules_with rules.now lows.now (cells_of rollups.old)) (rules_with rules.now lows.now (cells_of rollups.new))) }
 {
     for number in 0..columns.len() {
         make_under_all(rules, lows, rollups, number, &columns[number])?;
@@ -171,7 +176,10 @@ fn add_under_all<A: Allocator + Copy>(
     requires few { finmap.len column.now.points ≤ 2 ^ 62 }
     ensures kept { rollups.new ≡ with_all_grid_cells (cells_of rollups.new) rollups.old }
     ensures frozen { KeepFrozen (cells_of rollups.old) (cells_of rollups.new) }
-    ensures live { (cs : List Column) (c : Column) (left all : List Fact) → IsAt cs number c → AreRollups rules.now cs rollups.old → length all ≤ 2 ^ 62 → AreFilledBut (facts_at c (finmap.entries column.now.points) ++ left) all rules.now (cells_of rollups.old) → AreFilledBut left all rules.now (cells_of rollups.new) }
+    ensures live { (cs : List Column) (c : Column) (left all : List Fact)
+        → IsAt cs number c → AreRollups rules.now cs rollups.old → length all ≤ 2 ^ 62
+        → AreFilledBut (facts_at c (finmap.entries column.now.points) ++ left) all rules.now (cells_of rollups.old)
+        → AreFilledBut left all rules.now (cells_of rollups.new) }
 {
     for (i, rollup) in rollups.iter_mut().enumerate() {
         add_points(&rules[i], rollup, number, column.all());
@@ -190,7 +198,9 @@ pub(crate) fn add_all_points<A: Allocator + Copy>(
     requires few { number_of_points columns.now ≤ 2 ^ 62 }
     ensures kept { rollups.new ≡ with_all_grid_cells (cells_of rollups.new) rollups.old }
     ensures frozen { KeepFrozen (cells_of rollups.old) (cells_of rollups.new) }
-    ensures live { (cs : List Column) → length columns.now ≡ length cs → AreRollups rules.now cs rollups.old → AreIdle (cells_of rollups.old) → OfEach (IsLive (with_points cs (point_maps columns.now))) rules.now (cells_of rollups.new) }
+    ensures live { (cs : List Column)
+        → length columns.now ≡ length cs → AreRollups rules.now cs rollups.old → AreIdle (cells_of rollups.old)
+        → OfEach (IsLive (with_points cs (point_maps columns.now))) rules.now (cells_of rollups.new) }
 {
     for number in 0..columns.len() {
         add_under_all(rules, rollups, number, &columns[number]);

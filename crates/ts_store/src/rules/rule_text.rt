@@ -29,7 +29,8 @@ impl<A: Allocator + Copy> Store<A> {
     /// only a rule that could be added runs out of memory.
     pub fn add_rule_json(&mut self, alloc: A, value: &Value) -> Result<AddedRule, SettingsError>
         ensures added { AddsValue self.old self.new (view value.now) result }
-        ensures memory { IfErr result (λ e. e ≡ errors.OutOfMemory → fault_added (store_settings self.old) (rule_parsed (view value.now)) ≡ None) }
+        ensures memory { IfErr result (λ e. e ≡ errors.OutOfMemory
+            → fault_added (store_settings self.old) (rule_parsed (view value.now)) ≡ None) }
     {
         if let Some(fault) = self.settings().check_json(value) {
             return Err(SettingsError::Fault(fault));

@@ -150,7 +150,8 @@ impl<A: Allocator + Copy> ColumnFacts<A> {
         requires { length (facts_in self.now.columns) ≤ 2 ^ 62 }
         ensures all { length (facts_in self.now.columns) ≤ result }
         ensures few_more { result ≤ length (facts_in self.now.columns) + 256 * length self.now.columns }
-        ensures blocks { (all : List (List (List ℕ))) × HoldColumns self.now.columns all × (result ≡ min (points_in_columns all) 18446744073709551615) }
+        ensures blocks { (all : List (List (List ℕ)))
+            × HoldColumns self.now.columns all × (result ≡ min (points_in_columns all) 18446744073709551615) }
     {
         let mut count: u64 = 0;
         for column in &self.columns {

@@ -59,7 +59,8 @@ pub(crate) fn make_column<A: Allocator + Copy>(
     requires series { series < length index.old.series }
     requires absent { Among (column_in index.old series field.now) index.old.columns → ⊥ }
     requires rollups { AreRollups rules.now index.old.columns rollups.old }
-    ensures column { IsColumnFor (column_in index.old series field.now) index.old columns.old.items index.new columns.new.items result }
+    ensures column { IsColumnFor
+        (column_in index.old series field.now) index.old columns.old.items index.new columns.new.items result }
     ensures rollups { AreRollups rules.now index.new.columns rollups.new }
     ensures cells { cells_of rollups.new ≡ cells_of rollups.old }
 {
@@ -85,7 +86,8 @@ fn column_for<A: Allocator + Copy>(
     requires len { length columns.old.items ≡ length index.old.columns }
     requires series { series < length index.old.series }
     requires rollups { AreRollups rules.now index.old.columns rollups.old }
-    ensures column { IsColumnFor (column_in index.old series field.now) index.old columns.old.items index.new columns.new.items result }
+    ensures column { IsColumnFor
+        (column_in index.old series field.now) index.old columns.old.items index.new columns.new.items result }
     ensures rollups { AreRollups rules.now index.new.columns rollups.new }
     ensures cells { cells_of rollups.new ≡ cells_of rollups.old }
 {
@@ -105,7 +107,8 @@ fn prepare_at<A: Allocator + Copy>(
     value: i64,
 ) -> Result<(), AllocError>
     requires { column < length columns.old.items }
-    ensures ok { OnOk result (columns.new.items ≡ set columns.old.items column (with_point_staged (get_or columns.old.items column no_column) time value)) }
+    ensures ok { OnOk result (columns.new.items
+        ≡ set columns.old.items column (with_point_staged (get_or columns.old.items column no_column) time value)) }
     ensures touched { OnOk result (touched.new.items ≡ touched.old.items ++ column ∷ []) }
     ensures len { length columns.new.items ≡ length columns.old.items }
     ensures unchanged { point_maps columns.new.items ≡ point_maps columns.old.items }
@@ -129,7 +132,8 @@ pub(crate) fn prepare_line<A: Allocator + Copy, L: Allocator>(
     requires rollups { AreRollups rules.now index.old.columns rollups.old }
     requires series { IsAt index.old.series series (series_of line.now) }
     requires none { touched.old.items ≡ [] }
-    ensures line { StagesPoint line.now index.old columns.old.items index.new columns.new.items touched.new.items result }
+    ensures line { StagesPoint
+        line.now index.old columns.old.items index.new columns.new.items touched.new.items result }
     ensures rollups { AreRollups rules.now index.new.columns rollups.new }
     ensures cells { cells_of rollups.new ≡ cells_of rollups.old }
 {

@@ -93,7 +93,8 @@ pub(crate) fn commit_points<A: Allocator + Copy, L: Allocator>(
     requires few { number_of_points columns.old.items + length numbers.now ≤ 2 ^ 62 }
     ensures columns { columns.new.items ≡ all_committed columns.old.items numbers.now }
     ensures kept { rollups.new ≡ with_all_grid_cells (cells_of rollups.new) rollups.old }
-    ensures cells { CommitsPoints rules.now numbers.now time fields.now columns.old.items rollups.old columns.new.items rollups.new }
+    ensures cells { CommitsPoints
+        rules.now numbers.now time fields.now columns.old.items rollups.old columns.new.items rollups.new }
 {
     for (number, field) in numbers.iter().zip(fields) {
         let at = number.number();

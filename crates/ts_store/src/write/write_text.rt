@@ -69,7 +69,8 @@ impl<A: Allocator + Copy> Store<A> {
         now: Time,
     ) -> Result<LineOutcome, AllocError>
         ensures written { (s : LineState) → IsStateOf s self.old → WritesFrom precision now s text.now result self.new }
-        ensures inventory { GrowsAfter (store_settings self.old).rules (store_marks self.old).lows (facts_of_text (parts_in precision now text.now)) result (inventory_of self.old) (inventory_of self.new) }
+        ensures inventory { GrowsAfter (store_settings self.old).rules (store_marks self.old).lows
+            (facts_of_text (parts_in precision now text.now)) result (inventory_of self.old) (inventory_of self.new) }
         ensures unchanged { IfOk result (λ outcome. outcome ≢ LineOutcome.Accepted → self.new ≡ self.old) }
     {
         match read_line(arena, text, precision, now) {
