@@ -25,11 +25,11 @@ use Rattle.ts_store.specs.image.BuildingParts.{IsIdle, AreIdle, MakesCells, Fill
 use Rattle.ts_raw.specs.Columns.{ColumnState}
 use Rattle.ts_raw.specs.Indexed.{Indexed}
 use Rattle.ts_store.specs.store.PossibleCells.{HasPossibleCells}
-use Rattle.ts_store.specs.store.ColumnStates.{IsSoundContent, content_of, columns_in, with_points, point_maps}
+use Rattle.ts_store.specs.store.ColumnStates.{IsSoundContent, content_of, columns_in, point_maps}
 use Rattle.ts_store.specs.write.LinesPut.{IsOfFacts, PutsCells, GainsCells}
 use Rattle.ts_store.specs.rollup.Rollups.{RollupState, AreRollups, rollup_series_at, cells_of}
 use Rattle.ts_store.specs.rollup.ChangedLists.{ChangesBeside}
-use Rattle.ts_store.specs.rollup.PointsFilled.{AddsPoints}
+use Rattle.ts_store.specs.rollup.PointsFilled.{AddsPoints, MakeAllPoints, AddAllPoints}
 use Rattle.ts_store.specs.retain.RollupSteps.{with_all_grid_cells}
 use Rattle.ts_store.proofs.store.ColumnsLemmas.{known_of, names_held, facts-distinct}
 use Rattle.ts_store.proofs.write.PointsPut.{grids_kept_then}
@@ -133,18 +133,11 @@ idle-made facts _ _ _ _ l n h idle = search rules
 
 -- ---- the whole
 
--- cells are created under these rules, and filled
-abbrev pub Makes : List Rule → List ℤ → List RollupState → List ColumnState → List RollupState → Type 0
-Makes rs lows vs ss us = (cs : List Column) → length ss ≡ length cs → AreRollups rs cs us → OfEachRule (MakesCells (facts_of (with_points cs (point_maps ss)))) (rules_with rs lows (cells_of us)) (rules_with rs lows (cells_of vs))
-
-abbrev pub Adds : List Rule → List RollupState → List ColumnState → List RollupState → Type 0
-Adds rs ws ss vs = (cs : List Column) → length ss ≡ length cs → AreRollups rs cs vs → AreIdle (cells_of vs) → OfEach (IsLive (with_points cs (point_maps ss))) rs (cells_of ws)
-
 module _ (rs : List Rule) (lows : List ℤ) (index : Indexed) (ss : List ColumnState) (us vs ws : List RollupState) (held : IsSoundContent index ss) (many : length lows ≡ length rs) (rollups : AreRollups rs (map column_of (columns_in index ss)) us) (idle : AreIdle (cells_of us)) where
   names : AreRollups rs index.columns us
   names = subst (λ (cs : List Column). AreRollups rs cs us) (names_held index ss held.each) rollups
 
-  pub all_fill : vs ≡ with_all_grid_cells (cells_of vs) us → ws ≡ with_all_grid_cells (cells_of ws) vs → Makes rs lows vs ss us → KeepFrozen (cells_of vs) (cells_of ws) → Adds rs ws ss vs
+  pub all_fill : vs ≡ with_all_grid_cells (cells_of vs) us → ws ≡ with_all_grid_cells (cells_of ws) vs → MakeAllPoints rs lows ss us vs → KeepFrozen (cells_of vs) (cells_of ws) → AddAllPoints rs ss vs ws
       → FillsCells rs lows (content_of index ss us) (content_of index ss ws)
   all_fill one two make frozen add =
       let facts : List Fact = facts_of (columns_in index ss) in

@@ -31,7 +31,8 @@ use Rattle.ts_store.specs.retain.RollupSteps.{with_all_grid_cells}
 use Rattle.ts_store.proofs.store.ColumnsLemmas.{names_held}
 use Rattle.ts_store.proofs.write.PointsPut.{grids_kept_then}
 use Rattle.ts_store.proofs.rollup.RollupsGrow.{rollup_series_all_kept, rollup_series_push}
-use Rattle.ts_store.proofs.rollup.RulesFilled.{Makes, Adds, all_fill}
+use Rattle.ts_store.proofs.rollup.RulesFilled.{all_fill}
+use Rattle.ts_store.specs.rollup.PointsFilled.{MakeAllPoints, AddAllPoints}
 
 -- ---- rollup series
 
@@ -103,7 +104,7 @@ pub alone_wide : (n : ℕ) (s : RollupState) (us : List RollupState) → us ≡ 
 alone_wide n s us e wide = subst (AllByRecursion (λ (u : RollupState). length u.series_of_column ≡ n)) (sym e) (wide, tt)
 
 pub alone_made : (index : Indexed) (ss : List ColumnState) (us : List RollupState) (r : Rule) (low : ℤ) (s t : RollupState) (vs ws : List RollupState) → IsSoundContent index ss → HasFirstRollupSeries r index.columns (length index.columns) s
-    → vs ≡ with_all_grid_cells (cells_of vs) (s ∷ []) → ws ≡ with_all_grid_cells (cells_of ws) vs → Makes (r ∷ []) (low ∷ []) vs ss (s ∷ []) → KeepFrozen (cells_of vs) (cells_of ws) → Adds (r ∷ []) ws ss vs → ws ≡ t ∷ [] → IsRollupOf (content_of index ss us) r low t
+    → vs ≡ with_all_grid_cells (cells_of vs) (s ∷ []) → ws ≡ with_all_grid_cells (cells_of ws) vs → MakeAllPoints (r ∷ []) (low ∷ []) ss (s ∷ []) vs → KeepFrozen (cells_of vs) (cells_of ws) → AddAllPoints (r ∷ []) ss vs ws → ws ≡ t ∷ [] → IsRollupOf (content_of index ss us) r low t
 alone_made index ss us r low s t vs ws held first one two make frozen add only =
     let series : HaveRollupSeries r s.grid.rollup_series index.columns s.series_of_column = subst (λ (cs : List Column). HaveRollupSeries r s.grid.rollup_series cs s.series_of_column) (take-length index.columns) first.series in
     let named : HaveRollupSeries r s.grid.rollup_series (map column_of (columns_in index ss)) s.series_of_column = subst (λ (cs : List Column). HaveRollupSeries r s.grid.rollup_series cs s.series_of_column) (sym (names_held index ss held.each)) series in

@@ -59,14 +59,7 @@ cell_map_at ms rule = get_or ms rule finmap.empty
 
 -- a cell of the rule with this index, with a frozen part
 abbrev pub with_built_cell : ℕ → Cell → Aggregate → Built → Built
-with_built_cell rule k frozen b = record {
-  settings = b.settings;
-  marks = b.marks;
-  running = b.running;
-  accepted = b.accepted;
-  series = b.series;
-  columns = b.columns;
-  waits = b.waits;
+with_built_cell rule k frozen b = record b {
   cells = set b.cells rule
       (finmap.insert (cell_map_at b.cells rule) k (record { frozen = frozen; live = empty_aggregate }));
 }

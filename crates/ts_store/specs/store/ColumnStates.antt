@@ -53,7 +53,7 @@ pub record IsColumnFor {E : Type 0} (c : Column) (before : Indexed)
 -- ---- staged points
 
 abbrev pub with_point_staged : ColumnState → ℤ → ℤ → ColumnState
-with_point_staged s time value = record { points = s.points; staged = Some (time, value) }
+with_point_staged s time value = record s { staged = Some (time, value) }
 
 -- inserts the staged point
 abbrev pub with_staged : PointMap → Option (ℤ × ℤ) → PointMap

@@ -23,11 +23,7 @@ impl<A: Allocator + Copy> ColumnFacts<A> {
         requires absent { Among key.now self.old.series → ⊥ }
         requires few { length self.old.series < 1000000 }
         ensures number { IfOk result (λ n. IsAt self.new.series n key.now) }
-        ensures ok { OnOk result (self.new ≡ record {
-          series = self.old.series ++ key.now ∷ [];
-          columns = self.old.columns;
-          rollups = self.old.rollups;
-        }) }
+        ensures ok { OnOk result (self.new ≡ record self.old { series = self.old.series ++ key.now ∷ [] }) }
         ensures err { OnErr result (self.new ≡ self.old) }
     {
         let series = match self.index.register(key) {

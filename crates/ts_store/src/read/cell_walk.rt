@@ -48,11 +48,7 @@ impl<'a, A: Allocator> ViewCell<'a, A> {
     ) -> ViewCell<'a, A>
         requires { frozen.count + live.count ≤ 2 ^ 62 }
         ensures { result ≡ record {
-          cell = record {
-            index = index;
-            field = field.now;
-            group = map string_bytes group.now;
-          };
+          cell = record { index = index; field = field.now; group = map string_bytes group.now };
           parts = record { frozen = frozen; live = live };
         } }
     {

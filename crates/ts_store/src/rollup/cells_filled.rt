@@ -1,18 +1,12 @@
 //! Creates the cells of raw points, and adds the points to them.
-ghost use Rattle.std.specs.Prelude.{◌≡◌, ◌≤◌, ◌<◌, ◌++◌, ◌^◌, pos, ◌≤ℤ◌, List, length, map, OnOk, Some};
+ghost use Rattle.std.specs.Prelude.{◌≡◌, ◌≤◌, ◌<◌, ◌^◌, pos, ◌≤ℤ◌, length, map, OnOk, Some};
 ghost use Rattle.std.specs.FinMap as finmap;
 ghost use Rattle.std.specs.List.{AllByRecursion};
-ghost use Rattle.ts_core.specs.facts.Facts.{Column, Fact};
-ghost use Rattle.ts_core.specs.lists.Numbered.{IsAt};
-ghost use Rattle.ts_core.specs.lists.Beside.{OfEach};
-ghost use Rattle.ts_core.specs.store.StoreData.{IsLive, OfEachRule};
-ghost use Rattle.ts_core.specs.store.StoreStates.{column_of, facts_at, facts_of};
-ghost use Rattle.ts_store.specs.image.BuildingParts.{AreIdle, MakesCells, FillsCells, KeepFrozen, AreFilledBut};
-ghost use Rattle.ts_store.specs.store.ColumnStates.{with_points, point_maps};
-ghost use Rattle.ts_store.specs.store.RuleLists.{rules_with};
+ghost use Rattle.ts_core.specs.store.StoreStates.{column_of, facts_of};
+ghost use Rattle.ts_store.specs.image.BuildingParts.{AreIdle, FillsCells, KeepFrozen};
 ghost use Rattle.ts_store.specs.read.PointsRead.{number_of_points};
 ghost use Rattle.ts_store.specs.retain.RollupSteps.{with_all_grid_cells};
-ghost use Rattle.ts_store.specs.rollup.PointsFilled.{MakesPoints, AddsPoints};
+ghost use Rattle.ts_store.specs.rollup.PointsFilled.{MakesPoints, MakePoints, MakeAllPoints, AddsPoints, AddPoints, AddAllPoints};
 ghost use Rattle.ts_store.specs.rollup.Rollups.{AreRollups, cells_of, rollup_series_at, with_grid_cells};
 
 use crate::rollup::Rollup;
@@ -86,9 +80,8 @@ fn make_under_all<A: Allocator + Copy>(
     requires lows { length lows.now ≡ length rules.now }
     requires inside { AllByRecursion (λ s. number < length s.series_of_column) rollups.old }
     ensures kept { rollups.new ≡ with_all_grid_cells (cells_of rollups.new) rollups.old }
-    ensures cells { (cs : List Column) (c : Column) → IsAt cs number c → AreRollups rules.now cs rollups.old
-        → OnOk result (OfEachRule (MakesCells (facts_at c (finmap.entries column.now.points)))
-        (rules_with rules.now lows.now (cells_of rollups.old)) (rules_with rules.now lows.now (cells_of rollups.new))) }
+    ensures cells { OnOk result
+        (MakePoints rules.now lows.now number (finmap.entries column.now.points) rollups.old rollups.new) }
 {
     for (i, rollup) in rollups.iter_mut().enumerate() {
         make_cells(&rules[i], &lows[i], rollup, number, column.all())?;
@@ -108,9 +101,7 @@ pub(crate) fn make_all_cells<A: Allocator + Copy>(
     requires lows { length lows.now ≡ length rules.now }
     requires each { AllByRecursion (λ s. length s.series_of_column ≡ length columns.now) rollups.old }
     ensures kept { rollups.new ≡ with_all_grid_cells (cells_of rollups.new) rollups.old }
-    ensures cells { (cs : List Column) → length columns.now ≡ length cs → AreRollups rules.now cs rollups.old
-        → OnOk result (OfEachRule (MakesCells (facts_of (with_points cs (point_maps columns.now))))
-        (rules_with rules.now lows.now (cells_of rollups.old)) (rules_with rules.now lows.now (cells_of rollups.new))) }
+    ensures cells { OnOk result (MakeAllPoints rules.now lows.now columns.now rollups.old rollups.new) }
 {
     for number in 0..columns.len() {
         make_under_all(rules, lows, rollups, number, &columns[number])?;
@@ -176,10 +167,7 @@ fn add_under_all<A: Allocator + Copy>(
     requires few { finmap.len column.now.points ≤ 2 ^ 62 }
     ensures kept { rollups.new ≡ with_all_grid_cells (cells_of rollups.new) rollups.old }
     ensures frozen { KeepFrozen (cells_of rollups.old) (cells_of rollups.new) }
-    ensures live { (cs : List Column) (c : Column) (left all : List Fact)
-        → IsAt cs number c → AreRollups rules.now cs rollups.old → length all ≤ 2 ^ 62
-        → AreFilledBut (facts_at c (finmap.entries column.now.points) ++ left) all rules.now (cells_of rollups.old)
-        → AreFilledBut left all rules.now (cells_of rollups.new) }
+    ensures live { AddPoints rules.now number (finmap.entries column.now.points) rollups.old rollups.new }
 {
     for (i, rollup) in rollups.iter_mut().enumerate() {
         add_points(&rules[i], rollup, number, column.all());
@@ -198,9 +186,7 @@ pub(crate) fn add_all_points<A: Allocator + Copy>(
     requires few { number_of_points columns.now ≤ 2 ^ 62 }
     ensures kept { rollups.new ≡ with_all_grid_cells (cells_of rollups.new) rollups.old }
     ensures frozen { KeepFrozen (cells_of rollups.old) (cells_of rollups.new) }
-    ensures live { (cs : List Column)
-        → length columns.now ≡ length cs → AreRollups rules.now cs rollups.old → AreIdle (cells_of rollups.old)
-        → OfEach (IsLive (with_points cs (point_maps columns.now))) rules.now (cells_of rollups.new) }
+    ensures live { AddAllPoints rules.now columns.now rollups.old rollups.new }
 {
     for number in 0..columns.len() {
         add_under_all(rules, rollups, number, &columns[number]);

@@ -1,4 +1,5 @@
 use Rattle.std.proofs.Common.{rules, ◌≡◌, ◌+◌, ◌≤◌, ◌∙◌, ℤ, [], ◌∷◌, length, refl, sym, ap, arith, to_z, of_z, SFits, to_z-of_z}
+use Rattle.std.proofs.lemmas.Int.{ints}
 use Rattle.std.proofs.Math.Facts.{of_z-to_z}
 use Rattle.std.specs.Int.{w128}
 use Rattle.std.specs.FinMap as finmap
@@ -30,6 +31,12 @@ returns-in_default g c =
     let col = c.index-columns-column.is ∙ get_or_default c.args.columns.now c.args.column c.index-columns-column.result no_column c.requires.column in
     none_moving c.args.rule.now c.args.mark c.args.column c.args.columns.now c.args.rollup.now (sym c.rolls.ensures ∙ c.if-not-rolls.false)
     (ap (λ (x : ColumnState). points_below c.args.mark (finmap.entries x.points)) (sym col) ∙ sym c.new-points.ensures ∙ c.in_default.ensures.steps.0)
+
+pub index_of-bucket-requires-clause-bound : goal.index_of-bucket-requires-clause-bound
+index_of-bucket-requires-clause-bound g c =
+    let valid = c.nanos.ensures.valid in
+    let is : to_z w128 (of_z w128 c.from.result) ≡ c.nanos.result = search rules in
+    omega (arith, ints, valid, is)
 
 pub loop-time-init : goal.loop-time-init
 loop-time-init g c =

@@ -14,7 +14,8 @@ use Rattle.ts_store.specs.retain.RollupSteps.{with_all_grid_cells}
 use Rattle.ts_store.proofs.store.ColumnsLemmas.{names_held, its_points, written_back}
 use Rattle.ts_store.proofs.write.PointsPut.{wide_of, wide_still}
 use Rattle.ts_store.proofs.rollup.RollupsGrow.{rollups-length}
-use Rattle.ts_store.proofs.rollup.RulesFilled.{Makes, Adds, all_fill}
+use Rattle.ts_store.specs.rollup.PointsFilled.{MakeAllPoints, AddAllPoints}
+use Rattle.ts_store.proofs.rollup.RulesFilled.{all_fill}
 use Rattle.ts_store.proofs.store.column_facts.ColumnFacts.fill_cells.Goals as goal
 
 -- each rollup has as many columns as there are
@@ -63,8 +64,10 @@ returns g c =
     let ws : List RollupState = c.add_all_points.new.rollups in
     let lent : c.as_slice-columns.result.now ≡ ss = c.as_slice-columns.ensures.value in
     let one : vs ≡ with_all_grid_cells (cells_of vs) us = subst (λ (xs : List RollupState). vs ≡ with_all_grid_cells (cells_of vs) xs) c.as_mut_slice-rollups.ensures.value c.make_all_cells.ensures.kept in
-    let make : Makes rs lows vs ss us = subst (λ (xs : List ColumnState). Makes rs lows vs xs us) lent (subst (Makes rs lows vs c.as_slice-columns.result.now) c.as_mut_slice-rollups.ensures.value c.in_ok-make_all_cells.ensures.cells) in
-    let add : Adds rs ws ss vs = subst (λ (xs : List ColumnState). Adds rs ws xs vs) lent c.add_all_points.ensures.live in
+    let make : MakeAllPoints rs lows ss us vs =
+    subst (λ (xs : List ColumnState). MakeAllPoints rs lows xs us vs) lent
+    (subst (λ (xs : List RollupState). MakeAllPoints rs lows c.as_slice-columns.result.now xs vs) c.as_mut_slice-rollups.ensures.value c.in_ok-make_all_cells.ensures.cells) in
+    let add : AddAllPoints rs ss vs ws = subst (λ (xs : List ColumnState). AddAllPoints rs xs vs ws) lent c.add_all_points.ensures.live in
     let rollups : AreRollups rs (map column_of (columns_in index ss)) us = subst (λ (h : StoreContent). AreRollups rs (map column_of h.columns) h.rollups) (sym c.self.view_is) c.requires.rollups in
     let idle : AreIdle (cells_of us) = subst (λ (h : StoreContent). AreIdle (cells_of h.rollups)) (sym c.self.view_is) c.requires.idle in
     let filled : FillsCells rs lows (content_of index ss us) (content_of index ss ws) =

@@ -11,7 +11,7 @@ use Rattle.ts_store.specs.retain.RollupSteps.{with_all_grid_cells}
 use Rattle.ts_store.proofs.store.ColumnsLemmas.{its_points, written_back}
 use Rattle.ts_store.proofs.write.PointsPut.{wide_still}
 use Rattle.ts_store.proofs.rules.RuleRollupLemmas.{alone, alone_wide, alone_made}
-use Rattle.ts_store.proofs.rollup.RulesFilled.{Makes, Adds}
+use Rattle.ts_store.specs.rollup.PointsFilled.{MakeAllPoints, AddAllPoints}
 use Rattle.ts_store.proofs.store.column_facts.ColumnFacts.rollup_of.Goals as goal
 
 wide_rule : (r : Rule) (rs : List Rule) → rs ≡ r ∷ [] → pos 1 ≤ℤ r.interval → AllByRecursion (λ (q : Rule). pos 1 ≤ℤ q.interval) rs
@@ -69,12 +69,12 @@ returns g c =
     let begins : c.as_mut_slice-one_rollup.result.now ≡ s ∷ [] = c.as_mut_slice-one_rollup.ensures.value ∙ c.in_ok-rollups.ensures in
     let lent : c.as_slice-columns.result.now ≡ ss = c.as_slice-columns.ensures.value in
     let one : vs ≡ with_all_grid_cells (cells_of vs) (s ∷ []) = subst (λ (xs : List RollupState). vs ≡ with_all_grid_cells (cells_of vs) xs) begins c.make_all_cells.ensures.kept in
-    let make : Makes (r ∷ []) (low ∷ []) vs ss (s ∷ []) =
-    subst (λ (qs : List Rule). Makes qs (low ∷ []) vs ss (s ∷ [])) one_rule
-    (subst (λ (ls : List ℤ). Makes c.as_slice-one_rule.result.now ls vs ss (s ∷ [])) one_low
-    (subst (λ (xs : List ColumnState). Makes c.as_slice-one_rule.result.now c.from_ref.result.now vs xs (s ∷ [])) lent
-    (subst (Makes c.as_slice-one_rule.result.now c.from_ref.result.now vs c.as_slice-columns.result.now) begins c.in_ok-make_all_cells.ensures.cells))) in
-    let add : Adds (r ∷ []) ws ss vs = subst (λ (qs : List Rule). Adds qs ws ss vs) one_rule (subst (λ (xs : List ColumnState). Adds c.as_slice-one_rule.result.now ws xs vs) lent c.add_all_points.ensures.live) in
+    let make : MakeAllPoints (r ∷ []) (low ∷ []) ss (s ∷ []) vs =
+    subst (λ (qs : List Rule). MakeAllPoints qs (low ∷ []) ss (s ∷ []) vs) one_rule
+    (subst (λ (ls : List ℤ). MakeAllPoints c.as_slice-one_rule.result.now ls ss (s ∷ []) vs) one_low
+    (subst (λ (xs : List ColumnState). MakeAllPoints c.as_slice-one_rule.result.now c.from_ref.result.now xs (s ∷ []) vs) lent
+    (subst (λ (xs : List RollupState). MakeAllPoints c.as_slice-one_rule.result.now c.from_ref.result.now c.as_slice-columns.result.now xs vs) begins c.in_ok-make_all_cells.ensures.cells))) in
+    let add : AddAllPoints (r ∷ []) ss vs ws = subst (λ (qs : List Rule). AddAllPoints qs ss vs ws) one_rule (subst (λ (xs : List ColumnState). AddAllPoints c.as_slice-one_rule.result.now xs vs ws) lent c.add_all_points.ensures.live) in
     let same : length ws ≡ length c.as_mut_slice-one_rollup.result.now = c.add_all_points.auto.rollups ∙ c.make_all_cells.auto.rollups in
     let many : length ws ≡ 1 = same ∙ ap length begins in
     let last : ws ≡ c.pop.new.self.items ++ t ∷ [] =
