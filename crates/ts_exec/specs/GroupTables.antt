@@ -62,8 +62,8 @@ pub record IsScanOf (q : Query) (n : ℕ) (g : BucketGrid) (t : Option SeriesTes
 abbrev pub with_column_ref : AggregateParts → Query → List ColumnPoints → ℤ → ℤ → ColumnRef → Table → Table
 with_column_ref parts q cs a b s t =
     if list_all (meets s.series) q.conditions
-    then with_column_parts parts
-    (bucket_grid q) (width q) (tag_values q.group_tags s.series) (points_at cs s.number a b) t
+    then with_column_parts parts (bucket_grid q) (width q)
+    (tag_values q.group_tags s.series) (points_at cs s.number a b) t
     else t
 
 abbrev pub with_column_refs : AggregateParts → Query → List ColumnPoints → ℤ → ℤ → List ColumnRef → Table → Table
@@ -91,8 +91,8 @@ is_cell_taken q r a b c = (matches q (representative r c.cell) && is_within a b 
 abbrev pub with_rule_cell : Query → Rule → ℤ → ℤ → SeenCell → Table → Table
 with_rule_cell q r a b c t =
     if is_cell_taken q r a b c
-    then with_cell_part (width q)
-    (group_of q (representative r c.cell)) (row_index_at (bucket_grid q) (start_of r c.cell.index)) (total_in c.parts) t
+    then with_cell_part (width q) (group_of q (representative r c.cell))
+    (row_index_at (bucket_grid q) (start_of r c.cell.index)) (total_in c.parts) t
     else t
 
 abbrev pub with_cell_parts : Query → Rule → ℤ → ℤ → List SeenCell → Table → Table

@@ -105,8 +105,9 @@ module _ (now : ℤ) (old : WholeState) (query body : Text) where
     bad_epoch : IsUtf8 body → epoch_parameter (value_in (codes "epoch") query body) ≡ None → Queries (refusing BadEpoch)
     bad_explain : (epoch : Epoch) → IsUtf8 body → epoch_parameter (value_in (codes "epoch") query body) ≡ Some epoch
         → explain_parameter (value_in (codes "explain") query body) ≡ None → Queries (refusing BadExplain)
-    missing : (epoch : Epoch) (explain : Bool) → IsUtf8 body → epoch_parameter (value_in (codes "epoch") query body)
-        ≡ Some epoch → explain_parameter (value_in (codes "explain") query body) ≡ Some explain
+    missing : (epoch : Epoch) (explain : Bool) → IsUtf8 body
+        → epoch_parameter (value_in (codes "epoch") query body) ≡ Some epoch
+        → explain_parameter (value_in (codes "explain") query body) ≡ Some explain
         → value_in (codes "q") query body ≡ None → Queries (refusing MissingQuery)
     wants_memory : IsUtf8 body → Queries (refusing OutOfMemory)
     answers : (epoch : Epoch) (text : Text) (good : Bool) (answer : Text)

@@ -42,8 +42,8 @@ length_text (Some n) =
     codes "Content-Type: application/json" ++ (line_end ++ (codes "Content-Length: " ++ (decimal n ++ line_end)))
 
 abbrev pub reply_head : Status → Text → Option ℕ → Text
-reply_head s allow n = codes "HTTP/1.1 " ++ (status_text s
-    ++ (line_end ++ (allow_text allow ++ (length_text n ++ (codes "Connection: close" ++ (line_end ++ line_end))))))
+reply_head s allow n = codes "HTTP/1.1 " ++ (status_text s ++ (line_end
+    ++ (allow_text allow ++ (length_text n ++ (codes "Connection: close" ++ (line_end ++ line_end))))))
 
 abbrev pub reply_text : Status → Text → Option Text → Text
 reply_text s allow body = reply_head s allow (option_map length body) ++ unwrap_or body []

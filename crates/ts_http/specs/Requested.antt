@@ -43,8 +43,9 @@ pub data Asks (bytes : Text) : Request → Type 0 where
   no_head : (fault : HeadFault) → ReadsHead bytes (Fault fault) → Asks bytes (Refuses (Head fault) to.Other false)
   refuses : (head : RequestHead) (rest : Text) (r : Refusal) → IsWholeHead bytes head rest
       → refused_in head r → Asks bytes (Refuses r (route_in head) (is_head (method_in head)))
-  cut : (head : RequestHead) (rest : Text) → IsWholeHead bytes head rest → is_taken head → length rest
-      < body_length (method_in head) (fields_of head) → Asks bytes (Refuses BodyEndsEarly (route_in head) false)
+  cut : (head : RequestHead) (rest : Text) → IsWholeHead bytes head rest → is_taken head
+      → length rest < body_length (method_in head) (fields_of head)
+      → Asks bytes (Refuses BodyEndsEarly (route_in head) false)
   -- out of memory for a body that isn't empty
   wants_memory : (head : RequestHead) (rest : Text) → IsWholeHead bytes head rest → is_taken head
       → 0 < body_length (method_in head) (fields_of head) → Asks bytes (Refuses OutOfMemory (route_in head) false)

@@ -26,8 +26,8 @@ IsLengthAnswer route method fields (Err r) = refused route method fields ≡ Som
 -- a request whose bytes after the head begin with a body of that length; `Quiet` holds where the body came whole
 abbrev pub ActedOn : ℤ → Route → Method → Text → Text → ℕ → Type 0 → StoreData → RequestOutcome → StoreData → Type 0
 ActedOn now route method query rest len Quiet old outcome new =
-    ((body : Text) × (others : Text)
-    × (rest ≡ body ++ others) × (length body ≡ len) × Quiet × ActsAs now route method query body old outcome new)
+    ((body : Text) × (others : Text) × (rest ≡ body ++ others) × (length body ≡ len) × Quiet
+    × ActsAs now route method query body old outcome new)
     ⊎ (((length rest < len) × (outcome ≡ Refused BodyEndsEarly) × (new ≡ old))
     ⊎ ((0 < len) × (outcome ≡ Refused OutOfMemory) × (new ≡ old)))
 
@@ -35,8 +35,8 @@ pub record IsActedOn {E : Type 0}
     (now : ℤ) (route : Route) (method : Method) (query after : Text) (len : ℕ) (old : StoreData)
     (source : Input) (result : Result RequestOutcome E) (new : StoreData) (source' : Input) : Type 0 where
   pub acted : IfOk result (λ outcome. (got : Text) × Consumes source.remaining source'.remaining got
-      × ActedOn now route method query
-      (after ++ (got ++ unwrap_or source'.remaining [])) len (source'.ends ≡ source.ends) old outcome new)
+      × ActedOn now route method query (after ++ (got ++ unwrap_or source'.remaining [])) len
+      (source'.ends ≡ source.ends) old outcome new)
   pub unread : OnErr result (new ≡ old)
   pub failures : source'.failures ≡ source.failures + one_if_err result
   pub reads : source'.reads ≤ source.reads + len

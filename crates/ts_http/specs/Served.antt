@@ -79,14 +79,13 @@ one_if_reply_writer (Err Writer) = 1
 pub record IsServed (now : ℤ) (old : StoreData) (source : Input)
     (sink : Output) (result : Result Served IoFault) (new : StoreData) (source' : Input) (sink' : Output) : Type 0 where
   pub answered : IfOk result (λ served. (came : Text) × Consumes source.remaining source'.remaining came
-      × ServedAs now
-      (request_of came source') (source'.ends ≡ source.ends) old served new (Appends sink.contents sink'.contents))
+      × ServedAs now (request_of came source') (source'.ends ≡ source.ends) old served new
+      (Appends sink.contents sink'.contents))
   -- the request was executed, and a prefix of the reply was sent
   pub begun : result ≡ Err Writer
       → (came : Text) × Consumes source.remaining source'.remaining came
-      × ((served : Served)
-      × ServedAs now
-      (request_of came source') (source'.ends ≡ source.ends) old served new (AppendsFront sink.contents sink'.contents))
+      × ((served : Served) × ServedAs now (request_of came source') (source'.ends ≡ source.ends) old served new
+      (AppendsFront sink.contents sink'.contents))
   -- nothing was executed, and nothing was written
   pub unread : result ≡ Err Reader → (new ≡ old) × (sink' ≡ sink)
   pub reader : source'.failures ≡ source.failures + one_if_request_reader result

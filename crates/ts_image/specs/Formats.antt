@@ -45,8 +45,7 @@ number w = record { fits = λ n. n < 2 ^ bits w; fields = λ n. to_be_bytes w n 
 abbrev pub signed_number : Width → Format ℤ
 signed_number w = record {
   fits = FitsSigned w;
-  fields = λ z. to_be_bytes w (cast_unsigned w z)
-      ∷ [];
+  fields = λ z. to_be_bytes w (cast_unsigned w z) ∷ [];
   read = λ p. read_number w p >>= λ n. Ok (cast_signed w n.0, n.1);
 }
 
@@ -61,8 +60,7 @@ read_text p n = if is_text n.0 n.1.rest then Ok (take n.0 n.1.rest, advanced n.0
 abbrev pub text : Format Text
 text = record {
   fits = λ t. IsUtf8 t × (length t < 2 ^ 64);
-  fields = λ t. (to_be_bytes w64 (length t) ++ t)
-      ∷ [];
+  fields = λ t. (to_be_bytes w64 (length t) ++ t) ∷ [];
   read = λ p. read_number w64 p >>= read_text p;
 }
 

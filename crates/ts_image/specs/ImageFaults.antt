@@ -20,8 +20,8 @@ IsFaultOf bytes NotAnImage = take 4 bytes ≢ image_mark
 IsFaultOf bytes OtherVersion = (b : ℕ) × (rest : List ℕ) × (bytes ≡ image_mark ++ (b ∷ rest)) × (b ≢ 1) × (b ≢ 2)
 -- they aren't of the form; the version's byte may be missing
 IsFaultOf bytes (Misshapen n) = ((bytes ≡ image_mark) × (n ≡ 4))
-    ⊎ ((v : Version)
-    × (rest : List ℕ) × (bytes ≡ image_mark ++ (version_byte v ∷ rest)) × IsMisshapen (image v) (body rest) n)
+    ⊎ ((v : Version) × (rest : List ℕ) × (bytes ≡ image_mark ++ (version_byte v ∷ rest))
+    × IsMisshapen (image v) (body rest) n)
 -- they are of the form and contradictory
 IsFaultOf bytes Contradiction = (v : Version) × (d : ImageData) × IsImageOf v d bytes × (IsPossible v d → ⊥)
 -- errors of devices, of limits and of memory don't depend on the bytes

@@ -39,5 +39,5 @@ LoadsStore source reads result source' = Loads (IsLoadedStore source) source rea
 -- if the source had the image of a store, the loaded store represents each history that this one represented
 abbrev pub StandsAsSaved : Input → StoreData → Type 0
 StandsAsSaved source k =
-    IfSome source.remaining (λ bytes. AreBytes bytes
-    → (v : Version) (d : ImageData) (saved : StoreData) → IsImageOf v d bytes → IsPictureOf saved d → StaysFor saved k)
+    IfSome source.remaining (λ bytes. AreBytes bytes → (v : Version) (d : ImageData) (saved : StoreData)
+    → IsImageOf v d bytes → IsPictureOf saved d → StaysFor saved k)

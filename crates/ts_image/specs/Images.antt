@@ -58,9 +58,8 @@ flag V2 = number w8
 
 abbrev pub image_rule : Format ImageRule
 image_rule =
-    iso
-    (also text
-    (also text (also (signed_number w64) (also (signed_number w64) (also (signed_number w64) (list_of w8 text))))))
+    iso (also text (also text (also (signed_number w64) (also (signed_number w64)
+    (also (signed_number w64) (list_of w8 text))))))
     (λ a. record {
       name = a.0;
       measurement = a.1.0;

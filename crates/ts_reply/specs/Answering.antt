@@ -39,8 +39,9 @@ pub data IsPlannedOutcome (opening : Settings) (h : History) (s : Select) : Outc
 -- Outcome of a query by the pieces of a certificate: their first error, or else the query's rows over all facts ever
 -- accepted.
 pub data IsChecked (opening : Settings) (h : History) (pieces : List Piece) (s : Select) : Outcome → Type 0 where
-  invalid : (fault : CheckFault) → first_fault (settings_of opening h) (marks_of opening h) s.query pieces
-      ≡ Some (fault.kind, fault.piece) → IsChecked opening h pieces s (Fault (check_fault_text fault))
+  invalid : (fault : CheckFault)
+      → first_fault (settings_of opening h) (marks_of opening h) s.query pieces ≡ Some (fault.kind, fault.piece)
+      → IsChecked opening h pieces s (Fault (check_fault_text fault))
   valid : IsValid (settings_of opening h) (marks_of opening h) s.query pieces
       → IsChecked opening h pieces s (rows_over (latest_of h) s)
 

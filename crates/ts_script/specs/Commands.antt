@@ -97,8 +97,8 @@ after_word = after_first is_space
 
 unfoldable pub count_from : Text → Command
 count_from text =
-    count_from_parts (word text)
-    (word (after_word text)) (word (after_word (after_word text))) (after_word (after_word (after_word text)))
+    count_from_parts (word text) (word (after_word text))
+    (word (after_word (after_word text))) (after_word (after_word (after_word text)))
 
 -- a name and its argument
 unfoldable pub command_with : Text → Text → Command

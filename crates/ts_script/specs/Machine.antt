@@ -202,8 +202,9 @@ pub data Step (old : State) : Text → Text → State → Type 0 where
   -- a blank line or a comment
   skips : (bytes : Text)
       → length bytes ≤ script_line_limit → IsUtf8 bytes → is_skipped bytes ≡ true → Step old bytes [] old
-  does : (bytes answer : Text) (new : State) → length bytes ≤ script_line_limit → IsUtf8 bytes → is_skipped bytes
-      ≡ false → Transition old (command_of bytes) answer new → Step old bytes answer (no_longer_fresh new)
+  does : (bytes answer : Text) (new : State) → length bytes ≤ script_line_limit → IsUtf8 bytes
+      → is_skipped bytes ≡ false → Transition old (command_of bytes) answer new
+      → Step old bytes answer (no_longer_fresh new)
 
 -- Lines may print these answers, one after another.
 abbrev pub Prints : State → List Text → List Text → State → Type 0

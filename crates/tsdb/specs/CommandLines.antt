@@ -63,8 +63,11 @@ serve_app =
 -- `tsdb`, which requires a subcommand and knows its version
 abbrev pub tsdb_app : App
 tsdb_app = record (new_app (codes "tsdb")) {
-  top = record
-      (new_app (codes "tsdb")).top { has_version = true; subcommand_required = true; arg_required_else_help = true };
+  top = record (new_app (codes "tsdb")).top {
+    has_version = true;
+    subcommand_required = true;
+    arg_required_else_help = true;
+  };
 }
 
 abbrev pub program_app : App

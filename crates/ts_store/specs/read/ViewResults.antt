@@ -18,8 +18,9 @@ pub record ColumnRef : Type 0 where
 -- the columns that pass, indexed from n on
 abbrev pub column_refs_from : (Column → Bool) → ℕ → List ColumnPoints → List ColumnRef
 column_refs_from p n [] = []
-column_refs_from p n (c ∷ cs) = if p c.column then record { number = n; series = c.column.series }
-    ∷ column_refs_from p (n + 1) cs else column_refs_from p (n + 1) cs
+column_refs_from p n (c ∷ cs) = if p c.column
+    then record { number = n; series = c.column.series } ∷ column_refs_from p (n + 1) cs
+    else column_refs_from p (n + 1) cs
 
 abbrev pub column_refs_where : (Column → Bool) → List ColumnPoints → List ColumnRef
 column_refs_where p cs = column_refs_from p 0 cs

@@ -24,7 +24,8 @@ pub record AddsPoints (r : Rule) (series : Option ℕ) (ps : List (ℤ × ℤ)) 
   pub kept : t ≡ with_grid_cells t.grid.cells s
   pub frozen : KeepsFrozen s.grid.cells t.grid.cells
   pub live : (c : Column) (left all : List Fact) → IsRollupSeriesOf r c s.grid.rollup_series series
-      → length all ≤ 2 ^ 62 → IsFilledBut (facts_at c ps ++ left) all r s.grid.cells → IsFilledBut left all r t.grid.cells
+      → length all ≤ 2 ^ 62 → IsFilledBut (facts_at c ps ++ left) all r s.grid.cells
+      → IsFilledBut left all r t.grid.cells
 
 -- under each rule, the missing cells of points of the column with this index are created
 abbrev pub MakePoints : List Rule → List ℤ → ℕ → List (ℤ × ℤ) → List RollupState → List RollupState → Type 0

@@ -89,8 +89,8 @@ GrowsBy rules lows facts NoLine old new = new ≡ old
 GrowsBy rules lows facts (Refused refusal) old new = new ≡ old
 
 -- the same of a call that may run out of memory
-abbrev pub GrowsAfter : List Rule
-    → List ℤ → List Fact → {E : Type 0} → Result LineOutcome E → Inventory → Inventory → Type 0
+abbrev pub GrowsAfter : List Rule → List ℤ → List Fact
+    → {E : Type 0} → Result LineOutcome E → Inventory → Inventory → Type 0
 GrowsAfter rules lows facts (Ok outcome) old new = GrowsBy rules lows facts outcome old new
 GrowsAfter rules lows facts (Err e) old new = GrowsInPart rules lows facts old new
 

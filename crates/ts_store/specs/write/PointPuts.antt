@@ -34,8 +34,8 @@ abbrev pub cells_put : List Rule → Fact → List Fact → List CellMap → Lis
 cells_put rules f facts = changed_beside (λ (r : Rule). put_cell r f facts) rules
 
 -- after that, the fact is put into its cells
-abbrev pub PutsPoint : List Rule
-    → List ColumnState → ℕ → ℤ → ℤ → Option ℤ → List RollupState → List RollupState → Type 0
+abbrev pub PutsPoint : List Rule → List ColumnState → ℕ → ℤ → ℤ → Option ℤ
+    → List RollupState → List RollupState → Type 0
 PutsPoint rules states column time value old us us' =
     (cs : List Column) (before : List ColumnPoints) (f : Fact)
     → AreLiveOver rules cs states before us → IsPointPut cs states before column time value old f
@@ -48,8 +48,8 @@ pub record ArePointsStaged (cs : List Column) (states : List ColumnState)
   pub staged : AreStaged cs states columns fs
 
 -- the facts that are staged are put into their columns and cells, one after another, whatever the low indices are
-abbrev pub CommitsPoints : List Rule → List ℕ
-    → ℤ → List (LinePart × ℤ) → List ColumnState → List RollupState → List ColumnState → List RollupState → Type 0
+abbrev pub CommitsPoints : List Rule → List ℕ → ℤ → List (LinePart × ℤ)
+    → List ColumnState → List RollupState → List ColumnState → List RollupState → Type 0
 CommitsPoints rules columns time fields states us states' us' =
     (cs : List Column) (lows : List ℤ) (fs : List Fact)
     → AreLiveOver rules cs states (with_points cs (point_maps states)) us
